@@ -1,0 +1,17 @@
+-- The numbers that come back, as document 01's table has them.
+use Prim.Native.Nat.{ℕ}
+use Rattle.refusals.specs.declared.Refusal.{Refusal}
+use Rattle.refusals.specs.declared.Refusal.the-variants.{Length, Late, Parity, Format, TypeCode, Full, Places, Field, Latitude, Zones, Block}
+
+abbrev pub numberOf : Refusal → ℕ
+numberOf Length = 1
+numberOf Late = 2
+numberOf Parity = 3
+numberOf Format = 4
+numberOf TypeCode = 5
+numberOf Full = 6
+numberOf Places = 7
+numberOf Field = 8
+numberOf Latitude = 9
+numberOf Zones = 10
+numberOf Block = 11
