@@ -1,0 +1,99 @@
+"""The paper, "What the decoder covers" and "ME fields, by bit numbers of ME".
+
+A message is its fields by name, in the order of their bits; those the paper leaves without a
+name are called by their bit numbers. All bits, reserved ones included, are kept.
+"""
+
+from parity import remainder, sealed
+from refusals import Refused, fits
+
+# name, first bit, last bit: of the message
+HEAD = [("DF", 1, 5), ("CA or CF", 6, 8), ("AA", 9, 32), ("TYPE", 33, 37)]
+
+# and of ME, after TYPE
+IDENTIFICATION = [("category", 6, 8), ("characters", 9, 56)]
+PLACE = [("T", 21, 21), ("F", 22, 22), ("latitude", 23, 39), ("longitude", 40, 56)]
+SURFACE = [("movement", 6, 12), ("status", 13, 13), ("heading", 14, 20), *PLACE]
+AIRBORNE = [("surveillance status", 6, 7), ("bit 8", 8, 8), ("altitude", 9, 20), *PLACE]
+VELOCITY_HEAD = [("subtype", 6, 8), ("bit 9", 9, 9), ("bit 10", 10, 10), ("NACv", 11, 13)]
+VELOCITY_TAIL = [
+    ("rate source", 36, 36),
+    ("rate sign", 37, 37),
+    ("rate", 38, 46),
+    ("bits 47-48", 47, 48),
+    ("difference sign", 49, 49),
+    ("difference", 50, 56),
+]
+OVER_GROUND = [
+    *VELOCITY_HEAD,
+    ("east-west direction", 14, 14),
+    ("east-west speed", 15, 24),
+    ("north-south direction", 25, 25),
+    ("north-south speed", 26, 35),
+    *VELOCITY_TAIL,
+]
+THROUGH_AIR = [
+    *VELOCITY_HEAD,
+    ("status", 14, 14),
+    ("heading", 15, 24),
+    ("airspeed kind", 25, 25),
+    ("airspeed", 26, 35),
+    *VELOCITY_TAIL,
+]
+
+
+def field(string, first, last):
+    """Bits first to last of a byte string, bit 1 the top bit of byte 0."""
+    whole = int.from_bytes(string, "big")
+    return whole >> 8 * len(string) - last & (1 << last - first + 1) - 1
+
+
+def df_taken(df, ca_or_cf):
+    """Taken: DF 17 with any CA, and DF 18 with CF 0 or 1."""
+    return df == 17 or df == 18 and ca_or_cf in (0, 1)
+
+
+def layout(type_code, subtype):
+    """The fields of ME after TYPE, or none: TYPE 0, 23-31 and TYPE 19 but for subtypes 1-4."""
+    if 1 <= type_code <= 4:
+        return IDENTIFICATION
+    if 5 <= type_code <= 8:
+        return SURFACE
+    if 9 <= type_code <= 18 or 20 <= type_code <= 22:
+        return AIRBORNE
+    if type_code == 19 and subtype in (1, 2):
+        return OVER_GROUND
+    if type_code == 19 and subtype in (3, 4):
+        return THROUGH_AIR
+    return None
+
+
+def decode(string):
+    """The decoded message, or 1, 3, 4, 5 in that order."""
+    if len(string) != 14:
+        raise Refused(1)
+    if remainder(string) != 0:
+        raise Refused(3)
+    message = {name: field(string, first, last) for name, first, last in HEAD}
+    if not df_taken(message["DF"], message["CA or CF"]):
+        raise Refused(4)
+    me = string[4:11]  # ME is bits 33-88
+    fields = layout(message["TYPE"], field(me, 6, 8))
+    if fields is None:
+        raise Refused(5)
+    return message | {name: field(me, first, last) for name, first, last in fields}
+
+
+def encode(message):
+    """The same 14 bytes; 8 for a field wider than its bits or a message that would earn 4 or 5."""
+    if not df_taken(message["DF"], message["CA or CF"]):
+        raise Refused(8)
+    fields = layout(message["TYPE"], message.get("subtype"))
+    if fields is None or list(message) != [name for name, _, _ in HEAD + fields]:
+        raise Refused(8)
+    whole = 0
+    for name, first, last in HEAD + fields:
+        width = last - first + 1
+        fits(message[name], width)
+        whole = whole << width | message[name]
+    return sealed(whole.to_bytes(11, "big"))

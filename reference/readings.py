@@ -1,0 +1,150 @@
+"""What codes mean: the paper, "ME fields, by bit numbers of ME" and "Altitude".
+
+A reading is a number, or a word where the paper has one: unknown, over, stopped, reserved.
+A code wider than its bits is refused with 8, before everything else.
+"""
+
+from refusals import fits
+
+UNKNOWN = "unknown"
+OVER = "over"
+TURN = 2**32  # places and headings are handed out in 2^-32 of a turn
+
+
+def bits(code, width):
+    """The bits of a code, the highest first."""
+    return [code >> place & 1 for place in range(width - 1, -1, -1)]
+
+
+def number(bits_of_it):
+    """The number of these bits, the highest first."""
+    result = 0
+    for bit in bits_of_it:
+        result = result << 1 | bit
+    return result
+
+
+def gray(bits_of_it):
+    """Gray-decode: each bit of the number is the exclusive-or of the bits down to it."""
+    decoded, last = [], 0
+    for bit in bits_of_it:
+        last ^= bit
+        decoded.append(last)
+    return number(decoded)
+
+
+def altitude(code):
+    """ "Altitude", in feet. The bits are C1 A1 C2 A2 C4 A4 B1 Q B2 D2 B4 D4."""
+    fits(code, 12)
+    if code == 0:
+        return UNKNOWN
+    c1, a1, c2, a2, c4, a4, b1, q, b2, d2, b4, d4 = bits(code, 12)
+    if q == 1:
+        n = number([c1, a1, c2, a2, c4, a4, b1, b2, d2, b4, d4])
+        return 25 * n - 1000
+    f = gray([d2, d4, a1, a2, a4, b1, b2, b4])
+    h = gray([c1, c2, c4])
+    if h in (0, 5, 6):
+        return UNKNOWN
+    if h == 7:
+        h = 5
+    if f % 2 == 1:
+        h = 6 - h
+    return 500 * f + 100 * h - 1300
+
+
+def category_set(type_code):
+    """TYPE 4, 3, 2, 1 is category set A, B, C, D; any other TYPE has none."""
+    fits(type_code, 5)
+    return {4: "A", 3: "B", 2: "C", 1: "D"}.get(type_code, "none")
+
+
+def stepped(sign, code, step, last):
+    """Code 0 is unknown, n is step x (n-1), the last code is over; sign 1 is below zero."""
+    if code == 0:
+        return UNKNOWN
+    if code == last:
+        return OVER
+    size = step * (code - 1)
+    return -size if sign == 1 else size
+
+
+def speed(subtype, direction, code):
+    """Speed code 0 is unknown, n is n-1 knots, times 4 in subtypes 2 and 4; 1023 is over.
+
+    Direction 1 (west, south) is below zero; code 1 with either direction is zero.
+    """
+    fits(subtype, 3)
+    fits(direction, 1)
+    fits(code, 10)
+    return stepped(direction, code, 4 if subtype in (2, 4) else 1, 1023)
+
+
+def rate(sign, code):
+    """Rate 0 is unknown, n is 64(n-1) ft/min, 511 over; sign 1 is down."""
+    fits(sign, 1)
+    fits(code, 9)
+    return stepped(sign, code, 64, 511)
+
+
+def difference(sign, code):
+    """Difference 0 is unknown, n is 25(n-1) ft, 127 over; sign 1 is below."""
+    fits(sign, 1)
+    fits(code, 7)
+    return stepped(sign, code, 25, 127)
+
+
+def heading(code):
+    """Headings are n/1024 of a turn in TYPE 19."""
+    fits(code, 10)
+    return code * TURN // 1024
+
+
+def surface_heading(code):
+    """Headings are n/128 of a turn on the surface."""
+    fits(code, 7)
+    return code * TURN // 128
+
+
+def movement(code):
+    """Movement in 48ths of a knot, lower edge."""
+    fits(code, 7)
+    if code == 0:
+        return UNKNOWN
+    if code == 1:
+        return "stopped"
+    if code == 2:
+        return "from 0"
+    if code <= 8:
+        return f"from {6 + 7 * (code - 3)}"
+    if code <= 12:
+        return f"from {48 + 12 * (code - 9)}"
+    if code <= 38:
+        return f"from {96 + 24 * (code - 13)}"
+    if code <= 93:
+        return f"from {720 + 48 * (code - 39)}"
+    if code <= 108:
+        return f"from {3360 + 96 * (code - 94)}"
+    if code <= 123:
+        return f"from {4800 + 240 * (code - 109)}"
+    if code == 124:
+        return "8400 and up"
+    return "reserved"
+
+
+def character(code):
+    """Codes 1-26 are A-Z, 32 space, 48-57 digits; the rest show as "?". Its ASCII number."""
+    fits(code, 6)
+    if 1 <= code <= 26:
+        return ord("A") + code - 1
+    if code == 32:
+        return ord(" ")
+    if 48 <= code <= 57:
+        return ord("0") + code - 48
+    return ord("?")
+
+
+def text(characters):
+    """The eight characters of an identification, of 6 bits each, as they show."""
+    fits(characters, 48)
+    return "".join(chr(character(characters >> place & 63)) for place in range(42, -1, -6))

@@ -1,0 +1,130 @@
+"""Cases of message_vectors.
+
+A record: one byte n, then n bytes. A line: `refused N`; or the fields in the order of their bits,
+then the message encoded again, in hex.
+"""
+
+from random import Random
+
+import published
+from messages import decode, encode
+from parity import GENERATOR, sealed
+from refusals import answer
+
+TAKEN_TYPES = [*range(1, 23)]
+
+
+def sealed_message(df, ca_or_cf, aa, type_code, rest):
+    """14 bytes of remainder 0 with these fields; rest is the last 51 bits of ME."""
+    whole = ((df << 3 | ca_or_cf) << 24 | aa) << 56 | type_code << 51 | rest
+    return sealed(whole.to_bytes(11, "big"))
+
+
+def random_rest(chance, type_code):
+    """51 bits; for TYPE 19 with one of the subtypes 1-4."""
+    rest = chance.getrandbits(51)
+    if type_code == 19:
+        rest = rest % 2**48 | chance.randrange(1, 5) << 48
+    return rest
+
+
+def random_valid(chance):
+    """An acceptable message."""
+    df, ca_or_cf = chance.choice([(17, chance.randrange(8)), (18, 0), (18, 1)])
+    type_code = chance.choice([*TAKEN_TYPES, 19, 19, 19])
+    return sealed_message(df, ca_or_cf, chance.getrandbits(24), type_code, random_rest(chance, type_code))
+
+
+def flipped(string, *places):
+    """The string with these bits the other way; bit 1 is the top bit of byte 0."""
+    whole = int.from_bytes(string, "big")
+    for place in places:
+        whole ^= 1 << 8 * len(string) - place
+    return whole.to_bytes(len(string), "big")
+
+
+def every_number(chance):
+    """Every TYPE, DF, CF, CA and subtype, with parity right."""
+    for type_code in range(32):
+        for df, ca_or_cf in ((17, 5), (18, 0), (18, 1), (18, 2), (17, 0)):
+            rest = random_rest(chance, type_code)
+            yield sealed_message(df, ca_or_cf, chance.getrandbits(24), type_code, rest)
+        yield sealed_message(17, 5, 0xABCDEF, type_code, 0)
+        yield sealed_message(17, 5, 0xABCDEF, type_code, 2**51 - 1)
+    for df in range(32):
+        for ca_or_cf in range(8):
+            yield sealed_message(df, ca_or_cf, chance.getrandbits(24), 11, chance.getrandbits(51))
+            yield sealed_message(df, ca_or_cf, chance.getrandbits(24), 0, chance.getrandbits(51))
+    for subtype in range(8):
+        for df, ca_or_cf in ((17, 5), (17, 3), (18, 0), (18, 1), (18, 6)):
+            rest = subtype << 48 | chance.getrandbits(48)
+            yield sealed_message(df, ca_or_cf, chance.getrandbits(24), 19, rest)
+        yield sealed_message(17, 5, 0xABCDEF, 19, subtype << 48)
+        yield sealed_message(17, 5, 0xABCDEF, 19, subtype << 48 | 2**48 - 1)
+
+
+def every_bit():
+    """Each bit alone, in each layout and in the address, with parity right."""
+    for type_code, subtype in ((4, 0), (7, 0), (11, 0), (20, 0), (19, 1), (19, 2), (19, 3), (19, 4)):
+        for place in range(48 if type_code == 19 else 51):
+            yield sealed_message(17, 5, 0, type_code, subtype << 48 | 1 << place)
+    for place in range(24):
+        yield sealed_message(18, 1, 1 << place, 11, 0)
+    yield sealed_message(17, 7, 0, 1, 0)
+    yield sealed_message(17, 0, 2**24 - 1, 1, 0)
+
+
+def damaged(chance):
+    """One bit wrong at each place of two messages; then several bits wrong, some beyond parity's sight."""
+    airborne = bytes.fromhex("8D40621D58C382D690C8AC2863A7")
+    velocity = sealed_message(18, 1, 0x123456, 19, random_rest(chance, 19))
+    for message in (airborne, velocity):
+        yield message
+        yield from (flipped(message, place) for place in range(1, 113))
+    for _ in range(200):
+        places = [chance.randrange(1, 113) for _ in range(chance.randrange(2, 6))]
+        yield flipped(random_valid(chance), *places)
+    for _ in range(60):
+        unseen = GENERATOR << chance.randrange(88)
+        whole = int.from_bytes(random_valid(chance), "big") ^ unseen
+        yield whole.to_bytes(14, "big")
+    for _ in range(60):
+        yield chance.randbytes(14)
+
+
+def of_any_length(chance):
+    """Lengths 0..20 and 255: zeros, random, and the front of an acceptable message or more."""
+    for length in [*range(21), 255]:
+        yield bytes(length)
+        yield chance.randbytes(length)
+        yield sealed(chance.randbytes(length - 3)) if length >= 3 else bytes([255]) * length
+        yield (random_valid(chance) + bytes(241))[:length]
+        yield (bytes(241) + random_valid(chance))[-length:] if length else b""
+
+
+def strings():
+    """The byte strings decoded."""
+    chance = Random(3)
+    yield from published.messages()
+    yield bytes(14)  # the paper's examples
+    yield (1 << 112 - 88).to_bytes(14, "big")
+    yield from every_number(chance)
+    yield from every_bit()
+    yield from damaged(chance)
+    yield from of_any_length(chance)
+    for _ in range(800):
+        yield random_valid(chance)
+
+
+def answered(string):
+    """The fields and the message encoded again."""
+    message = decode(string)
+    again = encode(message)
+    assert again == string
+    return [*message.values(), again.hex().upper()]
+
+
+def cases():
+    """Records and their lines."""
+    for string in strings():
+        yield bytes([len(string)]) + string, answer(answered, string)

@@ -1,0 +1,348 @@
+"""Cases of position_vectors.
+
+A record of 18 bytes: question, F (for a pair that of the later message), four numbers of 4 bytes,
+high byte first. A line: two numbers, or `refused N`.
+"""
+
+import struct
+from fractions import Fraction
+from math import floor
+from random import Random
+
+import published
+from positions import (
+    AIRBORNE,
+    COUNTS,
+    EVEN,
+    FIGURES,
+    ODD,
+    SURFACE,
+    UNIT,
+    angle_of,
+    encode,
+    longitude_zones,
+    nearest,
+    pair,
+    rounded,
+    rounded_place,
+    single,
+    zone_count,
+    zones,
+)
+from refusals import answer
+
+PAIR = 2
+ENCODE = {AIRBORNE: 0, SURFACE: 1}
+SINGLE = {AIRBORNE: 3, SURFACE: 4}
+BOTH_TURNS = (AIRBORNE, SURFACE)
+BOTH = (EVEN, ODD)
+POLE = 2**30
+LAST = 2**32 - 1
+
+
+def asks_encode(turn, i, latitude, longitude):
+    return ENCODE[turn], i, latitude, longitude, 0, 0
+
+
+def asks_pair(later, counts):
+    return PAIR, later, *counts
+
+
+def asks_single(turn, i, counts, reference):
+    return SINGLE[turn], i, *counts, *reference
+
+
+def random_latitude(chance):
+    return chance.randrange(-POLE, POLE + 1)
+
+
+def random_longitude(chance):
+    return chance.getrandbits(32)
+
+
+def random_counts(chance, how_many):
+    return [chance.randrange(COUNTS) for _ in range(how_many)]
+
+
+def both_ways(latitude, longitude):
+    """The four counts of one place, even and odd."""
+    return [*encode(AIRBORNE, EVEN, latitude, longitude), *encode(AIRBORNE, ODD, latitude, longitude)]
+
+
+def band(nl):
+    """A latitude in degrees amid those of this NL."""
+    edges = [0, *FIGURES, 90 * 10**8]
+    return Fraction(edges[59 - nl] + edges[60 - nl], 2 * 10**8)
+
+
+def published_cases():
+    """The public rows of the paper's scope, the published positions and the paper's examples."""
+    for row in published.public_rows():
+        i = ODD if row["latest"] == "odd" else EVEN
+        if row["kind"] == "global_air":
+            yield asks_pair(i, [int(row[name]) for name in ("even_lat", "even_lon", "odd_lat", "odd_lon")])
+        else:
+            turn = AIRBORNE if row["kind"] == "rel_air" else SURFACE
+            counts = [int(row[f"{row['latest']}_{axis}"]) for axis in ("lat", "lon")]
+            yield asks_single(turn, i, counts, published.units(row["reflat"], row["reflon"]))
+    for counts, later, _, _ in published.PAIR_ROWS:
+        yield asks_pair(later, counts)
+    for turn, i, counts, reference, _ in published.SINGLE_DEGREES:
+        yield asks_single(turn, i, counts, published.units(*reference))
+    for later in BOTH:
+        yield asks_pair(later, (0, 0, 65536, 0))  # 9
+    for latitude in (2**29, -(2**29)):
+        for i in BOTH:
+            yield asks_encode(AIRBORNE, i, latitude, 2**30)
+
+
+def transitions(chance):
+    """All 58 transitions from both sides and both hemispheres."""
+    for figure in FIGURES:
+        entry = Fraction(figure, 10**8)
+        for sign in (1, -1):
+            last = {}
+            for turn in BOTH_TURNS:
+                for i in BOTH:
+                    below = floor(entry * zones(i) / turn * COUNTS)  # the last not above the entry
+                    last[turn, i] = below
+                    exactly = [sign * angle_of(whole, zones(i), turn) for whole in (below, below + 1)]
+                    halfway = sign * (exactly[0] * sign + exactly[1] * sign) / 2
+                    latitudes = [nearest(latitude / UNIT) for latitude in exactly]
+                    latitudes += [floor(latitude / UNIT) + more for latitude in (halfway, sign * entry) for more in (0, 1)]
+                    for latitude in latitudes:
+                        yield asks_encode(turn, i, latitude, random_longitude(chance))
+                    for whole, latitude in zip((below, below + 1), latitudes):
+                        aside = chance.randrange(-(2**22), 2**22)  # a third of a degree
+                        reference = max(-POLE, min(POLE, latitude + aside)), random_longitude(chance)
+                        yield asks_single(turn, i, (sign * whole % COUNTS, *random_counts(chance, 1)), reference)
+            for even in (0, 1):
+                for odd in (0, 1):
+                    for later in BOTH:
+                        counts = random_counts(chance, 4)
+                        counts[0] = sign * (last[AIRBORNE, EVEN] + even) % COUNTS
+                        counts[2] = sign * (last[AIRBORNE, ODD] + odd) % COUNTS
+                        yield asks_pair(later, counts)
+            latitude = nearest(sign * entry / UNIT)
+            for more in (-40, -10, 0, 10, 40):
+                counts = both_ways(latitude + more, random_longitude(chance))
+                yield from (asks_pair(later, counts) for later in BOTH)
+
+
+def zone_ends(chance):
+    """For each NL the least and greatest m: m = -NL needs 0 even and 131071 odd."""
+    for nl in range(1, 60):
+        for sign in (1, -1):
+            latitude = nearest(sign * band(nl) / UNIT)
+            even, _, odd, _ = both_ways(latitude, 0)
+            for longitudes in ((0, COUNTS - 1), (COUNTS - 1, 0), (0, 0), (COUNTS - 1, COUNTS - 1), (1, COUNTS - 1)):
+                for later in BOTH:
+                    yield asks_pair(later, (even, longitudes[0], odd, longitudes[1]))
+            for turn in BOTH_TURNS:
+                for i in BOTH:
+                    yield asks_encode(turn, i, latitude, LAST)
+                    counts = encode(turn, i, latitude, random_longitude(chance))
+                    for longitude in (0, LAST, 2**31 - 1, 2**31):
+                        yield asks_single(turn, i, counts, (latitude, longitude))
+
+
+def latitude_ends(chance):
+    """j of -60 and 59 and those beside them."""
+    for even in (0, 1, COUNTS - 2, COUNTS - 1, 65535, 65536):
+        for odd in (0, 1, COUNTS - 2, COUNTS - 1, 65535, 65536):
+            for later in BOTH:
+                yield asks_pair(later, (even, *random_counts(chance, 1), odd, *random_counts(chance, 1)))
+
+
+def half_counts(chance):
+    """Products that lie halfway between two whole numbers, and halfway j and m."""
+    for turn in BOTH_TURNS:
+        shift = 14 if turn == AIRBORNE else 12
+        for i in BOTH:
+            for z in [zones(i), *range(1, 60)]:
+                odd_part = 1 << shift >> (z & -z).bit_length() - 1  # angles of this x an odd number
+                for _ in range(12 if z == zones(i) else 2):
+                    if z == zones(i):
+                        latitude = odd_part * (2 * chance.randrange(-POLE // odd_part // 2, POLE // odd_part // 2) + 1)
+                        longitude = random_longitude(chance)
+                        halfway = latitude * UNIT * z / turn * COUNTS
+                    else:
+                        nl = min(z + i, 59)
+                        latitude = chance.choice((1, -1)) * nearest(band(nl) / UNIT)
+                        longitude = odd_part * (2 * chance.randrange(2**31 // odd_part) + 1)
+                        halfway = longitude * UNIT * z / turn * COUNTS
+                        assert i == ODD and z == 59 or longitude_zones(zone_count(latitude * UNIT), i) == z
+                    assert halfway.denominator == 2
+                    for aside in (-1, 0, 1):
+                        if z == zones(i):
+                            yield asks_encode(turn, i, latitude + aside, longitude)
+                        else:
+                            yield asks_encode(turn, i, latitude, longitude + aside)
+    for _ in range(40):
+        odd = chance.randrange(COUNTS)
+        even = pow(59, -1, COUNTS) * (60 * odd + COUNTS // 2) % COUNTS
+        assert (59 * even - 60 * odd) % COUNTS == COUNTS // 2
+        for aside in (-1, 0, 1):
+            for later in BOTH:
+                yield asks_pair(later, ((even + aside) % COUNTS, *random_counts(chance, 1), odd, *random_counts(chance, 1)))
+    for nl in range(1, 60):
+        even, _, odd, _ = both_ways(chance.choice((1, -1)) * nearest(band(nl) / UNIT), 0)
+        east = chance.randrange(COUNTS)
+        if nl % 2 == 1:
+            longitudes = east, pow(nl, -1, COUNTS) * (east * (nl - 1) + COUNTS // 2) % COUNTS
+        else:
+            longitudes = pow(nl - 1, -1, COUNTS) * (east * nl + COUNTS // 2) % COUNTS, east
+        assert (longitudes[0] * (nl - 1) - longitudes[1] * nl) % COUNTS == COUNTS // 2
+        for aside in (-1, 0, 1):
+            for later in BOTH:
+                yield asks_pair(later, (even, longitudes[0], odd, (longitudes[1] + aside) % COUNTS))
+
+
+def marked_places(chance):
+    """The equator, 87 and 90 degrees, longitudes 0 and 2^32-1; just over the poles."""
+    degrees_87 = nearest(87 / UNIT)
+    one_count = nearest(angle_of(1, 60, AIRBORNE) / UNIT)
+    latitudes = [0, 1, degrees_87, degrees_87 + one_count, degrees_87 - one_count, POLE, POLE - 1, POLE - one_count]
+    longitudes = [0, 1, LAST, LAST - 1, 2**31, 2**31 - 1, 2**31 + 1, 2**30, random_longitude(chance)]
+    for latitude in [*latitudes, *(-latitude for latitude in latitudes)]:
+        for longitude in longitudes:
+            counts = both_ways(latitude, longitude)
+            yield from (asks_pair(later, counts) for later in BOTH)
+            for turn in BOTH_TURNS:
+                for i in BOTH:
+                    yield asks_encode(turn, i, latitude, longitude)
+                    yield asks_single(turn, i, encode(turn, i, latitude, longitude), (latitude, longitude))
+    # 90 and -90 degrees exactly, and one count more or less of either message: 9 from 90 up, and below 270
+    for even, odd in ((0, 98304), (0, 32768)):
+        for more_even in (-2, -1, 0, 1, 2):
+            for more_odd in (-2, -1, 0, 1, 2):
+                for later in BOTH:
+                    counts = random_counts(chance, 4)
+                    counts[0], counts[2] = (even + more_even) % COUNTS, (odd + more_odd) % COUNTS
+                    yield asks_pair(later, counts)
+    # 9 from a single reading: a count that lies beyond the pole
+    for turn in BOTH_TURNS:
+        for i in BOTH:
+            for sign in (1, -1):
+                pole = rounded(Fraction(sign * 90), zones(i), turn)
+                for more in (-20000, -2, -1, 0, 1, 2, 20000):
+                    reference = sign * chance.randrange(POLE - 2**19, POLE), random_longitude(chance)
+                    yield asks_single(turn, i, ((pole + more) % COUNTS, *random_counts(chance, 1)), reference)
+                    yield asks_single(turn, i, ((pole + more) % COUNTS, 0), (sign * POLE, 0))
+
+
+def boundaries(chance):
+    """References on cell boundaries, half a zone from the place, in latitude and in longitude."""
+    for turn in BOTH_TURNS:
+        for i in BOTH:
+            for z in [zones(i)] * 15 + [*range(1, 60)]:
+                shift = (15 if turn == AIRBORNE else 13) - ((z & -z).bit_length() - 1)
+                odd_part = z // (z & -z)
+                is_latitude = z == zones(i) and chance.randrange(4) > 0
+                if is_latitude:
+                    t = chance.randrange(-POLE >> shift, (POLE >> shift) + 1)
+                else:
+                    t = chance.randrange(2**32 >> shift)
+                reference, count = t << shift, (t * odd_part + COUNTS // 2) % COUNTS
+                ahead = Fraction(1, 2) + reference * UNIT * z / turn - Fraction(count, COUNTS)
+                assert ahead.denominator == 1
+                for aside in (-1, 0, 1):
+                    if is_latitude:
+                        spot = max(-POLE, min(POLE, reference + aside)), random_longitude(chance)
+                        yield asks_single(turn, i, (count, *random_counts(chance, 1)), spot)
+                    else:
+                        latitude = chance.choice((1, -1)) * nearest(band(min(z + i, 59)) / UNIT)
+                        latitude_count, _ = encode(turn, i, latitude, 0)
+                        yield asks_single(turn, i, (latitude_count, count), (latitude, (reference + aside) % 2**32))
+
+
+def across(chance):
+    """References and places on either side of 180 degrees and of 0."""
+    for middle in (2**31, 0):
+        for turn in BOTH_TURNS:
+            for i in BOTH:
+                for _ in range(40):
+                    latitude = random_latitude(chance)
+                    place = (middle + chance.choice((-1, 1)) * chance.randrange(2**22)) % 2**32
+                    reference = (middle + chance.choice((-1, 1)) * chance.randrange(2**22)) % 2**32
+                    yield asks_single(turn, i, encode(turn, i, latitude, place), (latitude, reference))
+
+
+def refused(chance):
+    """8: latitudes outside the range, counts above 131,071; 8 before 9 and 10."""
+    outside = [POLE + 1, -POLE - 1, 2**31 - 1, -(2**31), POLE + 2**20, -POLE - 2**20]
+    above = [COUNTS, COUNTS + 1, 2**18, 2**24, 2**31, LAST]
+    for turn in BOTH_TURNS:
+        for i in BOTH:
+            for latitude in outside:
+                for longitude in (0, LAST, random_longitude(chance)):
+                    yield asks_encode(turn, i, latitude, longitude)
+                    yield asks_single(turn, i, random_counts(chance, 2), (latitude, longitude))
+                    yield asks_single(turn, i, (COUNTS, 0), (latitude, longitude))
+            for count in above:
+                for counts in ((count, 0), (0, count), (count, count), (*random_counts(chance, 1), count)):
+                    spot = random_latitude(chance), random_longitude(chance)
+                    yield asks_single(turn, i, counts, spot)
+                    yield asks_single(turn, i, counts, (POLE, 0))
+    ten = [sum_ % COUNTS for sum_ in straddling()]
+    for later in BOTH:
+        yield asks_pair(later, (ten[0], 0, ten[1], 0))
+        for four in ((65536, 65536, 49152, 32768), (0, 0, 65536, 0), (ten[0], 0, ten[1], 0)):
+            for place in range(4):
+                for count in above:
+                    yield asks_pair(later, (*four[:place], count, *four[place + 1 :]))
+
+
+def straddling():
+    """An even and an odd latitude count on either side of the first transition."""
+    entry = Fraction(FIGURES[0], 10**8)
+    return [floor(entry * zones(EVEN) / AIRBORNE * COUNTS), floor(entry * zones(ODD) / AIRBORNE * COUNTS) + 1]
+
+
+def random_cases(chance):
+    """Random places, counts and references; places encoded both ways and paired."""
+    for turn in BOTH_TURNS:
+        for i in BOTH:
+            for _ in range(200):
+                yield asks_encode(turn, i, random_latitude(chance), random_longitude(chance))
+                spot = random_latitude(chance), random_longitude(chance)
+                yield asks_single(turn, i, random_counts(chance, 2), spot)
+    for _ in range(300):
+        counts = both_ways(random_latitude(chance), random_longitude(chance))
+        yield from (asks_pair(later, counts) for later in BOTH)
+        counts = random_counts(chance, 4)
+        yield from (asks_pair(later, counts) for later in BOTH)
+
+
+def asked():
+    """The questions asked, each once."""
+    chance = Random(4)
+    families = [
+        published_cases(),
+        transitions(chance),
+        zone_ends(chance),
+        latitude_ends(chance),
+        half_counts(chance),
+        marked_places(chance),
+        boundaries(chance),
+        across(chance),
+        refused(chance),
+        random_cases(chance),
+    ]
+    return dict.fromkeys(tuple(question) for family in families for question in family)
+
+
+def answered(question, i, first, second, third, fourth):
+    """The answer of the model."""
+    if question in ENCODE.values():
+        return encode(AIRBORNE if question == ENCODE[AIRBORNE] else SURFACE, i, first, second)
+    if question == PAIR:
+        return pair(i, first, second, third, fourth)
+    return single(AIRBORNE if question == SINGLE[AIRBORNE] else SURFACE, i, first, second, third, fourth)
+
+
+def cases():
+    """Records and their lines."""
+    for question in asked():
+        numbers = [number % 2**32 for number in question[2:]]
+        yield struct.pack(">BB4I", *question[:2], *numbers), answer(answered, *question)
