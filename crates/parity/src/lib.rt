@@ -18,7 +18,7 @@ fn feed(r: u32, byte: u8) -> u32
     requires { ⌜ r < 2 ^ 24 ⌝ }
     ensures { λ q. ⌜ (q ≡ remainderFrom r (bitsOf (byte ∷ []))) × (q < 2 ^ 24) ⌝ }
 {
-    let t = entry((r / 0x1_0000) as u8);
+    let t = entry(r / 0x1_0000 % 256);
     (r % 0x1_0000 * 256 + wide(byte)) ^ t
 }
 

@@ -20,10 +20,11 @@ fn shift(r: u32) -> u32
 }
 
 // An entry by the division itself.
-fn divided(i: u8) -> u32
+fn divided(i: u32) -> u32
+    requires { ⌜ i < 256 ⌝ }
     ensures { λ r. ⌜ r ≡ getD table i 0 ⌝ }
 {
-    let r = shift((i as u32) * 0x1_0000);
+    let r = shift(i * 0x1_0000);
     let r = shift(r);
     let r = shift(r);
     let r = shift(r);
@@ -34,8 +35,9 @@ fn divided(i: u8) -> u32
 }
 
 // An entry by the table. A `match` becomes read-only data, where a constant array would be written to the stack at each
-// call. It must have a default: that one, for 255, is divided, and the compiler works it out.
-pub fn entry(i: u8) -> u32
+// call. Its default is never reached; it divides, so that what is promised holds there too.
+pub fn entry(i: u32) -> u32
+    requires { ⌜ i < 256 ⌝ }
     ensures { λ r. ⌜ r ≡ getD table i 0 ⌝ }
 {
     match i {
@@ -294,6 +296,7 @@ pub fn entry(i: u8) -> u32
         252 => 0x05_EC92,
         253 => 0xFA_189B,
         254 => 0x05_F089,
+        255 => 0xFA_0480,
         _ => divided(i),
     }
 }

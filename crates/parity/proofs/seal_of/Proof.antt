@@ -32,7 +32,7 @@ feed-requires-3 : tie.Need-feed-requires-3
 feed-requires-3 c κs = search needs
 
 returns : tie.Need-returns
-returns c = cc (by-three (c .before .before .before .before .args .s .now))
+returns c = cc (by-three (c .before .before .before .before .before .args .s .now))
 
 pub seal-of-spec : {M : Type 1} → statement M
 seal-of-spec =

@@ -38,7 +38,7 @@ returns : tie.Need-returns
 unfolding remainderFrom
 returns c =
     let a = c .before .before .before .before .before .before .before .before in
-    cc (entry-is (a .args .i) (a .fits .i .fits))
+    cc (entry-is (a .args .i) (a .pre))
 
 pub divided-spec : {M : Type 1} → statement M
 divided-spec =
