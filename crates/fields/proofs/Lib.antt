@@ -1,3 +1,4 @@
+pub mod Bools
 pub mod Bytes
 pub mod Packing
 pub mod Unique

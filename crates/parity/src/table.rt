@@ -36,7 +36,7 @@ fn divided(i: u32) -> u32
 
 // An entry by the table. A `match` becomes read-only data, where a constant array would be written to the stack at each
 // call. Its default is never reached; it divides, so that what is promised holds there too.
-pub fn entry(i: u32) -> u32
+pub(crate) fn entry(i: u32) -> u32
     requires { ⌜ i < 256 ⌝ }
     ensures { λ r. ⌜ r ≡ getD table i 0 ⌝ }
 {

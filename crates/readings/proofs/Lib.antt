@@ -1,0 +1,2 @@
+pub mod BelowZero
+pub mod Unique

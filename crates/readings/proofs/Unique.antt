@@ -1,0 +1,49 @@
+-- Each public function has one answer: two that satisfy its contract both equal its definition.
+-- Assumes nothing.
+use mathlib.Core.Path.{sym, _∙_}
+use Rattle.refusals.specs.Answers.{OneAnswer}
+use Rattle.readings.proofs.altitude.altitude_of.Kinds as altitude-of-kinds
+use Rattle.readings.proofs.altitude.altitude_of.Reads as altitude-of
+use Rattle.readings.proofs.amounts.speed_of.Kinds as speed-of-kinds
+use Rattle.readings.proofs.amounts.speed_of.Reads as speed-of
+use Rattle.readings.proofs.amounts.rate_of.Kinds as rate-of-kinds
+use Rattle.readings.proofs.amounts.rate_of.Reads as rate-of
+use Rattle.readings.proofs.amounts.difference_of.Kinds as difference-of-kinds
+use Rattle.readings.proofs.amounts.difference_of.Reads as difference-of
+use Rattle.readings.proofs.headings.heading_of.Kinds as heading-of-kinds
+use Rattle.readings.proofs.headings.heading_of.Reads as heading-of
+use Rattle.readings.proofs.headings.surface_heading_of.Kinds as surface-heading-of-kinds
+use Rattle.readings.proofs.headings.surface_heading_of.Reads as surface-heading-of
+use Rattle.readings.proofs.movement.movement_of.Kinds as movement-of-kinds
+use Rattle.readings.proofs.movement.movement_of.Reads as movement-of
+use Rattle.readings.proofs.text.category_set_of.Kinds as category-set-of-kinds
+use Rattle.readings.proofs.text.category_set_of.Reads as category-set-of
+use Rattle.readings.proofs.text.character_of.Kinds as character-of-kinds
+use Rattle.readings.proofs.text.character_of.Reads as character-of
+
+pub altitude-of-once : OneAnswer 0 altitude-of-kinds.ps altitude-of-kinds.r altitude-of.Post
+altitude-of-once κs args x y left left′ p q = p ∙ sym q
+
+pub speed-of-once : OneAnswer 0 speed-of-kinds.ps speed-of-kinds.r speed-of.Post
+speed-of-once κs args x y left left′ p q = p ∙ sym q
+
+pub rate-of-once : OneAnswer 0 rate-of-kinds.ps rate-of-kinds.r rate-of.Post
+rate-of-once κs args x y left left′ p q = p ∙ sym q
+
+pub difference-of-once : OneAnswer 0 difference-of-kinds.ps difference-of-kinds.r difference-of.Post
+difference-of-once κs args x y left left′ p q = p ∙ sym q
+
+pub heading-of-once : OneAnswer 0 heading-of-kinds.ps heading-of-kinds.r heading-of.Post
+heading-of-once κs args x y left left′ p q = p ∙ sym q
+
+pub surface-heading-of-once : OneAnswer 0 surface-heading-of-kinds.ps surface-heading-of-kinds.r surface-heading-of.Post
+surface-heading-of-once κs args x y left left′ p q = p ∙ sym q
+
+pub movement-of-once : OneAnswer 0 movement-of-kinds.ps movement-of-kinds.r movement-of.Post
+movement-of-once κs args x y left left′ p q = p ∙ sym q
+
+pub category-set-of-once : OneAnswer 0 category-set-of-kinds.ps category-set-of-kinds.r category-set-of.Post
+category-set-of-once κs args x y left left′ p q = p ∙ sym q
+
+pub character-of-once : OneAnswer 0 character-of-kinds.ps character-of-kinds.r character-of.Post
+character-of-once κs args x y left left′ p q = p ∙ sym q

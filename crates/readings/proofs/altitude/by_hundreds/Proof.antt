@@ -1,0 +1,44 @@
+-- `readings::altitude::by_hundreds` meets its contract: by the test for an H that is unknown.
+-- Assumes nothing.
+use Prim.Native.Nat.{ℕ, _+_, _*_}
+use mathlib.Core.Path.{ap, _∙_}
+use native.Mathlib.Omega.{arith}
+use lib.IntN.{pos, _-ℤ_}
+use mir.Facts.{toZ-ofZ}
+use borrow.Author.Needs.{needs}
+use Rattle.readings.specs.declared.altitude.Altitude.the-variants.{Feet}
+use Rattle.readings.specs.Altitude.{byHundreds}
+use Rattle.readings.proofs.BelowZero.{less-fits}
+use Rattle.readings.proofs.altitude.by_hundreds.Statement.{statement}
+use Rattle.readings.proofs.altitude.by_hundreds.Tie as tie
+
+returns : tie.Need-returns
+unfolding byHundreds
+returns c = rw (c .if1 .taken)
+
+mul-n : tie.Need-mul-n
+mul-n c = search needs
+
+turned-requires : tie.Need-turned-requires
+turned-requires c κs = search needs
+
+mul-n-2 : tie.Need-mul-n-2
+mul-n-2 c = search needs
+
+add-n : tie.Need-add-n
+add-n c = search needs
+
+less-requires : tie.Need-less-requires
+less-requires c κs = search needs
+
+returns-2 : tie.Need-returns-2
+unfolding byHundreds
+returns-2 c =
+    let f = c .before .before .before .args .f in
+    let t = c .before .turned .result in
+    rw (c .before .before .if1 .left, c .less .ensures)
+    (ap Feet (toZ-ofZ (less-fits (500 * f + 100 * t) 1300 (omega arith) (omega arith)) ∙ ap (λ (k : ℕ). pos (500 * f + 100 * k) -ℤ pos 1300) (c .before .turned .ensures .0)))
+
+pub by-hundreds-spec : {M : Type 1} → statement M
+by-hundreds-spec =
+    tie.close (tie.spec returns mul-n turned-requires mul-n-2 add-n less-requires returns-2)

@@ -1,0 +1,24 @@
+-- `readings::altitude::gray` meets its contract: one step of the decoding.
+-- Assumes nothing.
+use mathlib.Core.Path.{refl}
+use native.Mathlib.Omega.{arith}
+use borrow.Author.Needs.{needs}
+use Rattle.readings.specs.Altitude.{grayStep}
+use Rattle.readings.proofs.altitude.gray.Statement.{statement}
+use Rattle.readings.proofs.altitude.gray.Tie as tie
+
+mul-result : tie.Need-mul-result
+mul-result c = search needs
+
+add-result : tie.Need-add-result
+add-result c = search needs
+
+add-result-2 : tie.Need-add-result-2
+add-result-2 c = search needs
+
+returns : tie.Need-returns
+unfolding grayStep
+returns c = (refl, omega arith)
+
+pub gray-spec : {M : Type 1} → statement M
+gray-spec = tie.close (tie.spec mul-result add-result add-result-2 returns)

@@ -1,0 +1,53 @@
+-- `readings::amounts::rate_of` meets its contract: the tests on the way pick the case of the rule.
+-- Assumes nothing.
+use Prim.Native.Nat.{ℕ, _-_, _*_}
+use mathlib.Core.Path.{ap}
+use native.Mathlib.Omega.{arith}
+use lib.Dec.{leb}
+use borrow.Author.Tests.{leb-false, eq-eqb, ne-eqb}
+use borrow.Author.Needs.{needs}
+use Rattle.readings.specs.declared.amounts.Rate.the-variants.{FeetPerMinute}
+use Rattle.readings.specs.Amounts.{amount, rateOf}
+use Rattle.fields.proofs.Bools.{or-right}
+use Rattle.readings.proofs.BelowZero.{kept, signed-fits}
+use Rattle.readings.proofs.amounts.rate_of.Statement.{statement}
+use Rattle.readings.proofs.amounts.rate_of.Tie as tie
+
+returns : tie.Need-returns
+unfolding rateOf amount
+returns c = rw (c .if1 .taken)
+
+returns-2 : tie.Need-returns-2
+unfolding rateOf amount
+returns-2 c = rw (c .before .if1 .left, eq-eqb _ _ (c .if2 .taken))
+
+returns-3 : tie.Need-returns-3
+unfolding rateOf amount
+returns-3 c = rw (c .before .before .if1 .left, ne-eqb _ _ (c .before .if2 .left), eq-eqb _ _ (c .if3 .taken))
+
+sub-n : tie.Need-sub-n
+sub-n c = search needs
+
+cast-n : tie.Need-cast-n
+cast-n c = search needs
+
+mul-n : tie.Need-mul-n
+mul-n c = search needs
+
+with-sign-requires : tie.Need-with-sign-requires
+with-sign-requires c κs =
+    let a = c .before .before .before .args in
+    omega (arith, leb-false 512 (a .code) (or-right (leb 2 (a .sign)) (leb 512 (a .code)) (c .before .before .if1 .left)))
+
+returns-4 : tie.Need-returns-4
+unfolding rateOf amount
+returns-4 c =
+    let a = c .before .before .before .before .args in
+    let h = leb-false 512 (a .code) (or-right (leb 2 (a .sign)) (leb 512 (a .code)) (c .before .before .before .if1 .left)) in
+    rw (c .before .before .before .if1 .left, ne-eqb _ _ (c .before .before .if2 .left), ne-eqb _ _ (c .before .if3 .left))
+    (ap FeetPerMinute (kept (signed-fits (a .sign) (64 * (a .code - 1)) (omega arith)) (c .with-sign .ensures)))
+
+pub rate-of-spec : {M : Type 1} → statement M
+rate-of-spec =
+    tie.close
+    (tie.spec returns returns-2 returns-3 sub-n cast-n mul-n with-sign-requires returns-4)

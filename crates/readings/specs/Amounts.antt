@@ -1,0 +1,41 @@
+-- Speeds, vertical rates and height differences: a code with a sign bit, by one rule.
+use Prim.Native.Nat.{ℕ, _-_, _*_, _^_}
+use mathlib.Core.Bool.{cond, _||_}
+use lib.Dec.{eqb}
+use lib.IntN.{ℤ, pos, negℤ}
+use Rattle.refusals.specs.declared.Refusal.the-variants.{Field}
+use Rattle.readings.specs.Widths.{wider}
+use Rattle.readings.specs.declared.amounts.Speed.{Speed}
+use Rattle.readings.specs.declared.amounts.Speed.the-variants as speed
+use Rattle.readings.specs.declared.amounts.Rate.{Rate}
+use Rattle.readings.specs.declared.amounts.Rate.the-variants as rate
+use Rattle.readings.specs.declared.amounts.Difference.{Difference}
+use Rattle.readings.specs.declared.amounts.Difference.the-variants as difference
+
+-- sign 1 is below zero: west, south, down, below
+unfoldable pub signed : ℕ → ℕ → ℤ
+signed sign n = cond (eqb sign 1) (negℤ (pos n)) (pos n)
+
+-- code 0 is unknown, n is n - 1 steps, and the last code of so many bits is over
+unfoldable pub amount : {A : Type 0} → (unknown : A) (value : ℤ → A) (over refused : A) (bits step sign code : ℕ) → A
+amount unknown value over refused bits step sign code =
+    cond (wider 1 sign || wider bits code) refused
+    (cond (eqb code 0) unknown
+    (cond (eqb code (2 ^ bits - 1)) over
+    (value (signed sign (step * (code - 1))))))
+
+-- n is n - 1 knots, times 4 in subtypes 2 and 4; 1023 is over
+unfoldable pub times : ℕ → ℕ
+times subtype = cond (eqb subtype 2 || eqb subtype 4) 4 1
+
+unfoldable pub speedOf : ℕ → ℕ → ℕ → Speed
+speedOf subtype sign code =
+    cond (wider 3 subtype) (speed.Refused Field) (amount speed.Unknown speed.Knots speed.Over (speed.Refused Field) 10 (times subtype) sign code)
+
+-- n is 64 (n - 1) feet per minute; 511 is over
+unfoldable pub rateOf : ℕ → ℕ → Rate
+rateOf sign code = amount rate.Unknown rate.FeetPerMinute rate.Over (rate.Refused Field) 9 64 sign code
+
+-- n is 25 (n - 1) feet; 127 is over
+unfoldable pub differenceOf : ℕ → ℕ → Difference
+differenceOf sign code = amount difference.Unknown difference.Feet difference.Over (difference.Refused Field) 7 25 sign code

@@ -1,0 +1,31 @@
+-- The category set of a TYPE, and the character of a code.
+use Prim.Native.Nat.{ℕ, _+_, _-_}
+use mathlib.Core.Bool.{cond, _&&_}
+use lib.Dec.{leb, eqb}
+use Rattle.refusals.specs.declared.Refusal.the-variants.{Field}
+use Rattle.readings.specs.Widths.{wider}
+use Rattle.readings.specs.declared.text.CategorySet.{CategorySet}
+use Rattle.readings.specs.declared.text.CategorySet.the-variants as set
+use Rattle.readings.specs.declared.text.Character.{Character}
+use Rattle.readings.specs.declared.text.Character.the-variants as character
+
+-- TYPE 4, 3, 2, 1 is category set A, B, C, D
+unfoldable pub categorySetOf : ℕ → CategorySet
+categorySetOf kind =
+    cond (wider 5 kind) (set.Refused Field)
+    (cond (eqb kind 4) set.A
+    (cond (eqb kind 3) set.B
+    (cond (eqb kind 2) set.C
+    (cond (eqb kind 1) set.D
+    set.NoSet))))
+
+-- codes 1-26 are A-Z, 32 space, 48-57 digits; the rest show as "?" (here in ASCII: A is 65, space 32, 0 is 48, ? is 63)
+unfoldable pub shown : ℕ → ℕ
+shown code =
+    cond (leb 1 code && leb code 26) (65 + (code - 1))
+    (cond (eqb code 32) 32
+    (cond (leb 48 code && leb code 57) (48 + (code - 48))
+    63))
+
+unfoldable pub characterOf : ℕ → Character
+characterOf code = cond (wider 6 code) (character.Refused Field) (character.Shown (shown code))

@@ -1,0 +1,7 @@
+-- When a code is wider than its bits.
+use Prim.Native.Nat.{ℕ, _^_}
+use mathlib.Core.Bool.{Bool}
+use lib.Dec.{leb}
+
+abbrev pub wider : ℕ → ℕ → Bool
+wider bits code = leb (2 ^ bits) code
