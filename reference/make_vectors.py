@@ -10,9 +10,7 @@ import argparse
 import sys
 from pathlib import Path
 
-sys.dont_write_bytecode = True
-
-from vectors import message_vectors, parity_vectors, position_vectors, readings_vectors  # noqa: E402
+from vectors import message_vectors, parity_vectors, position_vectors, readings_vectors
 
 PROGRAMS = {
     "parity_vectors": parity_vectors,
@@ -30,23 +28,31 @@ def made(program):
     return {"stdin": stdin, "stdout": stdout}, len(cases)
 
 
-def first_difference(made_here, standing):
-    """The place of the first byte that differs, with its line."""
-    shorter = min(len(made_here), len(standing))
-    place = next((k for k in range(shorter) if made_here[k] != standing[k]), shorter)
-    return f"byte {place}, line {made_here[:place].count(10) + 1}"
+def first_difference(name, content, standing):
+    """Where the two part: the byte of a stdin, the line of a stdout."""
+    shorter = min(len(content), len(standing))
+    place = next((k for k in range(shorter) if content[k] != standing[k]), shorter)
+    return f"byte {place}" if name == "stdin" else f"line {content[:place].count(10) + 1}"
 
 
-def check(path, content):
+def check(root, program, name, content):
     """Does the file hold this? Names the first difference."""
+    path = root / "crates" / program / name
     if not path.is_file():
-        print(f"{path}: missing")
+        print(f"crates/{program}/{name}: missing")
         return False
     standing = path.read_bytes()
     if standing != content:
-        print(f"{path}: differs at {first_difference(content, standing)}")
+        print(f"crates/{program}/{name}: differs at {first_difference(name, content, standing)}")
         return False
     return True
+
+
+def write(root, program, name, content):
+    """Writes the file, in a new folder if need be."""
+    path = root / "crates" / program / name
+    path.parent.mkdir(parents=True, exist_ok=True)
+    path.write_bytes(content)
 
 
 def main():
@@ -58,18 +64,15 @@ def main():
     for program in arguments.program:
         if program not in PROGRAMS:
             parser.error(f"no vector program {program}: there are {', '.join(PROGRAMS)}")
-    crates = arguments.root / "crates"
-    programs = arguments.program or [program for program in PROGRAMS if (crates / program).is_dir()]
+    root = arguments.root
+    programs = arguments.program or [program for program in PROGRAMS if (root / "crates" / program).is_dir()]
     for program in programs:
         files, count = made(program)
         for name, content in files.items():
-            path = crates / program / name
-            if arguments.check:
-                if not check(path, content):
-                    return 1
-            else:
-                path.parent.mkdir(parents=True, exist_ok=True)
-                path.write_bytes(content)
+            if not arguments.check:
+                write(root, program, name, content)
+            elif not check(root, program, name, content):
+                return 1
         print(f"{program}: {count} cases {'as made' if arguments.check else 'written'}")
     if not programs:
         print("no vector program has a folder under crates/")

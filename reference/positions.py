@@ -22,7 +22,7 @@ FIGURES = [
     7145986473, 7245884545, 7345177442, 7443893416, 7542056257, 7639684391, 7736789461, 7833374083,
     7929428225, 8024923213, 8119801349, 8213956981, 8307199445, 8399173563, 8489166191, 8575541621,
     8653536998, 8700000000,
-]  # fmt: skip
+]
 
 
 def zones(i):
@@ -67,8 +67,9 @@ def pole_test(latitude):
 
 
 def hand_out(latitude, longitude):
-    """Latitude signed, longitude from 0. A longitude that rounds to 2^32 becomes 0."""
-    return nearest(latitude / UNIT), nearest(longitude / UNIT) % 2**32
+    """Exact results round to nearest, half up. A longitude that rounds to 2^32 becomes 0."""
+    east = nearest(longitude / UNIT)
+    return nearest(latitude / UNIT), 0 if east == 2**32 else east
 
 
 # Encode
@@ -97,8 +98,8 @@ def rounded_place(turn, i, latitude, longitude):
 def encode(turn, i, latitude, longitude):
     """The two counts of a place: the whole numbers modulo 2^17."""
     latitude_test(latitude)
-    fits(longitude, 32)
-    _, _, whole_latitude, whole_longitude, _ = rounded_place(turn, i, latitude * UNIT, longitude * UNIT)
+    place = rounded_place(turn, i, latitude * UNIT, longitude * UNIT)
+    _, _, whole_latitude, whole_longitude, _ = place
     return whole_latitude % COUNTS, whole_longitude % COUNTS
 
 
@@ -142,9 +143,9 @@ def paired_place(later, even_latitude, even_longitude, odd_latitude, odd_longitu
     return latitudes[later], in_zone(m % n, count, n)
 
 
-def pair(later, even_latitude, even_longitude, odd_latitude, odd_longitude):
-    """The place of the later message (its F), handed out."""
-    return hand_out(*paired_place(later, even_latitude, even_longitude, odd_latitude, odd_longitude))
+def pair(later, *four_counts):
+    """The place of the later message, given by its F, handed out."""
+    return hand_out(*paired_place(later, *four_counts))
 
 
 # Single
@@ -157,9 +158,8 @@ def nearby(count, reference, z, turn):
 
 
 def single_place(turn, i, latitude_count, longitude_count, reference_latitude, reference_longitude):
-    """With a reference; longitude likewise with n, NL being the decoded latitude's, modulo 360."""
+    """The place in degrees; longitude with n, NL being the decoded latitude's, modulo 360."""
     latitude_test(reference_latitude)
-    fits(reference_longitude, 32)
     count_test(latitude_count, longitude_count)
     latitude = nearby(latitude_count, reference_latitude * UNIT, zones(i), turn)
     pole_test(latitude)
@@ -167,11 +167,9 @@ def single_place(turn, i, latitude_count, longitude_count, reference_latitude, r
     return latitude, nearby(longitude_count, reference_longitude * UNIT, n, turn) % 360
 
 
-def single(turn, i, latitude_count, longitude_count, reference_latitude, reference_longitude):
+def single(turn, i, *counts_and_reference):
     """The place of one message near the reference, handed out."""
-    return hand_out(
-        *single_place(turn, i, latitude_count, longitude_count, reference_latitude, reference_longitude)
-    )
+    return hand_out(*single_place(turn, i, *counts_and_reference))
 
 
 # The published formula: a test compares the table with it
@@ -228,5 +226,6 @@ def check_table():
             continue
         if not abs(exact * 10**8 - figure) < HALF - slack:
             raise ValueError(f"NL {nl}: the figure {figure} is not the published latitude")
-        if not floor((exact - slack) / step) == floor((exact + slack) / step) == floor(Fraction(figure, 10**8) / step):
+        edges = exact - slack, exact + slack, Fraction(figure, 10**8)
+        if len({floor(edge / step) for edge in edges}) > 1:
             raise ValueError(f"NL {nl}: a latitude lies between figure and formula")

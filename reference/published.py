@@ -208,7 +208,7 @@ SINGLE_UNITS = [
 
 def units(latitude, longitude):
     """A place given in degrees, in 2^-32 of a turn."""
-    return positions.hand_out(Fraction(latitude), Fraction(longitude))
+    return positions.hand_out(Fraction(latitude), Fraction(longitude) % 360)
 
 
 def close(place, latitude, longitude, bound):

@@ -38,4 +38,4 @@ def cases():
     """Records and their lines."""
     for string in strings():
         record = len(string).to_bytes(2, "big") + string
-        yield record, f"{remainder(string):06X} {seal(string):06X}"
+        yield record, f"{remainder(string):06x} {seal(string):06x}"

@@ -20,13 +20,10 @@ from positions import (
     UNIT,
     angle_of,
     encode,
-    longitude_zones,
     nearest,
     pair,
     rounded,
-    rounded_place,
     single,
-    zone_count,
     zones,
 )
 from refusals import answer
@@ -41,26 +38,32 @@ LAST = 2**32 - 1
 
 
 def asks_encode(turn, i, latitude, longitude):
+    """Encode this place."""
     return ENCODE[turn], i, latitude, longitude, 0, 0
 
 
 def asks_pair(later, counts):
+    """Pair these four counts."""
     return PAIR, later, *counts
 
 
 def asks_single(turn, i, counts, reference):
+    """Read these two counts against this reference."""
     return SINGLE[turn], i, *counts, *reference
 
 
 def random_latitude(chance):
+    """From -90 to 90 degrees."""
     return chance.randrange(-POLE, POLE + 1)
 
 
 def random_longitude(chance):
+    """Anywhere on the circle."""
     return chance.getrandbits(32)
 
 
 def random_counts(chance, how_many):
+    """Counts of 17 bits."""
     return [chance.randrange(COUNTS) for _ in range(how_many)]
 
 
@@ -70,9 +73,14 @@ def both_ways(latitude, longitude):
 
 
 def band(nl):
-    """A latitude in degrees amid those of this NL."""
+    """The latitude, in 2^-32 of a turn, amid those of this NL."""
     edges = [0, *FIGURES, 90 * 10**8]
-    return Fraction(edges[59 - nl] + edges[60 - nl], 2 * 10**8)
+    return nearest(Fraction(edges[59 - nl] + edges[60 - nl], 2 * 10**8) / UNIT)
+
+
+def amid(chance, nl):
+    """The same, north or south."""
+    return chance.choice((1, -1)) * band(nl)
 
 
 def published_cases():
@@ -107,9 +115,10 @@ def transitions(chance):
                     below = floor(entry * zones(i) / turn * COUNTS)  # the last not above the entry
                     last[turn, i] = below
                     exactly = [sign * angle_of(whole, zones(i), turn) for whole in (below, below + 1)]
-                    halfway = sign * (exactly[0] * sign + exactly[1] * sign) / 2
+                    halfway = sum(exactly) / 2
                     latitudes = [nearest(latitude / UNIT) for latitude in exactly]
-                    latitudes += [floor(latitude / UNIT) + more for latitude in (halfway, sign * entry) for more in (0, 1)]
+                    for edge in (halfway, sign * entry):
+                        latitudes += [floor(edge / UNIT), floor(edge / UNIT) + 1]
                     for latitude in latitudes:
                         yield asks_encode(turn, i, latitude, random_longitude(chance))
                     for whole, latitude in zip((below, below + 1), latitudes):
@@ -133,7 +142,7 @@ def zone_ends(chance):
     """For each NL the least and greatest m: m = -NL needs 0 even and 131071 odd."""
     for nl in range(1, 60):
         for sign in (1, -1):
-            latitude = nearest(sign * band(nl) / UNIT)
+            latitude = sign * band(nl)
             even, _, odd, _ = both_ways(latitude, 0)
             for longitudes in ((0, COUNTS - 1), (COUNTS - 1, 0), (0, 0), (COUNTS - 1, COUNTS - 1), (1, COUNTS - 1)):
                 for later in BOTH:
@@ -142,7 +151,7 @@ def zone_ends(chance):
                 for i in BOTH:
                     yield asks_encode(turn, i, latitude, LAST)
                     counts = encode(turn, i, latitude, random_longitude(chance))
-                    for longitude in (0, LAST, 2**31 - 1, 2**31):
+                    for longitude in (0, LAST) if sign == 1 else (2**31 - 1, 2**31):
                         yield asks_single(turn, i, counts, (latitude, longitude))
 
 
@@ -154,44 +163,47 @@ def latitude_ends(chance):
                 yield asks_pair(later, (even, *random_counts(chance, 1), odd, *random_counts(chance, 1)))
 
 
+def power_of_two(z):
+    """The greatest power of two that divides z."""
+    return z & -z
+
+
 def half_counts(chance):
-    """Products that lie halfway between two whole numbers, and halfway j and m."""
+    """Latitudes and longitudes whose product with the zones lies halfway between whole numbers."""
     for turn in BOTH_TURNS:
-        shift = 14 if turn == AIRBORNE else 12
+        half = 2**14 if turn == AIRBORNE else 2**12  # this angle x Z is half a count
         for i in BOTH:
-            for z in [zones(i), *range(1, 60)]:
-                odd_part = 1 << shift >> (z & -z).bit_length() - 1  # angles of this x an odd number
-                for _ in range(12 if z == zones(i) else 2):
-                    if z == zones(i):
-                        latitude = odd_part * (2 * chance.randrange(-POLE // odd_part // 2, POLE // odd_part // 2) + 1)
-                        longitude = random_longitude(chance)
-                        halfway = latitude * UNIT * z / turn * COUNTS
-                    else:
-                        nl = min(z + i, 59)
-                        latitude = chance.choice((1, -1)) * nearest(band(nl) / UNIT)
-                        longitude = odd_part * (2 * chance.randrange(2**31 // odd_part) + 1)
-                        halfway = longitude * UNIT * z / turn * COUNTS
-                        assert i == ODD and z == 59 or longitude_zones(zone_count(latitude * UNIT), i) == z
-                    assert halfway.denominator == 2
-                    for aside in (-1, 0, 1):
-                        if z == zones(i):
-                            yield asks_encode(turn, i, latitude + aside, longitude)
-                        else:
-                            yield asks_encode(turn, i, latitude, longitude + aside)
+            step = half // power_of_two(zones(i))
+            for _ in range(12):
+                latitude = step * (2 * chance.randrange(-POLE // step // 2, POLE // step // 2) + 1)
+                assert (latitude * UNIT * zones(i) / turn * COUNTS).denominator == 2
+                for aside in (-1, 0, 1):
+                    yield asks_encode(turn, i, latitude + aside, random_longitude(chance))
+            for n in range(1, 60 - i):
+                latitude = amid(chance, n + i)
+                step = half // power_of_two(n)
+                longitude = step * (2 * chance.randrange(2**31 // step) + 1)
+                assert (longitude * UNIT * n / turn * COUNTS).denominator == 2
+                for aside in (-1, 0, 1):
+                    yield asks_encode(turn, i, latitude, longitude + aside)
+
+
+def half_zones(chance):
+    """Pairs whose j or m lies halfway between whole numbers before it is rounded down."""
     for _ in range(40):
-        odd = chance.randrange(COUNTS)
+        _, even_longitude, odd, odd_longitude = random_counts(chance, 4)
         even = pow(59, -1, COUNTS) * (60 * odd + COUNTS // 2) % COUNTS
         assert (59 * even - 60 * odd) % COUNTS == COUNTS // 2
         for aside in (-1, 0, 1):
             for later in BOTH:
-                yield asks_pair(later, ((even + aside) % COUNTS, *random_counts(chance, 1), odd, *random_counts(chance, 1)))
+                yield asks_pair(later, ((even + aside) % COUNTS, even_longitude, odd, odd_longitude))
     for nl in range(1, 60):
-        even, _, odd, _ = both_ways(chance.choice((1, -1)) * nearest(band(nl) / UNIT), 0)
-        east = chance.randrange(COUNTS)
+        even, _, odd, _ = both_ways(amid(chance, nl), 0)
+        west = chance.randrange(COUNTS)
         if nl % 2 == 1:
-            longitudes = east, pow(nl, -1, COUNTS) * (east * (nl - 1) + COUNTS // 2) % COUNTS
+            longitudes = west, pow(nl, -1, COUNTS) * (west * (nl - 1) + COUNTS // 2) % COUNTS
         else:
-            longitudes = pow(nl - 1, -1, COUNTS) * (east * nl + COUNTS // 2) % COUNTS, east
+            longitudes = pow(nl - 1, -1, COUNTS) * (west * nl + COUNTS // 2) % COUNTS, west
         assert (longitudes[0] * (nl - 1) - longitudes[1] * nl) % COUNTS == COUNTS // 2
         for aside in (-1, 0, 1):
             for later in BOTH:
@@ -203,7 +215,7 @@ def marked_places(chance):
     degrees_87 = nearest(87 / UNIT)
     one_count = nearest(angle_of(1, 60, AIRBORNE) / UNIT)
     latitudes = [0, 1, degrees_87, degrees_87 + one_count, degrees_87 - one_count, POLE, POLE - 1, POLE - one_count]
-    longitudes = [0, 1, LAST, LAST - 1, 2**31, 2**31 - 1, 2**31 + 1, 2**30, random_longitude(chance)]
+    longitudes = [0, LAST, 2**31, 2**31 - 1, random_longitude(chance)]
     for latitude in [*latitudes, *(-latitude for latitude in latitudes)]:
         for longitude in longitudes:
             counts = both_ways(latitude, longitude)
@@ -231,29 +243,30 @@ def marked_places(chance):
                     yield asks_single(turn, i, ((pole + more) % COUNTS, 0), (sign * POLE, 0))
 
 
+def boundary(chance, z, turn, least, greatest):
+    """A reference within these bounds and a count just half a zone from it."""
+    step = (2**15 if turn == AIRBORNE else 2**13) // power_of_two(z)  # this angle is z' counts, z' odd
+    times = chance.randrange(-(-least // step), greatest // step + 1)
+    count = (times * (z // power_of_two(z)) + COUNTS // 2) % COUNTS
+    assert (times * step * UNIT * z / turn - Fraction(count, COUNTS)) % 1 == Fraction(1, 2)
+    return times * step, count
+
+
 def boundaries(chance):
     """References on cell boundaries, half a zone from the place, in latitude and in longitude."""
     for turn in BOTH_TURNS:
         for i in BOTH:
-            for z in [zones(i)] * 15 + [*range(1, 60)]:
-                shift = (15 if turn == AIRBORNE else 13) - ((z & -z).bit_length() - 1)
-                odd_part = z // (z & -z)
-                is_latitude = z == zones(i) and chance.randrange(4) > 0
-                if is_latitude:
-                    t = chance.randrange(-POLE >> shift, (POLE >> shift) + 1)
-                else:
-                    t = chance.randrange(2**32 >> shift)
-                reference, count = t << shift, (t * odd_part + COUNTS // 2) % COUNTS
-                ahead = Fraction(1, 2) + reference * UNIT * z / turn - Fraction(count, COUNTS)
-                assert ahead.denominator == 1
+            for _ in range(20):
+                latitude, count = boundary(chance, zones(i), turn, -POLE + 1, POLE - 1)
                 for aside in (-1, 0, 1):
-                    if is_latitude:
-                        spot = max(-POLE, min(POLE, reference + aside)), random_longitude(chance)
-                        yield asks_single(turn, i, (count, *random_counts(chance, 1)), spot)
-                    else:
-                        latitude = chance.choice((1, -1)) * nearest(band(min(z + i, 59)) / UNIT)
-                        latitude_count, _ = encode(turn, i, latitude, 0)
-                        yield asks_single(turn, i, (latitude_count, count), (latitude, (reference + aside) % 2**32))
+                    reference = latitude + aside, random_longitude(chance)
+                    yield asks_single(turn, i, (count, *random_counts(chance, 1)), reference)
+            for n in range(1, 60 - i):
+                latitude = amid(chance, n + i)
+                latitude_count, _ = encode(turn, i, latitude, 0)
+                longitude, count = boundary(chance, n, turn, 1, LAST - 1)
+                for aside in (-1, 0, 1):
+                    yield asks_single(turn, i, (latitude_count, count), (latitude, longitude + aside))
 
 
 def across(chance):
@@ -284,10 +297,10 @@ def refused(chance):
                     spot = random_latitude(chance), random_longitude(chance)
                     yield asks_single(turn, i, counts, spot)
                     yield asks_single(turn, i, counts, (POLE, 0))
-    ten = [sum_ % COUNTS for sum_ in straddling()]
+    even, odd = straddling()
     for later in BOTH:
-        yield asks_pair(later, (ten[0], 0, ten[1], 0))
-        for four in ((65536, 65536, 49152, 32768), (0, 0, 65536, 0), (ten[0], 0, ten[1], 0)):
+        for four in ((65536, 65536, 49152, 32768), (0, 0, 65536, 0), (even, 0, odd, 0)):
+            yield asks_pair(later, four)  # taken, 9, 10
             for place in range(4):
                 for count in above:
                     yield asks_pair(later, (*four[:place], count, *four[place + 1 :]))
@@ -296,14 +309,16 @@ def refused(chance):
 def straddling():
     """An even and an odd latitude count on either side of the first transition."""
     entry = Fraction(FIGURES[0], 10**8)
-    return [floor(entry * zones(EVEN) / AIRBORNE * COUNTS), floor(entry * zones(ODD) / AIRBORNE * COUNTS) + 1]
+    even = floor(entry * zones(EVEN) / AIRBORNE * COUNTS)
+    odd = floor(entry * zones(ODD) / AIRBORNE * COUNTS) + 1
+    return even % COUNTS, odd % COUNTS
 
 
 def random_cases(chance):
     """Random places, counts and references; places encoded both ways and paired."""
     for turn in BOTH_TURNS:
         for i in BOTH:
-            for _ in range(200):
+            for _ in range(100):
                 yield asks_encode(turn, i, random_latitude(chance), random_longitude(chance))
                 spot = random_latitude(chance), random_longitude(chance)
                 yield asks_single(turn, i, random_counts(chance, 2), spot)
@@ -323,6 +338,7 @@ def asked():
         zone_ends(chance),
         latitude_ends(chance),
         half_counts(chance),
+        half_zones(chance),
         marked_places(chance),
         boundaries(chance),
         across(chance),

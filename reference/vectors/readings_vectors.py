@@ -41,8 +41,7 @@ def asked():
     for name, width, carried, _ in QUESTIONS:
         every = range(256) if carried == 8 else [*range(1 << width), *wide(width)]
         if name == "speed":
-            every_subtype = [1, 2]
-            for subtype in every_subtype:
+            for subtype in (1, 2):
                 for direction in (0, 1):
                     yield from ((name, subtype, direction, code) for code in every)
             for subtype in (0, 3, 4, 5, 6, 7):

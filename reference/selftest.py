@@ -1,0 +1,462 @@
+"""Holds the model to the paper's examples, to the published vectors and to the paper's laws.
+
+    python3 reference/selftest.py
+"""
+
+import sys
+from decimal import Decimal
+from fractions import Fraction
+from math import floor
+from random import Random
+
+import messages
+import positions
+import published
+import readings
+from parity import GENERATOR, remainder, seal, sealed
+from positions import AIRBORNE, COUNTS, EVEN, FIGURES, ODD, SURFACE, UNIT, zone_count, zones
+from refusals import answer
+from vectors import message_vectors, position_vectors, readings_vectors
+
+assertions = 0
+failures = []
+
+
+def equal(what, found, due):
+    """One assertion."""
+    global assertions
+    assertions += 1
+    if found != due:
+        failures.append(f"{what}: found {found}, due {due}")
+
+
+def true(what, found):
+    """One assertion."""
+    equal(what, bool(found), True)
+
+
+def refused(number, question, *arguments):
+    """One assertion: the question is refused with this number."""
+    equal(f"{question.__name__}{arguments}", answer(question, *arguments), f"refused {number}")
+
+
+# Parity
+
+
+def parity_rows():
+    """Published remainders and the paper's examples."""
+    for text, due, _ in published.PARITY_ROWS:
+        equal(f"remainder of {text}", remainder(bytes.fromhex(text)), due)
+    for text in [text for text, _ in published.FIELD_ROWS] + published.STATUS_MESSAGES:
+        equal(f"remainder of {text}", remainder(bytes.fromhex(text)), 0)
+        equal(f"seal of {text}", seal(bytes.fromhex(text)[:11]), int(text[22:], 16))
+    equal("remainder of 14 zero bytes", remainder(bytes(14)), 0)
+    equal("remainder of bit 88", remainder((1 << 24).to_bytes(14, "big")), 0xFFF409)
+    wrong = bytes.fromhex("8D4CA251204994B1C36E60A5343D")
+    equal("one bit, bit 108", remainder(message_vectors.flipped(wrong, 108)), 0)
+    terms = [24, 23, 22, 21, 20, 19, 18, 17, 16, 15, 14, 13, 12, 10, 3, 0]
+    equal("the generator's terms", sum(1 << term for term in terms), GENERATOR)
+
+
+def parity_laws():
+    """Linear; the division leaves a remainder; the seal and no other three bytes."""
+    chance = Random(11)
+    for length in [*range(40), 512]:
+        one, other = chance.randbytes(length), chance.randbytes(length)
+        both = bytes(x ^ y for x, y in zip(one, other))
+        equal("linear", remainder(both), remainder(one) ^ remainder(other))
+        equal("sealed", remainder(sealed(one)), 0)
+        three = chance.randbytes(3)
+        equal("three bytes", remainder(one + three) == 0, int.from_bytes(three, "big") == seal(one))
+        quotient, product = chance.getrandbits(8 * length), 0
+        for place in range(8 * length):
+            if quotient >> place & 1:
+                product ^= GENERATOR << place
+        rest = chance.getrandbits(24)
+        whole = (product ^ rest).to_bytes(length + 4, "big")
+        equal("quotient x generator + rest", remainder(whole), rest)
+
+
+# Readings
+
+
+def coding_rows():
+    """Published codings."""
+    for name, a, b, code, due in published.CODING_ROWS:
+        reading = readings_vectors.QUESTIONS[readings_vectors.NUMBER[name]][3]
+        equal(f"{name} {code}", reading(a, b, code), due)
+    edges = [("0.125", 3), ("1", 9), ("2", 13), ("15", 39), ("70", 94), ("100", 109)]
+    for knots, code in edges:
+        equal(f"movement {code}", readings.movement(code), f"from {Fraction(knots) * 48}")
+    equal("movement 124", readings.movement(124), f"{175 * 48} and up")
+    equal("movement", [readings.movement(code) for code in (0, 1, 2)], ["unknown", "stopped", "from 0"])
+    equal("movement", [readings.movement(code) for code in (125, 126, 127)], ["reserved"] * 3)
+    ends = {8: 41, 12: 84, 38: 696, 93: 3312, 108: 4704, 123: 8160}
+    for code, edge in ends.items():
+        equal(f"movement {code}", readings.movement(code), f"from {edge}")
+    equal("west, code 1", readings.speed(1, 1, 1), 0)
+    equal("speed 1023 west", readings.speed(1, 1, 1023), "over")
+    equal("speed 0 west", readings.speed(1, 1, 0), "unknown")
+    equal("rate 510", readings.rate(0, 510), 32576)
+    equal("rate 1 down", readings.rate(1, 1), 0)
+    equal("difference 127", readings.difference(0, 127), "over")
+    sets = [readings.category_set(code) for code in range(32)]
+    equal("category sets", sets, ["none", "D", "C", "B", "A"] + ["none"] * 27)
+    shown = "?ABCDEFGHIJKLMNOPQRSTUVWXYZ????? ???????????????0123456789??????"
+    equal("characters", "".join(chr(readings.character(code)) for code in range(64)), shown)
+
+
+def altitudes():
+    """The examples, Gillham rows, and what is known of all 2,048 codes with Q 0."""
+    for code, due in published.ALTITUDE_EXAMPLES:
+        equal(f"altitude {code}", readings.altitude(code), due)
+    for front, back, code, feet in published.GILLHAM_ROWS:
+        d2, d4, a1, a2, a4, b1, b2, b4 = front
+        c1, c2, c4 = back
+        equal(f"Gillham {front} {back}", int("".join([c1, a1, c2, a2, c4, a4, b1, "0", b2, d2, b4, d4]), 2), code)
+        equal(f"altitude {code}", readings.altitude(code), feet)
+    q_0 = [code for code in range(4096) if not code & 16]
+    known = {readings.altitude(code): code for code in q_0 if readings.altitude(code) != "unknown"}
+    unknown = [code for code in q_0 if readings.altitude(code) == "unknown"]
+    equal("Gillham altitudes", sorted(known), list(range(-1200, 126701, 100)))
+    equal("unknown besides 0", len(unknown) - 1, 767)
+    for feet in range(-1200, 126700, 100):
+        equal(f"{feet} and the next", (known[feet] ^ known[feet + 100]).bit_count(), 1)
+    q_1 = [readings.altitude(code) for code in range(4096) if code & 16]
+    equal("25-foot altitudes", q_1, list(range(-1000, 50176, 25)))
+    equal("altitude 3128", readings.altitude(3128), 38000)
+    equal("altitude 255", readings.altitude(255), 2175)
+
+
+def wide_codes():
+    """A code wider than its bits: 8, and nothing else is."""
+    for name, width, _, reading in readings_vectors.QUESTIONS:
+        wide = [code for code in range(1 << 16) if answer(reading, 0, 0, code) == "refused 8"]
+        equal(f"{name}: 8 just when wider than {width} bits", wide, list(range(1 << width, 1 << 16)))
+    for question, arguments in ((readings.speed, (8, 0, 0)), (readings.speed, (1, 2, 0)), (readings.rate, (2, 0))):
+        refused(8, question, *arguments)
+    refused(8, readings.difference, 2, 0)
+
+
+# Messages
+
+
+def message_rows():
+    """Published messages, their fields and their meaning."""
+    for text, _, number in published.PARITY_ROWS:
+        string = bytes.fromhex(text)
+        if number:
+            refused(number, messages.decode, string)
+        else:
+            equal(text, messages.encode(messages.decode(string)), string)
+    for text, fields in published.FIELD_ROWS:
+        message = messages.decode(bytes.fromhex(text))
+        for name, due in fields.items():
+            equal(f"{text} {name}", message[name], due)
+        equal(text, messages.encode(message).hex().upper(), text)
+    for text in published.STATUS_MESSAGES:
+        refused(5, messages.decode, bytes.fromhex(text))
+    for text, due in published.TEXTS:
+        equal(text, readings.text(messages.decode(bytes.fromhex(text))["characters"]), due)
+    refused(4, messages.decode, bytes(14))
+    refused(3, messages.decode, (1 << 24).to_bytes(14, "big"))
+
+    ground = messages.decode(bytes.fromhex("8D485020994409940838175B284F"))
+    west = readings.speed(1, ground["east-west direction"], ground["east-west speed"])
+    south = readings.speed(1, ground["north-south direction"], ground["north-south speed"])
+    equal("west 8, south 159 knots", (west, south), (-8, -159))
+    true("159.20 knots", Fraction("159.195") ** 2 <= west**2 + south**2 < Fraction("159.205") ** 2)
+    track = 180 + positions.arctangent(Decimal(8) / Decimal(159)) * 45 / positions.arctangent(Decimal(1))
+    equal("182.88 degrees", round(track, 2), Decimal("182.88"))
+    equal("-832 ft/min", readings.rate(ground["rate sign"], ground["rate"]), -832)
+    equal("+550 feet", readings.difference(ground["difference sign"], ground["difference"]), 550)
+    air = messages.decode(bytes.fromhex("8DA05F219B06B6AF189400CBC33F"))
+    equal("243.984375 degrees", readings.heading(air["heading"]) * UNIT, Fraction("243.984375"))
+    equal("375 knots", readings.speed(air["subtype"], 0, air["airspeed"]), 375)
+    equal("-2,304 ft/min", readings.rate(air["rate sign"], air["rate"]), -2304)
+    equal("difference unknown", readings.difference(air["difference sign"], air["difference"]), "unknown")
+    equal("140.625 degrees", readings.surface_heading(50) * UNIT, Fraction("140.625"))
+    equal("98.4375 degrees", readings.surface_heading(35) * UNIT, Fraction("98.4375"))
+
+
+def layouts():
+    """Each layout has bits 6 to 56 of ME, each once, in order; each TYPE its layout."""
+    of_type = {}
+    for type_code in range(32):
+        for subtype in range(8):
+            of_type[type_code, subtype] = messages.layout(type_code, subtype)
+    for fields in [fields for fields in of_type.values() if fields]:
+        ends = [5] + [last for _, _, last in fields]
+        equal("bits in order", [first for _, first, _ in fields], [last + 1 for last in ends[:-1]])
+        equal("last bit", ends[-1], 56)
+    taken = {type_code for (type_code, _), fields in of_type.items() if fields}
+    equal("TYPEs taken", taken, set(range(1, 23)))
+    equal("subtypes taken", [s for s in range(8) if of_type[19, s]], [1, 2, 3, 4])
+
+
+def message_laws():
+    """The order 1, 3, 4, 5, bit by bit; both round trips; what the encoder refuses."""
+    chance = Random(12)
+    for string in message_vectors.strings():
+        bits = f"{int.from_bytes(string, 'big'):0{8 * len(string)}b}" if string else ""
+        if len(string) != 14:
+            due = 1
+        elif remainder(string) != 0:
+            due = 3
+        elif bits[:5] != "10001" and bits[:8] not in ("10010000", "10010001"):
+            due = 4
+        elif not "00001" <= bits[32:37] <= "10110":
+            due = 5
+        elif bits[32:37] == "10011" and not "001" <= bits[37:40] <= "100":
+            due = 5
+        else:
+            due = 0
+        if due:
+            refused(due, messages.decode, string)
+            continue
+        message = messages.decode(string)
+        equal(string.hex(), messages.encode(message), string)
+        equal("decode of encode", messages.decode(messages.encode(message)), message)
+        equal("the bits", "".join(f"{value:b}" for value in message.values()).count("1"), bits[:88].count("1"))
+        fields = messages.HEAD + messages.layout(message["TYPE"], message.get("subtype"))
+        name, first, last = chance.choice(fields)
+        refused(8, messages.encode, message | {name: message[name] + (1 << last - first + 1)})
+        refused(8, messages.encode, message | {"DF": 18, "CA or CF": 2})
+        refused(8, messages.encode, message | {"TYPE": chance.choice([0, *range(23, 32)])})
+        refused(8, messages.encode, message | {"TYPE": 4 if message["TYPE"] > 4 else 5})
+
+
+# Positions
+
+
+def table():
+    """NL: the table against the published formula, and its edges."""
+    try:
+        positions.check_table()
+        true("the table is the published one", True)
+    except ValueError as wrong:
+        true(f"the table is the published one: {wrong}", False)
+    equal("58 figures", len(FIGURES), 58)
+    equal("strictly rising", FIGURES, sorted(set(FIGURES)))
+    for nl, figure in zip(range(59, 1, -1), FIGURES):
+        for sign in (1, -1):
+            at = Fraction(sign * figure, 10**8)
+            equal(f"NL at {figure}", zone_count(at), nl)
+            equal(f"NL above {figure}", zone_count(at + sign * Fraction(1, 10**12)), nl - 1)
+        on_grid = Fraction(figure * 60 * 59 * COUNTS, 90 * 10**8).denominator == 1
+        equal(f"{figure} is the latitude of a count", on_grid, nl == 2)
+    equal("NL at 0 and 90", (zone_count(0), zone_count(90), zone_count(-90)), (59, 1, 1))
+    equal("87 exactly", zone_count(Fraction(87)), 2)
+    equal("one even count more", zone_count(87 + positions.angle_of(1, 60, AIRBORNE)), 1)
+
+
+def position_rows():
+    """Published positions, the public rows and the paper's examples."""
+    for counts, later, latitude, longitude in published.PAIR_ROWS:
+        equal(f"pair {counts} {later}", positions.pair(later, *counts), (latitude, longitude))
+    for counts, later, latitude, longitude in published.PAIR_DEGREES:
+        place = positions.pair(later, *counts)
+        true(f"pair {counts}", published.close(place, latitude, longitude, published.printed(latitude)))
+    exactly = positions.paired_place(EVEN, 93000, 51372, 74158, 50194)
+    equal("52.2572021484375", exactly, (Fraction("52.2572021484375"), Fraction("3.91937255859375")))
+    for turn, i, counts, reference, (latitude, longitude) in published.SINGLE_DEGREES:
+        place = positions.single(turn, i, *counts, *published.units(*reference))
+        true(f"single {counts}", published.close(place, latitude, longitude, published.printed(latitude)))
+    for turn, i, counts, reference, due in published.SINGLE_UNITS:
+        equal(f"single {counts}", positions.single(turn, i, *counts, *published.units(*reference)), due)
+
+    rows = list(published.public_rows())
+    equal("public rows in scope", len(rows), 34)
+    for row in rows:
+        later = ODD if row["latest"] == "odd" else EVEN
+        even, odd = ((row[f"{f}_lat"], row[f"{f}_lon"]) for f in ("even", "odd"))
+        if row["kind"] == "global_air":
+            place = positions.pair(later, *map(int, even + odd))
+        else:
+            turn = AIRBORNE if row["kind"] == "rel_air" else SURFACE
+            counts = map(int, odd if later == ODD else even)
+            place = positions.single(turn, later, *counts, *published.units(row["reflat"], row["reflon"]))
+        # six digits are printed: half of the last, and half a unit of 2^-32 of a turn
+        true(f"public row {row}", published.close(place, row["lat"], row["lon"], published.printed(row["lat"])))
+        equal("public row's result", row["result"], "0")
+
+    north, south, east = 2**29, -(2**29), 2**30
+    equal("45 N 90 E", position_vectors.both_ways(north, east), [65536, 65536, 49152, 32768])
+    equal("45 S", position_vectors.both_ways(south, east)[::2], [65536, 81920])
+    for later in (EVEN, ODD):
+        refused(9, positions.pair, later, 0, 0, 65536, 0)
+        equal("90 N", positions.pair(later, 0, 0, 98304, 0)[0], 2**30)
+        equal("270 exactly is 90 S", positions.pair(later, 0, 0, 32768, 0)[0], -(2**30))
+        refused(9, positions.pair, later, 0, 0, 98305, 0)
+        refused(9, positions.pair, later, COUNTS - 1, 0, 32768, 0)
+    equal("the site", positions.single(SURFACE, EVEN, 0, 0, north, east), (north, east))
+    equal("a longitude that rounds to 2^32", positions.hand_out(0, 360 - UNIT / 2), (0, 0))
+    equal("one that does not", positions.hand_out(0, 360 - UNIT * 51 / 100), (0, 2**32 - 1))
+    equal("half up, also under zero", positions.hand_out(-UNIT / 2, UNIT / 2), (0, 1))
+    equal("j", (positions.latitude_zone(0, COUNTS - 1), positions.latitude_zone(COUNTS - 1, 0)), (-60, 59))
+    for nl in range(1, 60):
+        equal("m", positions.longitude_zone(0, COUNTS - 1, nl), -nl)
+        even, _, odd, _ = position_vectors.both_ways(position_vectors.band(nl), 0)
+        _, longitude = positions.paired_place(ODD, even, 0, odd, COUNTS - 1)
+        due = 360 - Fraction(360, max(nl - 1, 1) * COUNTS)
+        equal("m of -NL, odd later: one count below a turn", longitude, due)
+
+
+def published_encode(turn, i, latitude, longitude):
+    """Encoding as the standard prints it: YZ = floor(2^17 MOD(lat, D)/D + 1/2), Rlat, XZ; modulo 2^17."""
+    scale = COUNTS * AIRBORNE // turn  # 2^17, on the surface 2^19
+    step = Fraction(360, 60 - i)
+    yz = floor(scale * (latitude % step) / step + Fraction(1, 2))
+    rlat = step * (Fraction(yz, scale) + floor(latitude / step))
+    step = Fraction(360, max(zone_count(rlat) - i, 1))
+    xz = floor(scale * (longitude % step) / step + Fraction(1, 2))
+    return yz % COUNTS, xz % COUNTS
+
+
+def published_single(turn, i, latitude_count, longitude_count, latitude, longitude):
+    """Reading near a reference as the standard prints it, with MOD."""
+
+    def near(count, reference, step):
+        zone = floor(reference / step) + floor(Fraction(1, 2) + reference % step / step - Fraction(count, COUNTS))
+        return step * (zone + Fraction(count, COUNTS))
+
+    rlat = near(latitude_count, latitude, Fraction(turn, 60 - i))
+    if abs(rlat) > 90:
+        return None
+    return rlat, near(longitude_count, longitude, Fraction(turn, max(zone_count(rlat) - i, 1))) % 360
+
+
+def places(chance):
+    """Places all over, near the transitions and at the ends."""
+    for _ in range(600):
+        yield position_vectors.random_latitude(chance), chance.getrandbits(32)
+    for figure in FIGURES:
+        for sign in (1, -1):
+            edge = positions.nearest(sign * Fraction(figure, 10**8) / UNIT)
+            for aside in (0, chance.randrange(-300, 300)):
+                yield edge + aside, chance.getrandbits(32)
+    for latitude in (0, 1, -1, 2**30, -(2**30), 2**30 - 1):
+        for longitude in (0, 1, 2**31, 2**32 - 1):
+            yield latitude, longitude
+
+
+def around(one, other):
+    """The distance of two longitudes around the circle."""
+    return min((one - other) % 360, (other - one) % 360)
+
+
+def position_laws():
+    """Encoding one place both ways and pairing; half a count; single; the standard's own forms."""
+    chance = Random(13)
+    both = {AIRBORNE: 0, SURFACE: 0}
+    for latitude, longitude in places(chance):
+        true_place = latitude * UNIT, longitude * UNIT
+        for turn in (AIRBORNE, SURFACE):
+            nls, rounded_places, counts = [], [], []
+            for i in (EVEN, ODD):
+                rlat, rlon, _, _, nl = positions.rounded_place(turn, i, *true_place)
+                nls.append(nl)
+                rounded_places.append((rlat, rlon % 360))
+                mine = positions.encode(turn, i, latitude, longitude)
+                counts += mine
+                equal("as the standard encodes", mine, published_encode(turn, i, *true_place))
+                n = max(nl - i, 1)
+                half_counts = Fraction(turn, 2 * zones(i) * COUNTS), Fraction(turn, 2 * n * COUNTS)
+                true("half a count of latitude", abs(rlat - true_place[0]) <= half_counts[0])
+                true("half a count of longitude", around(rlon, true_place[1]) <= half_counts[1])
+                place = positions.single_place(turn, i, *mine, latitude, longitude)
+                equal("single at the place", place, rounded_places[-1])
+            if turn == SURFACE:
+                continue
+            for later in (EVEN, ODD):
+                if nls[EVEN] != nls[ODD]:
+                    both[turn] += 1
+                    refused(10, positions.paired_place, later, *counts)
+                else:
+                    equal("paired", positions.paired_place(later, *counts), rounded_places[later])
+    true("some places differ in NL", both[AIRBORNE] > 20)
+    for _ in range(600):
+        turn, i = chance.choice((AIRBORNE, SURFACE)), chance.choice((EVEN, ODD))
+        counts = position_vectors.random_counts(chance, 2)
+        reference = position_vectors.random_latitude(chance), chance.getrandbits(32)
+        due = published_single(turn, i, *counts, reference[0] * UNIT, reference[1] * UNIT)
+        if due is None:
+            refused(9, positions.single_place, turn, i, *counts, *reference)
+            continue
+        place = positions.single_place(turn, i, *counts, *reference)
+        equal("as the standard reads it", place, due)
+        half = Fraction(turn, 2 * zones(i))
+        true("within half a zone", -half < place[0] - reference[0] * UNIT <= half)
+
+
+def position_ties():
+    """Halves: j and m go up, a reference half a zone below the place still gives it."""
+    chance = Random(15)
+    for _, _, even, even_longitude, odd, odd_longitude in position_vectors.half_zones(chance):
+        j = positions.latitude_zone(even, odd)
+        exactly = 59 * even - 60 * odd
+        if exactly % COUNTS == COUNTS // 2:
+            equal("halfway j", j * COUNTS, exactly + COUNTS // 2)
+        nl = zone_count(positions.paired_latitude(j, even, EVEN))
+        m = positions.longitude_zone(even_longitude, odd_longitude, nl)
+        exactly = even_longitude * (nl - 1) - odd_longitude * nl
+        if exactly % COUNTS == COUNTS // 2:
+            equal("halfway m", m * COUNTS, exactly + COUNTS // 2)
+    for turn in (AIRBORNE, SURFACE):
+        for i in (EVEN, ODD):
+            for _ in range(50):
+                reference, count = position_vectors.boundary(chance, zones(i), turn, -(2**30), 2**30)
+                place = positions.nearby(count, reference * UNIT, zones(i), turn)
+                equal("half a zone ahead", place - reference * UNIT, Fraction(turn, 2 * zones(i)))
+
+
+def refusals_of_positions():
+    """8 before 9 and 10; and 9 never meets 10, since the two latitudes lie within 360/7080 degrees."""
+    chance = Random(14)
+    for question in position_vectors.refused(chance):
+        wide_count = any(count >= COUNTS for count in question[2 : 6 if question[0] == 2 else 4])
+        if question[0] in (0, 1):
+            due = abs(question[2]) > 2**30
+        elif question[0] == 2:
+            due = wide_count
+        else:
+            due = wide_count or abs(question[4]) > 2**30
+        equal(f"8 for {question}", answer(position_vectors.answered, *question) == "refused 8", due)
+    for _ in range(2000):
+        even, odd = position_vectors.random_counts(chance, 2)
+        j = positions.latitude_zone(even, odd)
+        latitudes = positions.paired_latitude(j, even, EVEN), positions.paired_latitude(j, odd, ODD)
+        true("-90 and up, below 270", all(-90 <= latitude < 270 for latitude in latitudes))
+        true("within half a step", around(*latitudes) <= Fraction(360, 60 * 59 * 2))
+        if max(latitudes) > 90:
+            equal("NL beyond the pole", [zone_count(latitude) for latitude in latitudes], [1, 1])
+
+
+TESTS = [
+    parity_rows,
+    parity_laws,
+    coding_rows,
+    altitudes,
+    wide_codes,
+    message_rows,
+    layouts,
+    message_laws,
+    table,
+    position_rows,
+    position_laws,
+    position_ties,
+    refusals_of_positions,
+]
+
+
+def main():
+    for test in TESTS:
+        test()
+    for failure in failures:
+        print(failure)
+    print(f"{assertions} assertions, {len(failures)} failed")
+    return 1 if failures else 0
+
+
+if __name__ == "__main__":
+    sys.exit(main())
