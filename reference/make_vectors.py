@@ -2,8 +2,8 @@
 
     python3 reference/make_vectors.py [--check] [--root FOLDER] [PROGRAM ...]
 
-Without a PROGRAM: those that have a folder under crates/. With --check nothing is written; the first
-difference is named and the status is 1.
+Without a PROGRAM: those that crates.txt lists. With --check nothing is written; the first difference
+is named and the status is 1.
 """
 
 import argparse
@@ -18,6 +18,13 @@ PROGRAMS = {
     "position_vectors": position_vectors,
     "message_vectors": message_vectors,
 }
+
+
+def listed(root):
+    """The vector programs of crates.txt, where a line is a name, a colon and what the crate needs."""
+    lines = (root / "crates.txt").read_text(encoding="ascii").splitlines()
+    names = [line.partition(":")[0].strip() for line in lines]
+    return [name for name in names if name.endswith("_vectors")]
 
 
 def made(program):
@@ -61,11 +68,13 @@ def main():
     parser.add_argument("--root", type=Path, default=Path(__file__).resolve().parent.parent)
     parser.add_argument("program", nargs="*")
     arguments = parser.parse_args()
-    for program in arguments.program:
+    root = arguments.root
+    programs = arguments.program or listed(root)
+    if not programs:
+        parser.error("crates.txt lists no vector program")
+    for program in programs:
         if program not in PROGRAMS:
             parser.error(f"no vector program {program}: there are {', '.join(PROGRAMS)}")
-    root = arguments.root
-    programs = arguments.program or [program for program in PROGRAMS if (root / "crates" / program).is_dir()]
     for program in programs:
         files, count = made(program)
         for name, content in files.items():
@@ -74,8 +83,6 @@ def main():
             elif not check(root, program, name, content):
                 return 1
         print(f"{program}: {count} cases {'as made' if arguments.check else 'written'}")
-    if not programs:
-        print("no vector program has a folder under crates/")
     return 0
 
 
