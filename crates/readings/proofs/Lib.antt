@@ -1,2 +1,3 @@
 pub mod BelowZero
+pub mod Ruled
 pub mod Unique
