@@ -1,5 +1,2 @@
-pub mod Entries
-pub mod Linear
 pub mod Seal
 pub mod Unique
-pub mod Xor

@@ -1,45 +1,35 @@
-// The parity of a byte string: its remainder on division by x^24 plus the terms of 0xFFF409, a byte at a time by a table.
-mod table;
-
-use table::entry;
+// The parity of a byte string of any length: its remainder on division by x^24 plus the terms of 0xFFF409.
 ghost use mathlib.Core.Path.{_≡_};
-ghost use mathlib.Core.List.{_∷_, []};
-ghost use Prim.Native.Nat.{_<_, _^_};
-ghost use Rattle.parity.specs.Division.{remainderFrom, remainder, seal, bitsOf};
-
-fn wide(x: u8) -> u32
-    ensures { λ r. ⌜ (r ≡ x) × (r < 256) ⌝ }
-{
-    x as u32
-}
-
-// The remainder of one byte more: the low 16 bits move up, and the table says what the high 8 leave.
-fn feed(r: u32, byte: u8) -> u32
-    requires { ⌜ r < 2 ^ 24 ⌝ }
-    ensures { λ q. ⌜ (q ≡ remainderFrom r (bitsOf (byte ∷ []))) × (q < 2 ^ 24) ⌝ }
-{
-    let t = entry(r / 0x1_0000 % 256);
-    (r % 0x1_0000 * 256 + wide(byte)) ^ t
-}
-
-// The remainder of the bytes, of any number of them.
-pub fn remainder_of(s: &[u8]) -> u32
-    ensures { λ r. ⌜ r ≡ remainder (now (s .entry)) ⌝ }
-{
-    let mut r: u32 = 0;
-    let mut i: usize = 0;
-    while i < s.len() {
-        r = feed(r, s[i]);
-        i += 1;
-    }
-    r
-}
+ghost use Prim.Native.Nat.{_%_, _^_};
+ghost use Rattle.parity.specs.Parity.{remainder, seal};
 
 // The number whose three bytes, set behind s, make the remainder 0.
 pub fn seal_of(s: &[u8]) -> u32
     ensures { λ r. ⌜ r ≡ seal (now (s .entry)) ⌝ }
 {
-    let r = feed(remainder_of(s), 0);
-    let r = feed(r, 0);
-    feed(r, 0)
+    let mut r: u32 = 0;
+    let mut i: usize = 0;
+    while i < s.len() {
+        r = division::step(r, s[i]);
+        i += 1;
+    }
+    r
+}
+
+fn low24(n: u64) -> u32
+    ensures { λ r. ⌜ r ≡ n % 2 ^ 24 ⌝ }
+{
+    (n % 0x100_0000) as u32
+}
+
+// The remainder of the bytes. Of up to three it is the number that they make; more add their last three to the seal of the others.
+pub fn remainder_of(s: &[u8]) -> u32
+    ensures { λ r. ⌜ r ≡ remainder (now (s .entry)) ⌝ }
+{
+    let n = s.len();
+    if n < 3 {
+        return low24(fields::number_of(s));
+    }
+    let q = seal_of(&s[0..n - 3]);
+    q ^ low24(fields::number_of(&s[n - 3..n]))
 }

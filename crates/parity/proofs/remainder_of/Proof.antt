@@ -1,63 +1,92 @@
--- `parity::remainder_of` meets its contract: `r` is the remainder of the bytes passed.
+-- `parity::remainder_of` meets its contract: up to three bytes are their own remainder, and more are taken in two parts.
 -- Assumes nothing.
-use Prim.Native.Nat.{ℕ, _+_, _-_, _^_, _<_, _≤_}
-use mathlib.Core.Path.{_≡_, ap, _∙_}
-use mathlib.Core.List.{List, _++_, _∷_, []}
+use Prim.Native.Nat.{ℕ, _-_, _%_, _^_, _≤_}
+use mathlib.Core.Path.{_≡_, sym, ap, ap₂, _∙_}
+use mathlib.Core.List.{List}
 use native.Mathlib.Omega.{arith}
-use native.Mathlib.Numerals.{add-one}
+use lib.ListN.{length, take, drop, length-drop}
+use lib.Seq.{take-all}
+use lib.Bits.{bitXor}
 use borrow.Author.Needs.{needs}
-use lib.ListN.{length, take, getD}
-use lib.Seq.{take-suc, take-all}
-use Rattle.parity.specs.Division.{remainderFrom, remainder, bitsOf}
-use Rattle.parity.proofs.Linear.{remainder-more}
+use Rattle.fields.specs.Bytes.{number, Bytes}
+use Rattle.fields.proofs.Bytes.{bytes-drop}
+use Rattle.parity.specs.Parity.{seal}
+use Rattle.parity.proofs.Seal.{short, low-number, by-parts}
 use Rattle.parity.proofs.remainder_of.Statement.{statement}
 use Rattle.parity.proofs.remainder_of.Tie as tie
 
-abbrev Inv-loop : tie.InvT-loop
-Inv-loop s r₀ i₀ r i = (i ≤ length s) × (r ≡ remainder (take i s)) × (r < 2 ^ 24)
+number-of-requires : tie.Need-number-of-requires
+number-of-requires c κs = search needs
 
-abbrev μ-loop : tie.MeasureT-loop
-μ-loop s r₀ i₀ r i = length s - i
+low24-requires : tie.Need-low24-requires
+low24-requires c κs = search needs
 
-loop-holds : tie.Need-loop-holds Inv-loop μ-loop
-unfolding remainder remainderFrom
-loop-holds c = search needs
-
-shared-slice-read-feed : tie.Need-shared-slice-read-feed Inv-loop μ-loop
-shared-slice-read-feed c = search needs
-
-feed-requires : tie.Need-feed-requires Inv-loop μ-loop
-feed-requires c κs = search needs
-
-add-i : tie.Need-add-i Inv-loop μ-loop
-add-i c = search needs
-
-loop-less : tie.Need-loop-less Inv-loop μ-loop
-loop-less c = search needs
-
-loop-again : tie.Need-loop-again Inv-loop μ-loop
-loop-again c =
-    let i = c .before .before .before .loop .i in
-    let s = c .before .before .before .before .before .args .s .now in
-    let e : take (i + 1) s ≡ take i s ++ (getD s i 0 ∷ []) = rw add-one (take-suc s i 0 (omega arith)) in
-    let m : remainder (take (i + 1) s) ≡ remainderFrom (remainder (take i s)) (bitsOf (getD s i 0 ∷ [])) = ap remainder e ∙ remainder-more (take i s) (getD s i 0 ∷ []) in
-    (omega arith, rw (m, ← c .before .before .before .loop .inv .1) (c .feed .ensures .0), c .feed .ensures .1)
-
-returns : tie.Need-returns Inv-loop μ-loop
+returns : tie.Need-returns
 returns c =
-    let l = c .before .loop in
-    l .inv .1 ∙ ap remainder (take-all (l .i) _ (omega arith))
+    let a = c .before .before .before in
+    let s = a .before .args .s .now in
+    let h : Bytes s = λ i. omega (arith, a .shared-slice-known .given i) in
+    c .low24 .ensures
+    ∙ ap (λ (n : ℕ). n % 2 ^ 24) (c .before .number-of .ensures)
+    ∙ low-number s h (omega arith)
+    ∙ sym (short s h (omega arith))
+
+sub-seal-of : tie.Need-sub-seal-of
+sub-seal-of c = search needs
+
+part-seal-of-start : tie.Need-part-seal-of-start
+part-seal-of-start c = search needs
+
+part-seal-of-end : tie.Need-part-seal-of-end
+part-seal-of-end c = search needs
+
+seal-of-requires : tie.Need-seal-of-requires
+seal-of-requires c κs = search needs
+
+sub-number-of : tie.Need-sub-number-of
+sub-number-of c = search needs
+
+part-number-of-start : tie.Need-part-number-of-start
+part-number-of-start c = search needs
+
+part-number-of-end : tie.Need-part-number-of-end
+part-number-of-end c = search needs
+
+number-of-requires-2 : tie.Need-number-of-requires-2
+number-of-requires-2 c κs = search needs
+
+low24-requires-2 : tie.Need-low24-requires-2
+low24-requires-2 c κs = search needs
+
+returns-2 : tie.Need-returns-2
+returns-2 c =
+    let a = c .before .before .before .before .before .before in
+    let s = a .before .args .s .now in
+    let h : Bytes s = λ i. omega (arith, a .shared-slice-known .given i) in
+    let k : ℕ = length s - 3 in
+    let j : k - 0 ≡ k = omega arith in
+    let q : c .before .before .before .seal-of .result ≡ seal (take k s) = c .before .before .before .seal-of .ensures ∙ ap (λ (i : ℕ). seal (take i s)) j in
+    let l : length (drop k s) ≤ length s - k = omega (arith, length-drop k s) in
+    let t : c .low242 .result ≡ number (drop k s) =
+    c .low242 .ensures
+    ∙ ap (λ (n : ℕ). n % 2 ^ 24) (c .before .number-of2 .ensures ∙ ap (λ (x : List ℕ). number x % 2 ^ 64) (take-all (length s - k) (drop k s) l))
+    ∙ low-number (drop k s) (bytes-drop k s h) (omega (arith, length-drop k s)) in
+    ap₂ bitXor q t ∙ by-parts s k h (omega arith)
 
 pub remainder-of-spec : {M : Type 1} → statement M
 remainder-of-spec =
     tie.close
     (tie.spec
-    Inv-loop
-    μ-loop
-    loop-holds
-    shared-slice-read-feed
-    feed-requires
-    add-i
-    loop-less
-    loop-again
-    returns)
+    number-of-requires
+    low24-requires
+    returns
+    sub-seal-of
+    part-seal-of-start
+    part-seal-of-end
+    seal-of-requires
+    sub-number-of
+    part-number-of-start
+    part-number-of-end
+    number-of-requires-2
+    low24-requires-2
+    returns-2)

@@ -1,40 +1,71 @@
--- `parity::seal_of` meets its contract: three zero bytes more, one after the other.
+-- `parity::seal_of` meets its contract: `r` is the seal of the bytes passed.
 -- Assumes nothing.
-use Prim.Native.Nat.{ℕ, _<_, _^_}
-use mathlib.Core.Path.{_≡_, subst, sym, ap, _∙_}
-use mathlib.Core.List.{List, [], _∷_, _++_}
+use Prim.Native.Nat.{ℕ, _+_, _-_, _%_, _^_, _<_, _≤_}
+use mathlib.Core.Path.{_≡_, sym, ap, subst, _∙_}
+use mathlib.Core.List.{List, _++_, _∷_, []}
+use native.Mathlib.Nat.{mod-eq-of-lt}
+use native.Mathlib.Omega.{arith}
+use native.Mathlib.Numerals.{add-one}
 use borrow.Author.Needs.{needs}
-use Rattle.parity.specs.Division.{remainderFrom, remainder, seal, bitsOf}
-use Rattle.parity.proofs.Linear.{more-bits, remainder-more, remainder-below}
+use lib.ListN.{length, take, getD}
+use lib.Seq.{take-suc, take-all}
+use Rattle.division.specs.Division.{stepped}
+use Rattle.parity.specs.Parity.{seal}
+use Rattle.parity.proofs.Seal.{seal-none, seal-more, seal-below}
 use Rattle.parity.proofs.seal_of.Statement.{statement}
 use Rattle.parity.proofs.seal_of.Tie as tie
 
-zero : List ℕ
-zero = bitsOf (0 ∷ [])
+abbrev Inv-loop : tie.InvT-loop
+Inv-loop s r₀ i₀ r i = (i ≤ length s) × (r ≡ seal (take i s))
 
-by-three : (s : List ℕ) → remainderFrom (remainderFrom (remainderFrom (remainder s) (bitsOf (0 ∷ []))) (bitsOf (0 ∷ []))) (bitsOf (0 ∷ [])) ≡ seal s
-unfolding seal zero
-by-three s =
-    sym (remainder-more s (0 ∷ 0 ∷ 0 ∷ [])
-    ∙ more-bits (remainder s) zero (zero ++ zero)
-    ∙ more-bits (remainderFrom (remainder s) zero) zero zero)
+abbrev μ-loop : tie.MeasureT-loop
+μ-loop s r₀ i₀ r i = length s - i
 
-remainder-of-requires : tie.Need-remainder-of-requires
-remainder-of-requires c κs = search needs
+loop-holds : tie.Need-loop-holds Inv-loop μ-loop
+loop-holds c = (omega arith, sym seal-none)
 
-feed-requires : tie.Need-feed-requires
-feed-requires c κs = subst (λ (r : ℕ). r < 2 ^ 24) (sym (c .remainder-of .ensures)) (remainder-below _)
+shared-slice-read-step : tie.Need-shared-slice-read-step Inv-loop μ-loop
+shared-slice-read-step c = search needs
 
-feed-requires-2 : tie.Need-feed-requires-2
-feed-requires-2 c κs = search needs
+step-requires : tie.Need-step-requires Inv-loop μ-loop
+step-requires c κs = search needs
 
-feed-requires-3 : tie.Need-feed-requires-3
-feed-requires-3 c κs = search needs
+add-i : tie.Need-add-i Inv-loop μ-loop
+add-i c = search needs
 
-returns : tie.Need-returns
-returns c = cc (by-three (c .before .before .before .before .before .args .s .now))
+loop-less : tie.Need-loop-less Inv-loop μ-loop
+loop-less c = search needs
+
+loop-again : tie.Need-loop-again Inv-loop μ-loop
+loop-again c =
+    let l = c .before .before .before .loop in
+    let i = l .i in
+    let s = c .before .before .before .before .before .args .s .now in
+    let e : take (i + 1) s ≡ take i s ++ (getD s i 0 ∷ []) = rw add-one (take-suc s i 0 (omega arith)) in
+    let b : getD s i 0 < 256 = omega (arith, c .before .shared-slice-known2 .given i) in
+    let m : l .r % 2 ^ 24 ≡ seal (take i s) =
+    ap (λ (n : ℕ). n % 2 ^ 24) (l .inv .1) ∙ mod-eq-of-lt (seal-below (take i s)) in (
+      omega arith,
+      c .step .ensures
+          ∙ ap (λ (n : ℕ). stepped n (getD s i 0)) m
+          ∙ sym (ap seal e ∙ seal-more (take i s) (getD s i 0) b),
+    )
+
+returns : tie.Need-returns Inv-loop μ-loop
+returns c =
+    let l = c .before .loop in
+    l .inv .1 ∙ ap seal (take-all (l .i) _ (omega arith))
 
 pub seal-of-spec : {M : Type 1} → statement M
 seal-of-spec =
     tie.close
-    (tie.spec remainder-of-requires feed-requires feed-requires-2 feed-requires-3 returns)
+    (tie.spec
+    Inv-loop
+    μ-loop
+    loop-holds
+    shared-slice-read-step
+    step-requires
+    add-i
+    loop-less
+    loop-again
+    returns)

@@ -8,13 +8,12 @@ use mathlib.Core.List.{List, [], _∷_, _++_, append-assoc}
 use native.Mathlib.Nat.{mod-lt}
 use native.Mathlib.Omega.{arith}
 use lib.Dec.{ltb, lit<}
-use lib.ListN.{length}
-use lib.Bits.{bitXor, xor-block, xor-lt, xor-comm, xor-shr, xor-mod}
+use lib.ListN.{length, replicate}
+use lib.Bits.{bitXor, xor-block, xor-lt, xor-comm, xor-shr, xor-mod, xor-zero-l}
 use borrow.Author.Tests.{ltb-true, ltb-false, lt-ltb, le-ltb}
 use Rattle.fields.specs.Packing.{unpack}
-use Rattle.fields.specs.Bytes.{Bytes}
-use Rattle.parity.specs.Division.{reduce, remainderFrom, bitsOf, remainder, xorAll}
-use Rattle.parity.proofs.Xor.{swap, twice}
+use Rattle.division.specs.Division.{reduce, remainderFrom, bitsOf, xorAll}
+use Rattle.division.proofs.Xor.{swap, twice}
 
 -- ---- one step
 
@@ -126,14 +125,6 @@ bits-append (x ∷ xs) ys =
 pub more-bytes : (r : ℕ) (xs ys : List ℕ) → remainderFrom r (bitsOf (xs ++ ys)) ≡ remainderFrom (remainderFrom r (bitsOf xs)) (bitsOf ys)
 more-bytes r xs ys = ap (remainderFrom r) (bits-append xs ys) ∙ more-bits r (bitsOf xs) (bitsOf ys)
 
-pub remainder-more : (xs ys : List ℕ) → remainder (xs ++ ys) ≡ remainderFrom (remainder xs) (bitsOf ys)
-unfolding remainder
-remainder-more xs ys = more-bytes 0 xs ys
-
-pub remainder-below : (s : List ℕ) → remainder s < 2 ^ 24
-unfolding remainder
-remainder-below s = below-24 0 (bitsOf s) (lit< tt) (bits-bits s)
-
 -- a bit of an exclusive-or
 bit : (x y k : ℕ) → bitXor x y / 2 ^ k % 2 ≡ bitXor (x / 2 ^ k % 2) (y / 2 ^ k % 2)
 bit x y k = ap (λ (n : ℕ). n % 2) (xor-shr x y k) ∙ xor-mod (x / 2 ^ k) (y / 2 ^ k) 1
@@ -141,7 +132,7 @@ bit x y k = ap (λ (n : ℕ). n % 2) (xor-shr x y k) ∙ xor-mod (x / 2 ^ k) (y 
 cons : {x y : ℕ} {xs ys : List ℕ} → x ≡ y → xs ≡ ys → x ∷ xs ≡ y ∷ ys
 cons p q = ap₂ (λ (d : ℕ) (ds : List ℕ). d ∷ ds) p q
 
-bits-xor : (xs ys : List ℕ) → length xs ≡ length ys → bitsOf (xorAll xs ys) ≡ xorAll (bitsOf xs) (bitsOf ys)
+pub bits-xor : (xs ys : List ℕ) → length xs ≡ length ys → bitsOf (xorAll xs ys) ≡ xorAll (bitsOf xs) (bitsOf ys)
 bits-xor [] [] e = refl
 bits-xor [] (y ∷ ys) e = let z : ⊥ = omega arith in absurd z
 bits-xor (x ∷ xs) [] e = let z : ⊥ = omega arith in absurd z
@@ -149,14 +140,34 @@ bits-xor (x ∷ xs) (y ∷ ys) e =
     let b = bit x y in
     cons (b 7) (cons (b 6) (cons (b 5) (cons (b 4) (cons (b 3) (cons (b 2) (cons (b 1) (cons (b 0) (bits-xor xs ys (omega arith)))))))))
 
-bits-length : (xs ys : List ℕ) → length xs ≡ length ys → length (bitsOf xs) ≡ length (bitsOf ys)
+pub bits-length : (xs ys : List ℕ) → length xs ≡ length ys → length (bitsOf xs) ≡ length (bitsOf ys)
 bits-length [] [] e = refl
 bits-length [] (y ∷ ys) e = let z : ⊥ = omega arith in absurd z
 bits-length (x ∷ xs) [] e = let z : ⊥ = omega arith in absurd z
 bits-length (x ∷ xs) (y ∷ ys) e = omega (arith, bits-length xs ys (omega arith))
 
-pub remainder-xor : (xs ys : List ℕ) → length xs ≡ length ys → remainder (xorAll xs ys) ≡ bitXor (remainder xs) (remainder ys)
-unfolding remainder
-remainder-xor xs ys e =
-    ap (remainderFrom 0) (bits-xor xs ys e)
-    ∙ linear (bitsOf xs) (bitsOf ys) 0 0 (bits-length xs ys e) (lit< tt) (lit< tt) (bits-bits xs) (bits-bits ys)
+-- ---- what bits more do to the remainder: they add what they leave by themselves
+
+zeros : List ℕ → List ℕ
+zeros bs = replicate (length bs) 0
+
+length-zeros : (bs : List ℕ) → length (zeros bs) ≡ length bs
+unfolding zeros
+length-zeros [] = refl
+length-zeros (b ∷ bs) = ap suc (length-zeros bs)
+
+bits-zeros : (bs : List ℕ) → Bits (zeros bs)
+unfolding zeros
+bits-zeros [] = tt
+bits-zeros (b ∷ bs) = (lit< tt, bits-zeros bs)
+
+xor-zeros : (bs : List ℕ) → xorAll (zeros bs) bs ≡ bs
+unfolding zeros
+xor-zeros [] = refl
+xor-zeros (b ∷ bs) = ap₂ (λ (d : ℕ) (ds : List ℕ). d ∷ ds) (xor-zero-l b) (xor-zeros bs)
+
+pub added : (bs : List ℕ) (r s : ℕ) → r < 2 ^ 24 → s < 2 ^ 24 → Bits bs
+    → remainderFrom (bitXor r s) bs ≡ bitXor (remainderFrom r (replicate (length bs) 0)) (remainderFrom s bs)
+unfolding zeros
+added bs r s hr hs g =
+    ap (remainderFrom (bitXor r s)) (sym (xor-zeros bs)) ∙ linear (zeros bs) bs r s (length-zeros bs) hr hs (bits-zeros bs) g

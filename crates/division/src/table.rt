@@ -3,8 +3,8 @@ ghost use mathlib.Core.Path.{_≡_};
 ghost use mathlib.Core.List.{_∷_, []};
 ghost use Prim.Native.Nat.{_<_, _^_};
 ghost use lib.ListN.{getD};
-ghost use Rattle.parity.specs.Division.{remainderFrom};
-ghost use Rattle.parity.specs.Table.{table};
+ghost use Rattle.division.specs.Division.{remainderFrom};
+ghost use Rattle.division.specs.Table.{table};
 
 // One zero bit more.
 fn shift(r: u32) -> u32

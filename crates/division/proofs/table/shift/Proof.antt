@@ -1,4 +1,4 @@
--- `parity::table::shift` meets its contract: one step of the division, by the two cases of `reduce`.
+-- `division::table::shift` meets its contract: one step of the division, by the two cases of `reduce`.
 -- Assumes nothing.
 use Prim.Native.Nat.{ℕ, _+_, _-_, _*_, _^_, _<_}
 use native.Mathlib.Nat.{add-zero}
@@ -7,9 +7,9 @@ use borrow.Author.Needs.{needs}
 use borrow.Author.Tests.{lt-ltb, le-ltb}
 use lib.Bits.{xor-lt}
 use lib.Dec.{lit<}
-use Rattle.parity.specs.Division.{reduce, remainderFrom}
-use Rattle.parity.proofs.table.shift.Statement.{statement}
-use Rattle.parity.proofs.table.shift.Tie as tie
+use Rattle.division.specs.Division.{reduce, remainderFrom}
+use Rattle.division.proofs.table.shift.Statement.{statement}
+use Rattle.division.proofs.table.shift.Tie as tie
 
 mul-x : tie.Need-mul-x
 mul-x c = search needs

@@ -20,13 +20,9 @@ abbrev pub bitsOf : List ℕ → List ℕ
 bitsOf [] = []
 bitsOf (b ∷ bs) = unpack (1 ∷ 1 ∷ 1 ∷ 1 ∷ 1 ∷ 1 ∷ 1 ∷ 1 ∷ []) b ++ bitsOf bs
 
--- the remainder of bytes: bit 1, the top bit of byte 0, is the highest power
-unfoldable pub remainder : List ℕ → ℕ
-remainder s = remainderFrom 0 (bitsOf s)
-
--- the number whose three bytes, set behind s, make the remainder 0
-unfoldable pub seal : List ℕ → ℕ
-seal s = remainder (s ++ 0 ∷ 0 ∷ 0 ∷ [])
+-- one byte of the division from the top: it is added to the eight highest terms of what is left, and eight zero bits follow
+unfoldable pub stepped : ℕ → ℕ → ℕ
+stepped r b = remainderFrom (bitXor r (b * 2 ^ 16)) (bitsOf (0 ∷ []))
 
 -- the exclusive-or of two strings, an element at a time
 abbrev pub xorAll : List ℕ → List ℕ → List ℕ
