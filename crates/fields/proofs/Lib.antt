@@ -1,4 +1,5 @@
 pub mod Bools
 pub mod Bytes
+pub mod Fits
 pub mod Packing
 pub mod Unique
