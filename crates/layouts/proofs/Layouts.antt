@@ -1,21 +1,12 @@
 -- Each layout both ways, by one law: a struct is its list of fields, so what is packed and unpacked comes back by the law of packing.
 -- Assumes nothing.
-use Prim.Native.Nat.{ℕ, _%_, _^_, _<_}
-use mathlib.Core.Path.{_≡_, refl, sym, ap, _∙_}
-use mathlib.Core.Bool.{Bool, true, _&&_}
+use Prim.Native.Nat.{ℕ}
+use mathlib.Core.Path.{_≡_, refl, ap, _∙_}
 use mathlib.Core.List.{List, [], _∷_}
 use lib.ListN.{getD}
-use Rattle.fields.specs.Packing.{total, pack, unpack, Fit, fits}
-use Rattle.fields.proofs.Bools.{and-left}
-use Rattle.fields.proofs.Fits.{fits-fit}
-use Rattle.fields.proofs.Packing.{unpack-pack, pack-lt}
+use Rattle.fields.specs.Packing.{pack, unpack, Fit}
+use Rattle.fields.proofs.Packing.{unpack-pack}
 use Rattle.layouts.specs.Layouts.{
-  isIdentification,
-  identificationOf,
-  surfaceOf,
-  airborneOf,
-  groundOf,
-  airOf,
   identificationFields,
   surfaceFields,
   airborneFields,
@@ -25,7 +16,6 @@ use Rattle.layouts.specs.Layouts.{
   surfaceWidths,
   airborneWidths,
   velocityWidths,
-  identificationFits,
 }
 use Rattle.layouts.specs.declared.identification.Identification.{Identification}
 use Rattle.layouts.specs.declared.surface.Surface.{Surface}
@@ -40,10 +30,6 @@ pub record Layout (B : Type 0) : Type 0 where
   pub fields : B → List ℕ
   pub from : List ℕ → B
   pub again : (b : B) → from (fields b) ≡ b
-
--- what is tested beside the widths does not matter here
-pub fitting : {B : Type 0} (l : Layout B) (b : B) (also : Bool) → fits (l .widths) (l .fields b) && also ≡ true → Fit (l .widths) (l .fields b)
-fitting l b also e = fits-fit (l .widths) (l .fields b) (and-left (fits (l .widths) (l .fields b)) also e)
 
 -- the fields of what is packed are the struct's
 pub unpacked : {B : Type 0} (l : Layout B) (b : B) → Fit (l .widths) (l .fields b) → unpack (l .widths) (pack (l .widths) (l .fields b)) ≡ l .fields b
@@ -143,7 +129,3 @@ air = record {
   };
   again = λ b. refl;
 }
-
--- the characters of an identification that fits are of 48 bits
-pub identification-fit : (b : Identification) → identificationFits b ≡ true → Fit identificationWidths (identificationFields b)
-identification-fit b e = fitting identification b (isIdentification (b .typecode)) e

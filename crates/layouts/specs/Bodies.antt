@@ -1,7 +1,8 @@
 -- ME as a whole: its layout by TYPE and subtype, or the refusal.
 use Prim.Native.Nat.{ℕ}
 use mathlib.Core.List.{List}
-use mathlib.Core.Bool.{Bool, cond}
+use mathlib.Core.Bool.{Bool, cond, _&&_}
+use Rattle.fields.specs.Packing.{pack, fits}
 use Rattle.refusals.specs.declared.Refusal.the-variants.{TypeCode, Field}
 use Rattle.layouts.specs.declared.bodies.Body.{Body}
 use Rattle.layouts.specs.declared.bodies.Body.the-variants as body
@@ -30,16 +31,6 @@ use Rattle.layouts.specs.Layouts.{
   surfaceWidths,
   airborneWidths,
   velocityWidths,
-  identificationMe,
-  surfaceMe,
-  airborneMe,
-  groundMe,
-  airMe,
-  identificationFits,
-  surfaceFits,
-  airborneFits,
-  groundFits,
-  airFits,
 }
 
 -- by TYPE and subtype; any other is not taken
@@ -56,19 +47,35 @@ takenAt type subtype n =
 abbrev pub taken : ℕ → Taken
 taken n = takenAt (me 1 5 n) (me 6 8 n) n
 
-abbrev pub bodyMe : Body → ℕ
-bodyMe (body.Identification b) = identificationMe b
-bodyMe (body.Surface b) = surfaceMe b
-bodyMe (body.Airborne b) = airborneMe b
-bodyMe (body.Ground b) = groundMe b
-bodyMe (body.Air b) = airMe b
+-- the fields in the order of their bits, how many bits each has, and whether TYPE and subtype are those of the layout
+abbrev pub bodyFields : Body → List ℕ
+bodyFields (body.Identification b) = identificationFields b
+bodyFields (body.Surface b) = surfaceFields b
+bodyFields (body.Airborne b) = airborneFields b
+bodyFields (body.Ground b) = groundFields b
+bodyFields (body.Air b) = airFields b
 
+abbrev pub bodyWidths : Body → List ℕ
+bodyWidths (body.Identification b) = identificationWidths
+bodyWidths (body.Surface b) = surfaceWidths
+bodyWidths (body.Airborne b) = airborneWidths
+bodyWidths (body.Ground b) = velocityWidths
+bodyWidths (body.Air b) = velocityWidths
+
+abbrev pub typeAgrees : Body → Bool
+typeAgrees (body.Identification b) = isIdentification (b .typecode)
+typeAgrees (body.Surface b) = isSurface (b .typecode)
+typeAgrees (body.Airborne b) = isAirborne (b .typecode)
+typeAgrees (body.Ground b) = isGround (b .typecode) (b .subtype)
+typeAgrees (body.Air b) = isAir (b .typecode) (b .subtype)
+
+-- the 56 bits that hold the fields
+abbrev pub bodyMe : Body → ℕ
+bodyMe b = pack (bodyWidths b) (bodyFields b)
+
+-- whether each field fits its bits, in a message that would be taken as this layout
 abbrev pub bodyFits : Body → Bool
-bodyFits (body.Identification b) = identificationFits b
-bodyFits (body.Surface b) = surfaceFits b
-bodyFits (body.Airborne b) = airborneFits b
-bodyFits (body.Ground b) = groundFits b
-bodyFits (body.Air b) = airFits b
+bodyFits b = fits (bodyWidths b) (bodyFields b) && typeAgrees b
 
 -- the 56 bits; fields wider than their bits, or with a TYPE or subtype of another layout, are refused
 abbrev pub written : Body → Written

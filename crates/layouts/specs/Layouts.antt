@@ -3,7 +3,7 @@ use Prim.Native.Nat.{ℕ}
 use mathlib.Core.List.{List, [], _∷_}
 use mathlib.Core.Bool.{Bool, _&&_, _||_}
 use lib.Dec.{leb, eqb}
-use Rattle.fields.specs.Packing.{field, pack, fits}
+use Rattle.fields.specs.Packing.{field}
 use Rattle.layouts.specs.declared.identification.Identification.{Identification}
 use Rattle.layouts.specs.declared.surface.Surface.{Surface}
 use Rattle.layouts.specs.declared.airborne.Airborne.{Airborne}
@@ -138,37 +138,3 @@ abbrev pub airFields : Air → List ℕ
 airFields b =
     b .typecode ∷ b .subtype ∷ b .bit9 ∷ b .bit10 ∷ b .nacv ∷
     b .status ∷ b .heading ∷ b .airspeedkind ∷ b .airspeed ∷ verticalFields (b .vertical)
-
--- ---- the 56 bits that hold the fields
-
-abbrev pub identificationMe : Identification → ℕ
-identificationMe b = pack identificationWidths (identificationFields b)
-
-abbrev pub surfaceMe : Surface → ℕ
-surfaceMe b = pack surfaceWidths (surfaceFields b)
-
-abbrev pub airborneMe : Airborne → ℕ
-airborneMe b = pack airborneWidths (airborneFields b)
-
-abbrev pub groundMe : Ground → ℕ
-groundMe b = pack velocityWidths (groundFields b)
-
-abbrev pub airMe : Air → ℕ
-airMe b = pack velocityWidths (airFields b)
-
--- ---- whether each field fits its bits, and the TYPE and subtype are those of the layout
-
-abbrev pub identificationFits : Identification → Bool
-identificationFits b = fits identificationWidths (identificationFields b) && isIdentification (b .typecode)
-
-abbrev pub surfaceFits : Surface → Bool
-surfaceFits b = fits surfaceWidths (surfaceFields b) && isSurface (b .typecode)
-
-abbrev pub airborneFits : Airborne → Bool
-airborneFits b = fits airborneWidths (airborneFields b) && isAirborne (b .typecode)
-
-abbrev pub groundFits : Ground → Bool
-groundFits b = fits velocityWidths (groundFields b) && isGround (b .typecode) (b .subtype)
-
-abbrev pub airFits : Air → Bool
-airFits b = fits velocityWidths (airFields b) && isAir (b .typecode) (b .subtype)

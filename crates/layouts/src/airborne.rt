@@ -2,7 +2,9 @@
 use counts::LatitudeCount;
 use counts::LongitudeCount;
 ghost use mathlib.Core.Path.{_≡_};
-ghost use Rattle.layouts.specs.Layouts.{airborneOf, airborneMe, airborneFits};
+ghost use mathlib.Core.Bool.{_&&_};
+ghost use Rattle.fields.specs.Packing.{pack, fits};
+ghost use Rattle.layouts.specs.Layouts.{airborneOf, airborneFields, airborneWidths, isAirborne};
 
 pub struct Airborne {
     pub typecode: u8,
@@ -32,7 +34,7 @@ pub(crate) fn airborne_of(me: u64) -> Airborne
 }
 
 pub(crate) fn airborne_me(b: Airborne) -> u64
-    ensures { λ r. ⌜ r ≡ airborneMe b ⌝ }
+    ensures { λ r. ⌜ r ≡ pack airborneWidths (airborneFields b) ⌝ }
 {
     (b.typecode as u64) * 0x8_0000_0000_0000
         + (b.surveillance as u64) * 0x2_0000_0000_0000
@@ -45,7 +47,7 @@ pub(crate) fn airborne_me(b: Airborne) -> u64
 }
 
 pub(crate) fn airborne_fits(b: Airborne) -> bool
-    ensures { λ r. ⌜ r ≡ airborneFits b ⌝ }
+    ensures { λ r. ⌜ r ≡ (fits airborneWidths (airborneFields b) && isAirborne (b .typecode)) ⌝ }
 {
     let t = b.typecode;
     (t < 32)

@@ -1,7 +1,9 @@
 // Identification: TYPE 1-4.
 ghost use mathlib.Core.Path.{_≡_};
 ghost use Prim.Native.Nat.{_<_, _^_};
-ghost use Rattle.layouts.specs.Layouts.{identificationOf, identificationMe, identificationFits};
+ghost use mathlib.Core.Bool.{_&&_};
+ghost use Rattle.fields.specs.Packing.{pack, fits};
+ghost use Rattle.layouts.specs.Layouts.{identificationOf, identificationFields, identificationWidths, isIdentification};
 
 pub struct Identification {
     pub typecode: u8,
@@ -22,7 +24,7 @@ pub(crate) fn identification_of(me: u64) -> Identification
 
 pub(crate) fn identification_me(b: Identification) -> u64
     requires { ⌜ b .characters < 2 ^ 48 ⌝ }
-    ensures { λ r. ⌜ r ≡ identificationMe b ⌝ }
+    ensures { λ r. ⌜ r ≡ pack identificationWidths (identificationFields b) ⌝ }
 {
     (b.typecode as u64) * 0x8_0000_0000_0000
         + (b.category as u64) * 0x1_0000_0000_0000
@@ -30,7 +32,7 @@ pub(crate) fn identification_me(b: Identification) -> u64
 }
 
 pub(crate) fn identification_fits(b: Identification) -> bool
-    ensures { λ r. ⌜ r ≡ identificationFits b ⌝ }
+    ensures { λ r. ⌜ r ≡ (fits identificationWidths (identificationFields b) && isIdentification (b .typecode)) ⌝ }
 {
     (b.typecode < 32)
         & (b.category < 8)

@@ -2,7 +2,9 @@
 use counts::LatitudeCount;
 use counts::LongitudeCount;
 ghost use mathlib.Core.Path.{_≡_};
-ghost use Rattle.layouts.specs.Layouts.{surfaceOf, surfaceMe, surfaceFits};
+ghost use mathlib.Core.Bool.{_&&_};
+ghost use Rattle.fields.specs.Packing.{pack, fits};
+ghost use Rattle.layouts.specs.Layouts.{surfaceOf, surfaceFields, surfaceWidths, isSurface};
 
 pub struct Surface {
     pub typecode: u8,
@@ -33,7 +35,7 @@ pub(crate) fn surface_of(me: u64) -> Surface
 }
 
 pub(crate) fn surface_me(b: Surface) -> u64
-    ensures { λ r. ⌜ r ≡ surfaceMe b ⌝ }
+    ensures { λ r. ⌜ r ≡ pack surfaceWidths (surfaceFields b) ⌝ }
 {
     (b.typecode as u64) * 0x8_0000_0000_0000
         + (b.movement as u64) * 0x1000_0000_0000
@@ -46,7 +48,7 @@ pub(crate) fn surface_me(b: Surface) -> u64
 }
 
 pub(crate) fn surface_fits(b: Surface) -> bool
-    ensures { λ r. ⌜ r ≡ surfaceFits b ⌝ }
+    ensures { λ r. ⌜ r ≡ (fits surfaceWidths (surfaceFields b) && isSurface (b .typecode)) ⌝ }
 {
     (b.typecode < 32)
         & (b.movement < 128)

@@ -1,8 +1,9 @@
 // Velocity: TYPE 19, over ground in subtypes 1 and 2, through air in subtypes 3 and 4. Both end alike.
 ghost use mathlib.Core.Path.{_≡_};
 ghost use Prim.Native.Nat.{_<_, _^_};
-ghost use Rattle.fields.specs.Packing.{pack};
-ghost use Rattle.layouts.specs.Layouts.{verticalOf, verticalWidths, verticalFields, groundOf, airOf, groundMe, airMe, groundFits, airFits};
+ghost use mathlib.Core.Bool.{_&&_};
+ghost use Rattle.fields.specs.Packing.{pack, fits};
+ghost use Rattle.layouts.specs.Layouts.{verticalOf, verticalFields, verticalWidths, groundOf, groundFields, airOf, airFields, velocityWidths, isGround, isAir};
 
 // Vertical rate, and the difference of the two heights.
 pub struct Vertical {
@@ -106,7 +107,7 @@ pub(crate) fn air_of(me: u64) -> Air
 }
 
 pub(crate) fn ground_me(b: Ground) -> u64
-    ensures { λ r. ⌜ r ≡ groundMe b ⌝ }
+    ensures { λ r. ⌜ r ≡ pack velocityWidths (groundFields b) ⌝ }
 {
     let v = vertical_me(b.vertical);
     (b.typecode as u64) * 0x8_0000_0000_0000
@@ -122,7 +123,7 @@ pub(crate) fn ground_me(b: Ground) -> u64
 }
 
 pub(crate) fn air_me(b: Air) -> u64
-    ensures { λ r. ⌜ r ≡ airMe b ⌝ }
+    ensures { λ r. ⌜ r ≡ pack velocityWidths (airFields b) ⌝ }
 {
     let v = vertical_me(b.vertical);
     (b.typecode as u64) * 0x8_0000_0000_0000
@@ -138,7 +139,7 @@ pub(crate) fn air_me(b: Air) -> u64
 }
 
 pub(crate) fn ground_fits(b: Ground) -> bool
-    ensures { λ r. ⌜ r ≡ groundFits b ⌝ }
+    ensures { λ r. ⌜ r ≡ (fits velocityWidths (groundFields b) && isGround (b .typecode) (b .subtype)) ⌝ }
 {
     let v = b.vertical;
     (b.typecode < 32)
@@ -160,7 +161,7 @@ pub(crate) fn ground_fits(b: Ground) -> bool
 }
 
 pub(crate) fn air_fits(b: Air) -> bool
-    ensures { λ r. ⌜ r ≡ airFits b ⌝ }
+    ensures { λ r. ⌜ r ≡ (fits velocityWidths (airFields b) && isAir (b .typecode) (b .subtype)) ⌝ }
 {
     let v = b.vertical;
     (b.typecode < 32)

@@ -2,7 +2,8 @@
 -- Assumes nothing.
 use mathlib.Core.Path.{sym, ap, _∙_}
 use Rattle.layouts.specs.Bodies.{bodyMe, bodyFits}
-use Rattle.layouts.proofs.Layouts.{identification-fit}
+use Rattle.layouts.proofs.BothWays.{fitting}
+use Rattle.layouts.specs.declared.bodies.Body.the-variants.{Identification}
 use borrow.Author.Needs.{needs}
 use Rattle.layouts.proofs.bodies.body_me.Statement.{statement}
 use Rattle.layouts.proofs.bodies.body_me.Tie as tie
@@ -13,7 +14,7 @@ enum-known-b c = search needs
 identification-me-requires : tie.Need-identification-me-requires
 identification-me-requires c κs =
     let b = c .before .b .given in
-    identification-fit (b .0 .0) (sym (ap bodyFits (b .1)) ∙ c .before .before .before .pre) .1 .1 .0
+    fitting (Identification (b .0 .0)) (sym (ap bodyFits (b .1)) ∙ c .before .before .before .pre) .1 .1 .0
 
 enum-known-b-2 : tie.Need-enum-known-b-2
 enum-known-b-2 c = search needs
