@@ -3,6 +3,7 @@
 use Prim.Native.Nat.{ℕ, _^_, _<_, _≤_}
 use mathlib.Core.Path.{_≡_, refl, sym, ap, subst, _∙_}
 use mathlib.Core.Bool.{Bool, true, false, cond, _&&_, _||_}
+use Rattle.refusals.specs.declared.Refusal.{Refusal}
 use Rattle.refusals.specs.declared.Refusal.the-variants.{Field}
 use mathlib.Core.List.{List}
 use native.Mathlib.Nat.{mod-eq-of-lt}
@@ -140,13 +141,18 @@ read-good n b h e = subst (λ (x : Taken). Good n x) e (good n h)
 
 -- ---- and so of the two public functions
 
-fits-if-written : (t : Bool) (m n : ℕ) → cond t (write.Me m) (write.Refused Field) ≡ write.Me n → (t ≡ true) × (m ≡ n)
-fits-if-written true m n e = (refl, cc)
-fits-if-written false m n e = let z : _≡_ {A = ℕ} 0 1 = cc in let f : ⊥ = omega arith in absurd f
+-- what a choice between bits and the refusal says of its test
+pub if-written : (t : Bool) (m n : ℕ) → cond t (write.Me m) (write.Refused Field) ≡ write.Me n → (t ≡ true) × (m ≡ n)
+if-written true m n e = (refl, cc)
+if-written false m n e = let z : _≡_ {A = ℕ} 0 1 = cc in let f : ⊥ = omega arith in absurd f
+
+pub if-refused : (t : Bool) (m : ℕ) (r : Refusal) → cond t (write.Me m) (write.Refused Field) ≡ write.Refused r → (t ≡ false) × (r ≡ Field)
+if-refused true m r e = let z : _≡_ {A = ℕ} 0 1 = cc in let f : ⊥ = omega arith in absurd f
+if-refused false m r e = (refl, cc)
 
 pub written-read : (n : ℕ) (b : Body) → written b ≡ write.Me n → taken n ≡ read.Body b
 written-read n b e =
-    let g = fits-if-written (bodyFits b) (bodyMe b) n e in
+    let g = if-written (bodyFits b) (bodyMe b) n e in
     ap taken (sym (g .1)) ∙ read-back b (g .0)
 
 pub read-written : (n : ℕ) (b : Body) → n < 2 ^ 56 → taken n ≡ read.Body b → written b ≡ write.Me n

@@ -86,7 +86,11 @@ pub fn decode(s: &[u8]) -> Decoded
 fn kind_of(format: u8, control: u8) -> u32
     ensures { λ r. ⌜ (r ≡ kindOf format control) × (r < 3) ⌝ }
 {
-    if (format == 18) & (control == 1) { 2 } else { 1 }
+    if (format == 18) & (control == 1) {
+        2
+    } else {
+        1
+    }
 }
 
 // The key of a message's track: its kind above the 24 bits of its address.
