@@ -55,6 +55,10 @@ frame-decoded h n lh ln =
     let en : n ≡ number (bytesOf 7 n) % 2 ^ 64 = sym (ap (λ (x : ℕ). x % 2 ^ 64) (number-bytes 7 n ln) ∙ mod-eq-of-lt (omega arith)) in
     rw (sealed (bytesOf 4 h ++ bytesOf 7 n)) (sym (opened-is (frame h n) refl (frame-bytes h n) h n eh en))
 
+pub message-bytes : (m : Message) → Bytes (messageBytes m)
+unfolding frame
+message-bytes m = frame-bytes (pack headWidths (headFields m)) (bodyMe (m .body))
+
 pub encoded-decoded : (m : Message) → messageFits m ≡ true → decoded (messageBytes m) ≡ decode.Message m
 unfolding frame
 encoded-decoded m e =
