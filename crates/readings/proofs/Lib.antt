@@ -1,2 +1,3 @@
 pub mod BelowZero
+pub mod Spelled
 pub mod Unique
