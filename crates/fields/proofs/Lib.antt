@@ -1,5 +1,6 @@
 pub mod Bools
 pub mod Bytes
+pub mod Fits
 pub mod Packing
 pub mod Tables
 pub mod Unique

@@ -30,3 +30,13 @@ Fit [] [] = Unit
 Fit [] (d ∷ ds) = ⊥
 Fit (w ∷ ws) [] = ⊥
 Fit (w ∷ ws) (d ∷ ds) = (d < 2 ^ w) × Fit ws ds
+
+-- the same as a test, one field after the other
+abbrev pub fitsAnd : Bool → List ℕ → List ℕ → Bool
+fitsAnd ok [] [] = ok
+fitsAnd ok [] (d ∷ ds) = false
+fitsAnd ok (w ∷ ws) [] = false
+fitsAnd ok (w ∷ ws) (d ∷ ds) = fitsAnd (ok && ltb d (2 ^ w)) ws ds
+
+abbrev pub fits : List ℕ → List ℕ → Bool
+fits ws ds = fitsAnd true ws ds

@@ -20,6 +20,18 @@ use Rattle.readings.proofs.text.category_set_of.Kinds as category-set-o
 use Rattle.readings.proofs.text.category_set_of.Reads as category-set-of
 use Rattle.readings.proofs.text.character_of.Kinds as character-of-kinds
 use Rattle.readings.proofs.text.character_of.Reads as character-of
+use Rattle.readings.proofs.bodies.identification_readings.Kinds as identification-readings-kinds
+use Rattle.readings.proofs.bodies.identification_readings.Reads as identification-readings
+use Rattle.readings.proofs.bodies.surface_readings.Kinds as surface-readings-kinds
+use Rattle.readings.proofs.bodies.surface_readings.Reads as surface-readings
+use Rattle.readings.proofs.bodies.airborne_readings.Kinds as airborne-readings-kinds
+use Rattle.readings.proofs.bodies.airborne_readings.Reads as airborne-readings
+use Rattle.readings.proofs.bodies.ground_readings.Kinds as ground-readings-kinds
+use Rattle.readings.proofs.bodies.ground_readings.Reads as ground-readings
+use Rattle.readings.proofs.bodies.air_readings.Kinds as air-readings-kinds
+use Rattle.readings.proofs.bodies.air_readings.Reads as air-readings
+use Rattle.readings.proofs.text.text_of.Kinds as text-of-kinds
+use Rattle.readings.proofs.text.text_of.Reads as text-of
 
 pub altitude-of-once : OneAnswer 0 altitude-of-kinds.ps altitude-of-kinds.r altitude-of.Post
 altitude-of-once κs args x y left left′ p q = p ∙ sym q
@@ -47,3 +59,21 @@ category-set-of-once κs args x y left left′ p q = p ∙ sym q
 
 pub character-of-once : OneAnswer 0 character-of-kinds.ps character-of-kinds.r character-of.Post
 character-of-once κs args x y left left′ p q = p ∙ sym q
+
+pub identification-readings-once : OneAnswer 0 identification-readings-kinds.ps identification-readings-kinds.r identification-readings.Post
+identification-readings-once κs args x y left left′ p q = p ∙ sym q
+
+pub surface-readings-once : OneAnswer 0 surface-readings-kinds.ps surface-readings-kinds.r surface-readings.Post
+surface-readings-once κs args x y left left′ p q = p ∙ sym q
+
+pub airborne-readings-once : OneAnswer 0 airborne-readings-kinds.ps airborne-readings-kinds.r airborne-readings.Post
+airborne-readings-once κs args x y left left′ p q = p ∙ sym q
+
+pub ground-readings-once : OneAnswer 0 ground-readings-kinds.ps ground-readings-kinds.r ground-readings.Post
+ground-readings-once κs args x y left left′ p q = p ∙ sym q
+
+pub air-readings-once : OneAnswer 0 air-readings-kinds.ps air-readings-kinds.r air-readings.Post
+air-readings-once κs args x y left left′ p q = p ∙ sym q
+
+pub text-of-once : OneAnswer 0 text-of-kinds.ps text-of-kinds.r text-of.Post
+text-of-once κs args x y left left′ p q = p ∙ sym q

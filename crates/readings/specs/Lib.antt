@@ -1,5 +1,6 @@
 pub mod Altitude
 pub mod Amounts
+pub mod Bodies
 pub mod Headings
 pub mod Movement
 pub mod Text

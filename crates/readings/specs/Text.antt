@@ -1,13 +1,19 @@
--- The category set of a TYPE, and the character of a code.
+-- The category set of a TYPE, the character of a code, and the text of eight characters.
 use Prim.Native.Nat.{ℕ, _+_, _-_}
 use mathlib.Core.Bool.{cond, _&&_}
+use mathlib.Core.List.{List, [], _∷_}
 use lib.Dec.{leb, eqb}
+use lib.ListN.{replicate}
 use Rattle.refusals.specs.declared.Refusal.the-variants.{Field}
+use Rattle.fields.specs.Packing.{unpack}
+use Rattle.fields.specs.Bytes.{number}
 use Rattle.readings.specs.Widths.{wider}
 use Rattle.readings.specs.declared.text.CategorySet.{CategorySet}
 use Rattle.readings.specs.declared.text.CategorySet.the-variants as set
 use Rattle.readings.specs.declared.text.Character.{Character}
 use Rattle.readings.specs.declared.text.Character.the-variants as character
+use Rattle.readings.specs.declared.text.Text.{Text}
+use Rattle.readings.specs.declared.text.Text.the-variants as text
 
 -- TYPE 4, 3, 2, 1 is category set A, B, C, D
 unfoldable pub categorySetOf : ℕ → CategorySet
@@ -29,3 +35,12 @@ shown code =
 
 unfoldable pub characterOf : ℕ → Character
 characterOf code = cond (wider 6 code) (character.Refused Field) (character.Shown (shown code))
+
+-- each code's character
+abbrev pub shownAll : List ℕ → List ℕ
+shownAll [] = []
+shownAll (code ∷ codes) = shown code ∷ shownAll codes
+
+-- eight characters of 6 bits, the first the highest, as the number of their eight bytes
+unfoldable pub textOf : ℕ → Text
+textOf characters = cond (wider 48 characters) (text.Refused Field) (text.Shown (number (shownAll (unpack (replicate 8 6) characters))))

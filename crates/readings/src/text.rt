@@ -2,7 +2,7 @@
 use refusals::Refusal;
 ghost use mathlib.Core.Path.{_≡_};
 ghost use Prim.Native.Nat.{_<_};
-ghost use Rattle.readings.specs.Text.{categorySetOf, characterOf};
+ghost use Rattle.readings.specs.Text.{categorySetOf, characterOf, textOf};
 ghost use Rattle.readings.specs.Text.{shown as Text·shown};
 
 pub enum CategorySet {
@@ -18,6 +18,12 @@ pub enum CategorySet {
 pub enum Character {
     // in ASCII
     Shown(u8),
+    Refused(Refusal),
+}
+
+pub enum Text {
+    // eight bytes of ASCII, the first the highest
+    Shown(u64),
     Refused(Refusal),
 }
 
@@ -67,4 +73,31 @@ pub fn character_of(code: u8) -> Character
         return Character::Refused(Refusal::Field);
     }
     Character::Shown(shown(code))
+}
+
+fn letter(code: u64) -> u64
+    requires { ⌜ code < 64 ⌝ }
+    ensures { λ r. ⌜ (r ≡ Text·shown code) × (r < 256) ⌝ }
+{
+    shown(code as u8) as u64
+}
+
+// The text of eight characters of 6 bits, the first the highest.
+pub fn text_of(characters: u64) -> Text
+    ensures { λ r. ⌜ r ≡ textOf characters ⌝ }
+{
+    if 0x1_0000_0000_0000 <= characters {
+        return Text::Refused(Refusal::Field);
+    }
+    let a = letter(characters / 0x400_0000_0000 % 64);
+    let b = letter(characters / 0x10_0000_0000 % 64);
+    let c = letter(characters / 0x4000_0000 % 64);
+    let d = letter(characters / 0x100_0000 % 64);
+    let e = letter(characters / 0x4_0000 % 64);
+    let f = letter(characters / 0x1000 % 64);
+    let g = letter(characters / 64 % 64);
+    let h = letter(characters / 1 % 64);
+    let high = a * 0x100_0000 + b * 0x1_0000 + c * 0x100 + d;
+    let low = e * 0x100_0000 + f * 0x1_0000 + g * 0x100 + h;
+    Text::Shown(high * 0x1_0000_0000 + low)
 }

@@ -1,0 +1,159 @@
+-- ME both ways: what is written is read back, and what is read is written back. A TYPE that has one layout has no other.
+-- Assumes nothing.
+use Prim.Native.Nat.{ℕ, _^_, _<_, _≤_}
+use mathlib.Core.Path.{_≡_, refl, sym, ap, subst, _∙_}
+use mathlib.Core.Bool.{Bool, true, false, cond, _&&_, _||_}
+use Rattle.refusals.specs.declared.Refusal.{Refusal}
+use Rattle.refusals.specs.declared.Refusal.the-variants.{Field}
+use mathlib.Core.List.{List}
+use native.Mathlib.Nat.{mod-eq-of-lt}
+use native.Mathlib.Omega.{arith}
+use lib.Dec.{leb, eqb}
+use lib.ListN.{getD}
+use borrow.Author.Tests.{leb-true, lt-leb, eqb-true}
+use Rattle.fields.specs.Packing.{total, pack, unpack, Fit, fits}
+use Rattle.fields.proofs.Bools.{and-left, and-right, both, by-test}
+use Rattle.fields.proofs.Fits.{fits-fit, unpack-fits}
+use Rattle.fields.proofs.Packing.{pack-unpack, pack-lt}
+use Rattle.layouts.specs.Layouts.{
+  me,
+  isIdentification,
+  isSurface,
+  isAirborne,
+  isGround,
+  isAir,
+  identificationWidths,
+  surfaceWidths,
+  airborneWidths,
+  velocityWidths,
+}
+use Rattle.layouts.specs.Bodies.{takenAt, taken, bodyFields, bodyWidths, typeAgrees, bodyMe, bodyFits, written}
+use Rattle.layouts.specs.declared.bodies.Body.{Body}
+use Rattle.layouts.specs.declared.bodies.Body.the-variants as body
+use Rattle.layouts.specs.declared.bodies.Taken.{Taken}
+use Rattle.layouts.specs.declared.bodies.Taken.the-variants as read
+use Rattle.layouts.specs.declared.bodies.Written.{Written}
+use Rattle.layouts.specs.declared.bodies.Written.the-variants as write
+use Rattle.layouts.proofs.Layouts.{Layout, unpacked, back, identification, surface, airborne, ground, air}
+
+-- ---- a body that fits
+
+pub fitting : (b : Body) → bodyFits b ≡ true → Fit (bodyWidths b) (bodyFields b)
+fitting b e = fits-fit (bodyWidths b) (bodyFields b) (and-left (fits (bodyWidths b) (bodyFields b)) (typeAgrees b) e)
+
+agreeing : (b : Body) → bodyFits b ≡ true → typeAgrees b ≡ true
+agreeing b e = and-right (fits (bodyWidths b) (bodyFields b)) (typeAgrees b) e
+
+all-56 : (b : Body) → total (bodyWidths b) ≡ 56
+all-56 (body.Identification b) = refl
+all-56 (body.Surface b) = refl
+all-56 (body.Airborne b) = refl
+all-56 (body.Ground b) = refl
+all-56 (body.Air b) = refl
+
+-- has 56 bits
+pub me-lt : (b : Body) → bodyFits b ≡ true → bodyMe b < 2 ^ 56
+me-lt b e = subst (λ (k : ℕ). bodyMe b < 2 ^ k) (all-56 b) (pack-lt (bodyWidths b) (bodyFields b) (fitting b e))
+
+-- ---- a TYPE has one layout
+
+and-false : (a : Bool) → a && false ≡ false
+and-false true = refl
+and-false false = refl
+
+above : (lo hi n : ℕ) → hi < n → leb lo n && leb n hi ≡ false
+above lo hi n h = rw (lt-leb n hi h) (and-false (leb lo n))
+
+from-low : (lo hi n : ℕ) → leb lo n && leb n hi ≡ true → lo ≤ n
+from-low lo hi n e = leb-true lo n (and-left (leb lo n) (leb n hi) e)
+
+from-nine : (n : ℕ) (a : Bool) → (leb 9 n && leb n 18) ≡ a → isAirborne n ≡ true → 9 ≤ n
+from-nine n true e q = from-low 9 18 n e
+from-nine n false e q = let h : 20 ≤ n = from-low 20 22 n (rw e at q) in omega arith
+
+nineteen : (n : ℕ) (a b : Bool) → eqb n 19 && a && b ≡ true → n ≡ 19
+nineteen n a b e = eqb-true n 19 (and-left (eqb n 19) a (and-left (eqb n 19 && a) b e))
+
+-- ---- what is written is read back
+
+read-back : (b : Body) → bodyFits b ≡ true → taken (bodyMe b) ≡ read.Body b
+read-back (body.Identification b) e =
+    let n : ℕ = bodyMe (body.Identification b) in
+    let f = fitting (body.Identification b) e in
+    ap (λ (l : List ℕ). takenAt (getD l 0 0) (me 6 8 n) n) (unpacked identification b f)
+    ∙ simp (agreeing (body.Identification b) e) (ap (λ x. read.Body (body.Identification x)) (back identification b f))
+read-back (body.Surface b) e =
+    let n : ℕ = bodyMe (body.Surface b) in
+    let f = fitting (body.Surface b) e in
+    let q = agreeing (body.Surface b) e in
+    let h : 5 ≤ b .typecode = from-low 5 8 (b .typecode) q in
+    ap (λ (l : List ℕ). takenAt (getD l 0 0) (me 6 8 n) n) (unpacked surface b f)
+    ∙ simp (above 1 4 (b .typecode) h, q) (ap (λ x. read.Body (body.Surface x)) (back surface b f))
+read-back (body.Airborne b) e =
+    let n : ℕ = bodyMe (body.Airborne b) in
+    let f = fitting (body.Airborne b) e in
+    let q = agreeing (body.Airborne b) e in
+    let h : 9 ≤ b .typecode = from-nine (b .typecode) (leb 9 (b .typecode) && leb (b .typecode) 18) refl q in
+    ap (λ (l : List ℕ). takenAt (getD l 0 0) (me 6 8 n) n) (unpacked airborne b f)
+    ∙ simp (above 1 4 (b .typecode) (omega arith), above 5 8 (b .typecode) h, q) (ap (λ x. read.Body (body.Airborne x)) (back airborne b f))
+read-back (body.Ground b) e =
+    let n : ℕ = bodyMe (body.Ground b) in
+    let f = fitting (body.Ground b) e in
+    let q = agreeing (body.Ground b) e in
+    let h : b .typecode ≡ 19 = nineteen (b .typecode) (leb 1 (b .subtype)) (leb (b .subtype) 2) q in
+    ap (λ (l : List ℕ). takenAt (getD l 0 0) (getD l 1 0) n) (unpacked ground b f)
+    ∙ ap (λ (t : ℕ). takenAt t (b .subtype) n) h
+    ∙ simp (ap (λ (t : ℕ). isGround t (b .subtype)) (sym h) ∙ q) (ap (λ x. read.Body (body.Ground x)) (back ground b f))
+read-back (body.Air b) e =
+    let n : ℕ = bodyMe (body.Air b) in
+    let f = fitting (body.Air b) e in
+    let q = agreeing (body.Air b) e in
+    let h : b .typecode ≡ 19 = nineteen (b .typecode) (leb 3 (b .subtype)) (leb (b .subtype) 4) q in
+    let r : leb 3 (b .subtype) && leb (b .subtype) 4 ≡ true = ap (λ (t : ℕ). isAir t (b .subtype)) (sym h) ∙ q in
+    ap (λ (l : List ℕ). takenAt (getD l 0 0) (getD l 1 0) n) (unpacked air b f)
+    ∙ ap (λ (t : ℕ). takenAt t (b .subtype) n) h
+    ∙ simp (above 1 2 (b .subtype) (from-low 3 4 (b .subtype) r), r) (ap (λ x. read.Body (body.Air x)) (back air b f))
+
+-- ---- what is read is written back
+
+-- of what the bits n were read as: it fits, and its bits are n
+abbrev Good : ℕ → Taken → Type 0
+Good n (read.Body b) = (bodyFits b ≡ true) × (bodyMe b ≡ n)
+Good n (read.Refused r) = Unit
+
+module _ (n : ℕ) (h : n < 2 ^ 56) where
+  whole : (ws : List ℕ) → total ws ≡ 56 → pack ws (unpack ws n) ≡ n
+  whole ws e = pack-unpack ws n ∙ mod-eq-of-lt (subst (λ (k : ℕ). n < 2 ^ k) (sym e) h)
+
+  good : Good n (taken n)
+  good =
+      let t : ℕ = me 1 5 n in
+      let s : ℕ = me 6 8 n in
+      by-test (Good n) (isIdentification t) _ _ (λ q. (both (unpack-fits identificationWidths n) q, whole identificationWidths refl))
+      (λ _. by-test (Good n) (isSurface t) _ _ (λ q. (both (unpack-fits surfaceWidths n) q, whole surfaceWidths refl))
+      (λ _. by-test (Good n) (isAirborne t) _ _ (λ q. (both (unpack-fits airborneWidths n) q, whole airborneWidths refl))
+      (λ _. by-test (Good n) (isGround t s) _ _ (λ q. (both (unpack-fits velocityWidths n) q, whole velocityWidths refl))
+      (λ _. by-test (Good n) (isAir t s) _ _ (λ q. (both (unpack-fits velocityWidths n) q, whole velocityWidths refl))
+      (λ _. tt)))))
+
+pub read-good : (n : ℕ) (b : Body) → n < 2 ^ 56 → taken n ≡ read.Body b → (bodyFits b ≡ true) × (bodyMe b ≡ n)
+read-good n b h e = subst (λ (x : Taken). Good n x) e (good n h)
+
+-- ---- and so of the two public functions
+
+-- what a choice between bits and the refusal says of its test
+pub if-written : (t : Bool) (m n : ℕ) → cond t (write.Me m) (write.Refused Field) ≡ write.Me n → (t ≡ true) × (m ≡ n)
+if-written true m n e = (refl, cc)
+if-written false m n e = let z : _≡_ {A = ℕ} 0 1 = cc in let f : ⊥ = omega arith in absurd f
+
+pub if-refused : (t : Bool) (m : ℕ) (r : Refusal) → cond t (write.Me m) (write.Refused Field) ≡ write.Refused r → (t ≡ false) × (r ≡ Field)
+if-refused true m r e = let z : _≡_ {A = ℕ} 0 1 = cc in let f : ⊥ = omega arith in absurd f
+if-refused false m r e = (refl, cc)
+
+pub written-read : (n : ℕ) (b : Body) → written b ≡ write.Me n → taken n ≡ read.Body b
+written-read n b e =
+    let g = if-written (bodyFits b) (bodyMe b) n e in
+    ap taken (sym (g .1)) ∙ read-back b (g .0)
+
+pub read-written : (n : ℕ) (b : Body) → n < 2 ^ 56 → taken n ≡ read.Body b → written b ≡ write.Me n
+read-written n b h e = let g = read-good n b h e in rw (g .0) (ap write.Me (g .1))

@@ -1,0 +1,18 @@
+// ME, the 56 bits of a message that say something: one struct a layout with all its fields, read from the bits and written back.
+mod airborne;
+mod bodies;
+mod identification;
+mod surface;
+mod velocity;
+
+pub use airborne::Airborne;
+pub use bodies::Body;
+pub use bodies::Taken;
+pub use bodies::Written;
+pub use bodies::body_of;
+pub use bodies::me_of;
+pub use identification::Identification;
+pub use surface::Surface;
+pub use velocity::Air;
+pub use velocity::Ground;
+pub use velocity::Vertical;

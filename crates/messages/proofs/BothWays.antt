@@ -1,0 +1,146 @@
+-- Messages both ways: what is encoded is decoded to the same fields, and what is decoded is encoded to the same 14 bytes.
+-- Four bytes, seven and the seal are a message just when they are cut and put together alike, by the laws of bytes, layouts and parity.
+-- Assumes nothing.
+use Prim.Native.Nat.{ℕ, _/_, _%_, _^_, _<_}
+use mathlib.Core.Path.{_≡_, refl, sym, ap, ap₂, subst, _∙_}
+use mathlib.Core.Bool.{Bool, true, false, not, cond, _&&_}
+use mathlib.Core.List.{List, [], _∷_, _++_}
+use native.Mathlib.Nat.{mod-eq-of-lt, mod-lt}
+use native.Mathlib.Omega.{arith}
+use lib.Dec.{eqb, lit<}
+use lib.ListN.{length, take, drop, getD, take-append-drop, length-drop}
+use lib.Seq.{take-add}
+use borrow.Author.Tests.{eqb-true, eq-eqb, not-false}
+use Rattle.refusals.specs.declared.Refusal.the-variants.{Length, Field}
+use Rattle.fields.specs.Packing.{pack, unpack, Fit, fits}
+use Rattle.fields.specs.Bytes.{number, bytesOf, Bytes}
+use Rattle.fields.proofs.Bools.{and-left, and-right, both, by-test}
+use Rattle.fields.proofs.Fits.{fits-fit, unpack-fits}
+use Rattle.fields.proofs.Packing.{pack-lt, unpack-pack, pack-unpack}
+use Rattle.fields.proofs.Bytes.{bytes-take, bytes-drop, fit-bytes, number-bytes, bytes-number, number-whole}
+use Rattle.parity.specs.Division.{remainder}
+use Rattle.parity.proofs.Seal.{sealed, only-sealed}
+use Rattle.layouts.specs.Bodies.{taken, bodyMe, bodyFits}
+use Rattle.layouts.proofs.BothWays.{written-read, read-good, me-lt}
+use Rattle.layouts.specs.declared.bodies.Taken.{Taken}
+use Rattle.layouts.specs.declared.bodies.Taken.the-variants as read
+use Rattle.messages.specs.Message.{bits, formatTaken, withBody, opened, decoded, headWidths, headFields, messageFits, sealedBy, messageBytes, encoded, encodedBytes}
+use Rattle.messages.specs.declared.Message.{Message}
+use Rattle.messages.specs.declared.Decoded.{Decoded}
+use Rattle.messages.specs.declared.Decoded.the-variants as decode
+use Rattle.messages.specs.declared.Encoded.the-variants as encode
+use Rattle.messages.proofs.Parts.{four, seven, head-lt, me-is, head-is, opened-is}
+
+-- ---- what is encoded is decoded to the same fields
+
+opened-back : (m : Message) → formatTaken (m .format) (m .control) ≡ true → bodyFits (m .body) ≡ true
+    → opened (m .format) (m .control) (m .address) (bodyMe (m .body)) ≡ decode.Message m
+unfolding opened
+opened-back m t b = rw t (ap (withBody (m .format) (m .control) (m .address)) (written-read (bodyMe (m .body)) (m .body) (rw b)))
+
+-- a message's bytes from the numbers of its first four and next seven
+frame : ℕ → ℕ → List ℕ
+frame h n = sealedBy (bytesOf 4 h ++ bytesOf 7 n)
+
+frame-bytes : (h n : ℕ) → Bytes (frame h n)
+unfolding frame
+frame-bytes h n =
+    let m : (x : ℕ) → x % 256 < 256 = λ x. omega arith in
+    fit-bytes 14 (frame h n) (m _, (m _, (m _, (m _, (m _, (m _, (m _, (m _, (m _, (m _, (m _, (m _, (m _, (m _, tt))))))))))))))
+
+frame-decoded : (h n : ℕ) → h < 2 ^ 32 → n < 2 ^ 56 → decoded (frame h n) ≡ opened (h / 2 ^ 27 % 32) (h / 2 ^ 24 % 8) (h / 1 % 2 ^ 24) n
+unfolding frame
+frame-decoded h n lh ln =
+    let eh : h ≡ number (bytesOf 4 h) % 2 ^ 64 = sym (ap (λ (x : ℕ). x % 2 ^ 64) (number-bytes 4 h lh) ∙ mod-eq-of-lt (omega arith)) in
+    let en : n ≡ number (bytesOf 7 n) % 2 ^ 64 = sym (ap (λ (x : ℕ). x % 2 ^ 64) (number-bytes 7 n ln) ∙ mod-eq-of-lt (omega arith)) in
+    rw (sealed (bytesOf 4 h ++ bytesOf 7 n)) (sym (opened-is (frame h n) refl (frame-bytes h n) h n eh en))
+
+pub message-bytes : (m : Message) → Bytes (messageBytes m)
+unfolding frame
+message-bytes m = frame-bytes (pack headWidths (headFields m)) (bodyMe (m .body))
+
+pub encoded-decoded : (m : Message) → messageFits m ≡ true → decoded (messageBytes m) ≡ decode.Message m
+unfolding frame
+encoded-decoded m e =
+    let f : Bool = fits headWidths (headFields m) in
+    let t : Bool = formatTaken (m .format) (m .control) in
+    let l : f && t ≡ true = and-left (f && t) (bodyFits (m .body)) e in
+    let b : bodyFits (m .body) ≡ true = and-right (f && t) (bodyFits (m .body)) e in
+    let g : Fit headWidths (headFields m) = fits-fit headWidths (headFields m) (and-left f t l) in
+    let h : ℕ = pack headWidths (headFields m) in
+    let u : unpack headWidths h ≡ headFields m = unpack-pack headWidths (headFields m) g in
+    frame-decoded h (bodyMe (m .body)) (pack-lt headWidths (headFields m) g) (me-lt (m .body) b)
+    ∙ ap (λ (x : List ℕ). opened (getD x 0 0) (getD x 1 0) (getD x 2 0) (bodyMe (m .body))) u
+    ∙ opened-back m (and-right f t l) b
+
+-- ---- what is decoded is encoded to the same bytes
+
+abbrev Good : List ℕ → Decoded → Type 0
+Good s (decode.Message m) = (messageFits m ≡ true) × (messageBytes m ≡ s)
+Good s (decode.Refused r) = Unit
+
+module _ (s : List ℕ) (e : length s ≡ 14) (h : Bytes s) (z : remainder s ≡ 0) where
+  head : ℕ
+  head = number (take 4 s)
+
+  first : bytesOf 4 head ≡ take 4 s
+  unfolding head
+  first = subst (λ (k : ℕ). bytesOf k (number (take 4 s)) ≡ take 4 s) (four s e h) (bytes-number (take 4 s) (bytes-take 4 s h))
+
+  next : bytesOf 7 (number (take 7 (drop 4 s))) ≡ take 7 (drop 4 s)
+  next =
+      subst (λ (k : ℕ). bytesOf k (number (take 7 (drop 4 s))) ≡ take 7 (drop 4 s)) (seven s e h)
+      (bytes-number (take 7 (drop 4 s)) (bytes-take 7 (drop 4 s) (bytes-drop 4 s h)))
+
+  framed : (x n : ℕ) → x ≡ head → n ≡ number (take 7 (drop 4 s)) → frame x n ≡ s
+  unfolding frame
+  framed x n ex en =
+      let j : bytesOf 4 x ++ bytesOf 7 n ≡ take 11 s = ap₂ (λ (a b : List ℕ). a ++ b) (ap (bytesOf 4) ex ∙ first) (ap (bytesOf 7) en ∙ next) ∙ sym (take-add 4 7 s) in
+      let l : length (drop 11 s) ≡ 3 = omega (arith, length-drop 11 s) in
+      let q : remainder (take 11 s ++ drop 11 s) ≡ 0 = ap remainder (take-append-drop 11 s) ∙ z in
+      ap sealedBy j ∙ ap (λ (y : List ℕ). take 11 s ++ y) (sym (only-sealed (take 11 s) (drop 11 s) l (bytes-drop 11 s h) q)) ∙ take-append-drop 11 s
+
+  body-good : formatTaken (bits 1 5 s) (bits 6 8 s) ≡ true → (b : Taken) → taken (bits 33 88 s) ≡ b
+      → Good s (withBody (bits 1 5 s) (bits 6 8 s) (bits 9 32 s) b)
+  unfolding head frame
+  body-good t (read.Body b) p =
+      let g = read-good (bits 33 88 s) b (mod-lt (number s / 2 ^ 24) (lit< tt)) p in
+      let f = ap (fits headWidths) (head-is s e h) ∙ unpack-fits headWidths head in (
+        both (both f t) (g .0),
+        framed _ _ (ap (pack headWidths) (head-is s e h) ∙ pack-unpack headWidths head ∙ mod-eq-of-lt (head-lt s e h)) (g .1 ∙ me-is s e h),
+      )
+  body-good t (read.Refused r) p = tt
+
+  opened-good : Good s (opened (bits 1 5 s) (bits 6 8 s) (bits 9 32 s) (bits 33 88 s))
+  unfolding opened
+  opened-good =
+      by-test (Good s) (not (formatTaken (bits 1 5 s) (bits 6 8 s))) _ _ (λ t. tt)
+      (λ t. body-good (not-false (formatTaken (bits 1 5 s) (bits 6 8 s)) t) (taken (bits 33 88 s)) refl)
+
+pub decoded-good : (s : List ℕ) (m : Message) → Bytes s → decoded s ≡ decode.Message m → (messageFits m ≡ true) × (messageBytes m ≡ s)
+decoded-good s m h d =
+    subst (Good s) d
+    (by-test (Good s) (not (eqb (length s) 14)) _ _ (λ e. tt)
+    (λ e. by-test (Good s) (not (eqb (remainder s) 0)) _ _ (λ z. tt)
+    (λ z. opened-good s (eqb-true (length s) 14 (not-false (eqb (length s) 14) e)) h (eqb-true (remainder s) 0 (not-false (eqb (remainder s) 0) z)))))
+
+-- ---- and so of the two public functions, for a buffer of 14 bytes
+
+-- an accepted message, decoded and encoded, is the same 14 bytes
+pub decoded-encoded : (s out : List ℕ) (m : Message) → Bytes s → length out ≡ 14 → decoded s ≡ decode.Message m
+    → (encoded m out ≡ encode.Written) × (encodedBytes m out ≡ s)
+decoded-encoded s out m h l d =
+    let g = decoded-good s m h d in
+    let e = eq-eqb (length out) 14 l in
+    (rw (e, g .0), rw (e, g .0) (g .1))
+
+if-written : (a b : Bool) → cond (not a) (encode.Refused Length) (cond (not b) (encode.Refused Field) encode.Written) ≡ encode.Written → (a ≡ true) × (b ≡ true)
+if-written true true e = (refl, refl)
+if-written true false e = let z : _≡_ {A = ℕ} 0 1 = cc in let f : ⊥ = omega arith in absurd f
+if-written false b e = let z : _≡_ {A = ℕ} 0 1 = cc in let f : ⊥ = omega arith in absurd f
+
+-- accepted fields, encoded and decoded, come back equal
+pub encoded-back : (m : Message) (out : List ℕ) → encoded m out ≡ encode.Written → decoded (encodedBytes m out) ≡ decode.Message m
+encoded-back m out w =
+    let g = if-written (eqb (length out) 14) (messageFits m) w in
+    rw (g .0, g .1) (encoded-decoded m (g .1))

@@ -1,0 +1,209 @@
+-- The decoder's answer is document 01's table: each number exactly when it is earned and none before it is, else the fields by the layout's widths.
+-- The definition's tests are the table's, one by one; a field of a part of the bits is a field of the whole.
+-- Assumes nothing.
+use Prim.Native.Nat.{ℕ, _+_, _*_, _/_, _%_, _^_}
+use mathlib.Core.Path.{_≡_, refl, sym, ap, ap₂, _∙_}
+use mathlib.Core.Bool.{Bool, true, false, cond, not, _||_}
+use mathlib.Core.List.{List, [], _∷_, _++_}
+use mathlib.Core.Logic.{_↔_}
+use native.Mathlib.Omega.{arith}
+use lib.Dec.{eqb}
+use lib.ListN.{length}
+use borrow.Author.Tests.{eq-eqb}
+use Rattle.refusals.specs.Numbers.{numberOf}
+use Rattle.fields.specs.Packing.{field, total, unpack}
+use Rattle.fields.specs.Bytes.{number as numeral}
+use Rattle.fields.proofs.Packing.{unpack-above}
+use Rattle.parity.specs.Division.{remainder}
+use Rattle.layouts.specs.Layouts.{
+  me,
+  isIdentification,
+  isSurface,
+  isAirborne,
+  isGround,
+  isAir,
+  identificationWidths,
+  surfaceWidths,
+  airborneWidths,
+  velocityWidths,
+}
+use Rattle.layouts.specs.Bodies.{taken, bodyFields}
+use Rattle.layouts.specs.declared.bodies.Taken.{Taken}
+use Rattle.messages.specs.Message.{bits, formatTaken, withBody, opened, decoded, headWidths, headFields}
+use Rattle.messages.specs.Table.{Said, number, values, said, earns1, earns3, earns4, typeTaken, earns5, layoutWidths, table}
+use Rattle.messages.specs.declared.Message.{Message}
+use Rattle.messages.specs.declared.Decoded.{Decoded}
+use Rattle.messages.specs.declared.Decoded.the-variants as decode
+
+-- ---- fields of a part of the bits
+
+module _ (n : ℕ) where
+  type-is : me 1 5 (field 112 33 88 n) ≡ field 112 33 37 n
+  type-is = omega arith
+
+  subtype-is : me 6 8 (field 112 33 88 n) ≡ field 112 38 40 n
+  subtype-is = omega arith
+
+  before-pi : field 112 1 88 n ≡ field 112 1 32 n * 2 ^ 56 + field 112 33 88 n
+  before-pi = omega arith
+
+  -- the fields of the bits before PI are DF, CA or CF, AA and those of ME
+  all-fields : (ws : List ℕ) → total ws ≡ 56
+      → field 112 1 5 n ∷ field 112 6 8 n ∷ field 112 9 32 n ∷ unpack ws (field 112 33 88 n) ≡ unpack (headWidths ++ ws) (field 112 1 88 n)
+  all-fields ws e =
+      let b : ℕ = field 112 1 88 n in
+      let f : field 112 1 5 n ≡ b / 2 ^ (3 + (24 + total ws)) % 2 ^ 5 = rw e (omega arith) in
+      let c : field 112 6 8 n ≡ b / 2 ^ (24 + total ws) % 2 ^ 3 = rw e (omega arith) in
+      let a : field 112 9 32 n ≡ b / 2 ^ total ws % 2 ^ 24 = rw e (omega arith) in
+      let m : unpack ws (field 112 33 88 n) ≡ unpack ws b =
+      sym (unpack-above ws (field 112 1 32 n) (field 112 33 88 n))
+      ∙ ap (unpack ws) (ap (λ (k : ℕ). field 112 1 32 n * 2 ^ k + field 112 33 88 n) e ∙ sym before-pi) in
+      ap₂ (λ (x : ℕ) (l : List ℕ). x ∷ l) f (ap₂ (λ (x : ℕ) (l : List ℕ). x ∷ l) c (ap₂ (λ (x : ℕ) (l : List ℕ). x ∷ l) a m))
+
+-- ---- what is said of a choice is the choice of what is said
+
+said-of : (t : Bool) (x y : Decoded) → said (cond t x y) ≡ cond t (said x) (said y)
+said-of true x y = refl
+said-of false x y = refl
+
+-- ---- ME: one layout, or none
+
+by-layout : (g : Taken → Said) (h : List ℕ → Said) (i s a o r : Bool) (x y z v w n : Taken) (xs ys zs vs : List ℕ)
+    → g x ≡ h xs → g y ≡ h ys → g z ≡ h zs → g v ≡ h vs → g w ≡ h vs
+    → g (cond i x (cond s y (cond a z (cond o v (cond r w n))))) ≡ cond (not (i || s || a || o || r)) (g n) (h (cond i xs (cond s ys (cond a zs vs))))
+by-layout g h true s a o r x y z v w n xs ys zs vs ex ey ez ev ew = ex
+by-layout g h false true a o r x y z v w n xs ys zs vs ex ey ez ev ew = ey
+by-layout g h false false true o r x y z v w n xs ys zs vs ex ey ez ev ew = ez
+by-layout g h false false false true r x y z v w n xs ys zs vs ex ey ez ev ew = ev
+by-layout g h false false false false true x y z v w n xs ys zs vs ex ey ez ev ew = ew
+by-layout g h false false false false false x y z v w n xs ys zs vs ex ey ez ev ew = refl
+
+me-says : (n : ℕ)
+    → said (withBody (field 112 1 5 n) (field 112 6 8 n) (field 112 9 32 n) (taken (field 112 33 88 n)))
+    ≡ cond (not (typeTaken (field 112 33 37 n) (field 112 38 40 n))) (number 5) (values (unpack (headWidths ++ layoutWidths (field 112 33 37 n)) (field 112 1 88 n)))
+me-says n =
+    let t : ℕ = me 1 5 (field 112 33 88 n) in
+    let u : ℕ = me 6 8 (field 112 33 88 n) in
+    let said-of-list : List ℕ → Said = λ ws. values (unpack (headWidths ++ ws) (field 112 1 88 n)) in
+    by-layout (λ b. said (withBody (field 112 1 5 n) (field 112 6 8 n) (field 112 9 32 n) b)) said-of-list
+    (isIdentification t) (isSurface t) (isAirborne t) (isGround t u) (isAir t u) _ _ _ _ _ _
+    identificationWidths surfaceWidths airborneWidths velocityWidths
+    (ap values (all-fields n identificationWidths refl))
+    (ap values (all-fields n surfaceWidths refl))
+    (ap values (all-fields n airborneWidths refl))
+    (ap values (all-fields n velocityWidths refl))
+    (ap values (all-fields n velocityWidths refl))
+    ∙ ap₂ (λ (t u : ℕ). cond (not (typeTaken t u)) (number 5) (values (unpack (headWidths ++ layoutWidths t) (field 112 1 88 n)))) (type-is n) (subtype-is n)
+
+-- ---- the whole
+
+opened-says : (s : List ℕ)
+    → said (opened (bits 1 5 s) (bits 6 8 s) (bits 9 32 s) (bits 33 88 s))
+    ≡ cond (earns4 s) (number 4) (cond (earns5 s) (number 5) (values (unpack (headWidths ++ layoutWidths (bits 33 37 s)) (bits 1 88 s))))
+unfolding opened
+opened-says s = said-of (earns4 s) _ _ ∙ ap (cond (earns4 s) (number 4)) (me-says (numeral s))
+
+-- what the decoder answers is what the table says
+pub says-the-table : (s : List ℕ) → said (decoded s) ≡ table s
+says-the-table s =
+    said-of (earns1 s) _ _
+    ∙ ap (cond (earns1 s) (number 1)) (said-of (earns3 s) _ _ ∙ ap (cond (earns3 s) (number 3)) (opened-says s))
+
+-- ---- and so each number exactly when
+
+differ : {A : Type 0} (m n : ℕ) → eqb m n ≡ false → number m ≡ number n → A
+differ m n f e =
+    let q : m ≡ n = cc in
+    let z : _≡_ {A = Bool} true false = sym (eq-eqb m n q) ∙ f in
+    let y : _≡_ {A = ℕ} 0 1 = cc in
+    let w : ⊥ = omega arith in
+    absurd w
+
+no-number : {A : Type 0} (v : List ℕ) (n : ℕ) → values v ≡ number n → A
+no-number v n e = let y : _≡_ {A = ℕ} 0 1 = cc in let w : ⊥ = omega arith in absurd w
+
+message-of : (d : Decoded) (v : List ℕ) → said d ≡ values v → (m : Message) × (d ≡ decode.Message m)
+message-of (decode.Message m) v e = (m, refl)
+message-of (decode.Refused r) v e = no-number v (numberOf r) (sym e)
+
+abbrev chosen : Bool → Bool → Bool → Bool → List ℕ → Said
+chosen a b c d v = cond a (number 1) (cond b (number 3) (cond c (number 4) (cond d (number 5) (values v))))
+
+first : (a b c d : Bool) (v : List ℕ) → chosen a b c d v ≡ number 1 → a ≡ true
+first true b c d v e = refl
+first false true c d v e = differ 3 1 refl e
+first false false true d v e = differ 4 1 refl e
+first false false false true v e = differ 5 1 refl e
+first false false false false v e = no-number v 1 e
+
+second : (a b c d : Bool) (v : List ℕ) → chosen a b c d v ≡ number 3 → (a ≡ false) × (b ≡ true)
+second true b c d v e = differ 1 3 refl e
+second false true c d v e = (refl, refl)
+second false false true d v e = differ 4 3 refl e
+second false false false true v e = differ 5 3 refl e
+second false false false false v e = no-number v 3 e
+
+third : (a b c d : Bool) (v : List ℕ) → chosen a b c d v ≡ number 4 → (a ≡ false) × (b ≡ false) × (c ≡ true)
+third true b c d v e = differ 1 4 refl e
+third false true c d v e = differ 3 4 refl e
+third false false true d v e = (refl, refl, refl)
+third false false false true v e = differ 5 4 refl e
+third false false false false v e = no-number v 4 e
+
+fourth : (a b c d : Bool) (v : List ℕ) → chosen a b c d v ≡ number 5 → (a ≡ false) × (b ≡ false) × (c ≡ false) × (d ≡ true)
+fourth true b c d v e = differ 1 5 refl e
+fourth false true c d v e = differ 3 5 refl e
+fourth false false true d v e = differ 4 5 refl e
+fourth false false false true v e = (refl, refl, refl, refl)
+fourth false false false false v e = no-number v 5 e
+
+none : (a b c d : Bool) (v w : List ℕ) → chosen a b c d v ≡ values w → (a ≡ false) × (b ≡ false) × (c ≡ false) × (d ≡ false)
+none true b c d v w e = no-number w 1 (sym e)
+none false true c d v w e = no-number w 3 (sym e)
+none false false true d v w e = no-number w 4 (sym e)
+none false false false true v w e = no-number w 5 (sym e)
+none false false false false v w e = (refl, refl, refl, refl)
+
+module _ (s : List ℕ) where
+  v : List ℕ
+  v = unpack (headWidths ++ layoutWidths (bits 33 37 s)) (bits 1 88 s)
+
+  -- 1 exactly when the message is not of 14 bytes
+  pub one-exactly : said (decoded s) ≡ number 1 ↔ earns1 s ≡ true
+  unfolding v
+  one-exactly = (
+    λ e. first (earns1 s) (earns3 s) (earns4 s) (earns5 s) v (sym (says-the-table s) ∙ e),
+    λ a. says-the-table s ∙ rw a,
+  )
+
+  -- 3 exactly when it is, and its remainder is not 0
+  pub three-exactly : said (decoded s) ≡ number 3 ↔ (earns1 s ≡ false) × (earns3 s ≡ true)
+  unfolding v
+  three-exactly = (
+    λ e. second (earns1 s) (earns3 s) (earns4 s) (earns5 s) v (sym (says-the-table s) ∙ e),
+    λ p. says-the-table s ∙ rw (p .0, p .1),
+  )
+
+  -- 4 exactly when it earns neither 1 nor 3, and its DF or CF is not taken
+  pub four-exactly : said (decoded s) ≡ number 4 ↔ (earns1 s ≡ false) × (earns3 s ≡ false) × (earns4 s ≡ true)
+  unfolding v
+  four-exactly = (
+    λ e. third (earns1 s) (earns3 s) (earns4 s) (earns5 s) v (sym (says-the-table s) ∙ e),
+    λ p. says-the-table s ∙ rw (p .0, p .1, p .2),
+  )
+
+  -- 5 exactly when it earns none of 1, 3 and 4, and its TYPE or subtype is not taken
+  pub five-exactly : said (decoded s) ≡ number 5 ↔ (earns1 s ≡ false) × (earns3 s ≡ false) × (earns4 s ≡ false) × (earns5 s ≡ true)
+  unfolding v
+  five-exactly = (
+    λ e. fourth (earns1 s) (earns3 s) (earns4 s) (earns5 s) v (sym (says-the-table s) ∙ e),
+    λ p. says-the-table s ∙ rw (p .0, p .1, p .2, p .3),
+  )
+
+  -- accepted exactly when it earns none of the four
+  pub accepted-exactly : ((m : Message) × (decoded s ≡ decode.Message m)) ↔ (earns1 s ≡ false) × (earns3 s ≡ false) × (earns4 s ≡ false) × (earns5 s ≡ false)
+  unfolding v
+  accepted-exactly = (
+    λ p. none (earns1 s) (earns3 s) (earns4 s) (earns5 s) v (headFields (p .0) ++ bodyFields (p .0 .body)) (sym (says-the-table s) ∙ ap said (p .1)),
+    λ p. message-of (decoded s) v (says-the-table s ∙ rw (p .0, p .1, p .2, p .3)),
+  )

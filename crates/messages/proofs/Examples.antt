@@ -1,0 +1,51 @@
+-- Published messages with their fields, and what is refused; so the decoder neither refuses all nor gives one message for all. Each is computed.
+-- Assumes nothing.
+use Prim.Native.Nat.{ℕ}
+use mathlib.Core.Path.{_≡_, refl, sym, ap, _∙_}
+use mathlib.Core.List.{List, [], _∷_}
+use native.Mathlib.Omega.{arith}
+use Rattle.parity.specs.Division.{remainder, remainderFrom, reduce}
+use Rattle.messages.specs.Message.{decoded, opened}
+use Rattle.messages.specs.Table.{Said, number, values, said}
+
+-- 8D4840D6202CC371C32CE0576098
+abbrev identification : List ℕ
+identification = 0x8D ∷ 0x48 ∷ 0x40 ∷ 0xD6 ∷ 0x20 ∷ 0x2C ∷ 0xC3 ∷ 0x71 ∷ 0xC3 ∷ 0x2C ∷ 0xE0 ∷ 0x57 ∷ 0x60 ∷ 0x98 ∷ []
+
+-- 8D40621D58C382D690C8AC2863A7
+abbrev airborne : List ℕ
+airborne = 0x8D ∷ 0x40 ∷ 0x62 ∷ 0x1D ∷ 0x58 ∷ 0xC3 ∷ 0x82 ∷ 0xD6 ∷ 0x90 ∷ 0xC8 ∷ 0xAC ∷ 0x28 ∷ 0x63 ∷ 0xA7 ∷ []
+
+-- 8D485020994409940838175B284F
+abbrev ground : List ℕ
+ground = 0x8D ∷ 0x48 ∷ 0x50 ∷ 0x20 ∷ 0x99 ∷ 0x44 ∷ 0x09 ∷ 0x94 ∷ 0x08 ∷ 0x38 ∷ 0x17 ∷ 0x5B ∷ 0x28 ∷ 0x4F ∷ []
+
+-- 8DA05F219B06B6AF189400CBC33F
+abbrev air : List ℕ
+air = 0x8D ∷ 0xA0 ∷ 0x5F ∷ 0x21 ∷ 0x9B ∷ 0x06 ∷ 0xB6 ∷ 0xAF ∷ 0x18 ∷ 0x94 ∷ 0x00 ∷ 0xCB ∷ 0xC3 ∷ 0x3F ∷ []
+
+-- DF and TYPE are 0, which earn 4 and 5: it is 4
+abbrev zeros : List ℕ
+zeros = 0 ∷ 0 ∷ 0 ∷ 0 ∷ 0 ∷ 0 ∷ 0 ∷ 0 ∷ 0 ∷ 0 ∷ 0 ∷ 0 ∷ 0 ∷ 0 ∷ []
+
+-- the same with bit 88 set: 3 comes before 4
+abbrev bit-88 : List ℕ
+bit-88 = 0 ∷ 0 ∷ 0 ∷ 0 ∷ 0 ∷ 0 ∷ 0 ∷ 0 ∷ 0 ∷ 0 ∷ 1 ∷ 0 ∷ 0 ∷ 0 ∷ []
+
+pub examples : (said (decoded identification) ≡ values (17 ∷ 5 ∷ 0x4840D6 ∷ 4 ∷ 0 ∷ 49217938861280 ∷ []))
+    × (said (decoded airborne) ≡ values (17 ∷ 5 ∷ 0x40621D ∷ 11 ∷ 0 ∷ 0 ∷ 3128 ∷ 0 ∷ 0 ∷ 93000 ∷ 51372 ∷ []))
+    × (said (decoded ground) ≡ values (17 ∷ 5 ∷ 0x485020 ∷ 19 ∷ 1 ∷ 0 ∷ 1 ∷ 0 ∷ 1 ∷ 9 ∷ 1 ∷ 160 ∷ 0 ∷ 1 ∷ 14 ∷ 0 ∷ 0 ∷ 23 ∷ []))
+    × (said (decoded air) ≡ values (17 ∷ 5 ∷ 0xA05F21 ∷ 19 ∷ 3 ∷ 0 ∷ 0 ∷ 0 ∷ 1 ∷ 694 ∷ 1 ∷ 376 ∷ 1 ∷ 1 ∷ 37 ∷ 0 ∷ 0 ∷ 0 ∷ []))
+    × (said (decoded zeros) ≡ number 4)
+    × (said (decoded bit-88) ≡ number 3)
+    × (said (decoded []) ≡ number 1)
+unfolding remainder remainderFrom reduce opened
+examples = (refl, refl, refl, refl, refl, refl, refl)
+
+-- so two accepted messages are told apart
+pub told-apart : decoded identification ≡ decoded airborne → ⊥
+told-apart e =
+    let p : values (17 ∷ 5 ∷ 0x4840D6 ∷ 4 ∷ 0 ∷ 49217938861280 ∷ []) ≡ values (17 ∷ 5 ∷ 0x40621D ∷ 11 ∷ 0 ∷ 0 ∷ 3128 ∷ 0 ∷ 0 ∷ 93000 ∷ 51372 ∷ []) =
+    sym (examples .0) ∙ ap said e ∙ examples .1 in
+    let z : _≡_ {A = ℕ} 4 11 = cc in
+    omega arith

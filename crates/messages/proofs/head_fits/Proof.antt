@@ -1,0 +1,14 @@
+-- `messages::head_fits` meets its contract: its last test is that of `format_taken`.
+-- Assumes nothing.
+use borrow.Author.Needs.{needs}
+use Rattle.messages.proofs.head_fits.Statement.{statement}
+use Rattle.messages.proofs.head_fits.Tie as tie
+
+format-taken-requires : tie.Need-format-taken-requires
+format-taken-requires c κs = search needs
+
+returns : tie.Need-returns
+returns c = rw (c .before .before .before .format-taken .ensures)
+
+pub head-fits-spec : {M : Type 1} → statement M
+head-fits-spec = tie.close (tie.spec format-taken-requires returns)

@@ -1,0 +1,93 @@
+-- A message of 112 bits: what its bytes say, and the bytes that say it. Bit 1 is the top bit of byte 0.
+use Prim.Native.Nat.{ℕ, _+_, _*_, _%_, _^_}
+use mathlib.Core.List.{List, [], _∷_, _++_}
+use mathlib.Core.Bool.{Bool, cond, not, _&&_, _||_}
+use lib.Dec.{leb, eqb}
+use lib.ListN.{length}
+use Rattle.refusals.specs.declared.Refusal.the-variants.{Length, Parity, Format, Field}
+use Rattle.fields.specs.Packing.{field, pack, fits}
+use Rattle.fields.specs.Bytes.{number, bytesOf}
+use Rattle.parity.specs.Division.{remainder, seal}
+use Rattle.layouts.specs.Bodies.{taken, bodyMe, bodyFits}
+use Rattle.layouts.specs.declared.bodies.Taken.{Taken}
+use Rattle.layouts.specs.declared.bodies.Taken.the-variants as read
+use Rattle.layouts.specs.declared.bodies.Written.{Written}
+use Rattle.layouts.specs.declared.bodies.Written.the-variants as write
+use Rattle.messages.specs.declared.Message.{Message}
+use Rattle.messages.specs.declared.Decoded.{Decoded}
+use Rattle.messages.specs.declared.Decoded.the-variants as decode
+use Rattle.messages.specs.declared.Encoded.{Encoded}
+use Rattle.messages.specs.declared.Encoded.the-variants as encode
+
+-- bits from .. to of the message
+abbrev pub bits : ℕ → ℕ → List ℕ → ℕ
+bits from to s = field 112 from to (number s)
+
+-- taken: DF 17 with any CA, and DF 18 with CF 0 or 1
+abbrev pub formatTaken : ℕ → ℕ → Bool
+formatTaken format control = eqb format 17 || (eqb format 18 && leb control 1)
+
+-- ---- decoding
+
+-- with what ME says
+abbrev pub withBody : ℕ → ℕ → ℕ → Taken → Decoded
+withBody format control address (read.Body b) = decode.Message (record { format = format; control = control; address = address; body = b })
+withBody format control address (read.Refused r) = decode.Refused r
+
+-- by DF, CA or CF, AA and ME: 4, then 5
+unfoldable pub opened : ℕ → ℕ → ℕ → ℕ → Decoded
+opened format control address me =
+    cond (not (formatTaken format control)) (decode.Refused Format)
+    (withBody format control address (taken me))
+
+-- 1, then 3, then 4 and 5. DF is bits 1-5, CA or CF 6-8, AA 9-32, ME 33-88
+abbrev pub decoded : List ℕ → Decoded
+decoded s =
+    cond (not (eqb (length s) 14)) (decode.Refused Length)
+    (cond (not (eqb (remainder s) 0)) (decode.Refused Parity)
+    (opened (bits 1 5 s) (bits 6 8 s) (bits 9 32 s) (bits 33 88 s)))
+
+-- ---- the key of a track
+
+-- I, here 1: DF 17, and DF 18 with CF 0. O, here 2: DF 18 with CF 1
+abbrev pub kindOf : ℕ → ℕ → ℕ
+kindOf format control = cond (eqb format 18 && eqb control 1) 2 1
+
+-- the kind above the 24 bits of AA
+abbrev pub keyOf : Message → ℕ
+keyOf m = kindOf (m .format) (m .control) * 2 ^ 24 + m .address % 2 ^ 24
+
+-- ---- encoding
+
+-- what stands before ME: DF, CA or CF, AA
+abbrev pub headWidths : List ℕ
+headWidths = 5 ∷ 3 ∷ 24 ∷ []
+
+abbrev pub headFields : Message → List ℕ
+headFields m = m .format ∷ m .control ∷ m .address ∷ []
+
+-- whether each field fits its bits, in a message that would earn neither 4 nor 5
+abbrev pub messageFits : Message → Bool
+messageFits m = fits headWidths (headFields m) && formatTaken (m .format) (m .control) && bodyFits (m .body)
+
+-- ME of a message that fits
+abbrev pub meOf : Message → Written
+meOf m = cond (messageFits m) (write.Me (bodyMe (m .body))) (write.Refused Field)
+
+-- bytes with the three behind them that make the remainder 0: PI is bits 89-112
+abbrev pub sealedBy : List ℕ → List ℕ
+sealedBy s = s ++ bytesOf 3 (seal s)
+
+abbrev pub messageBytes : Message → List ℕ
+messageBytes m = sealedBy (bytesOf 4 (pack headWidths (headFields m)) ++ bytesOf 7 (bodyMe (m .body)))
+
+-- 1, then 8
+abbrev pub encoded : Message → List ℕ → Encoded
+encoded m out =
+    cond (not (eqb (length out) 14)) (encode.Refused Length)
+    (cond (not (messageFits m)) (encode.Refused Field)
+    encode.Written)
+
+-- what the buffer holds afterwards: after a refusal what it held
+abbrev pub encodedBytes : Message → List ℕ → List ℕ
+encodedBytes m out = cond (eqb (length out) 14 && messageFits m) (messageBytes m) out
