@@ -6,3 +6,4 @@ pub mod Naturals
 pub mod Table
 pub mod Signed
 pub mod Answers
+pub mod Trip

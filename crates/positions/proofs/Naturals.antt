@@ -13,12 +13,17 @@ use Rattle.positions.specs.Code.{nearestℕ}
 use Rattle.positions.specs.Positions.{turn, whole, rounded, roundedTurn, inside, pairZone, less360, nearZone, near}
 use Rattle.positions.proofs.Shift.{sub-pos, sub-eq, sub-add, sub-less, pos-sub, sub-mul, sub-floor, sub-modulo, sub-nearest, abs-is}
 
--- a latitude w - turn, encoded
-pub whole-is : (P N w : ℕ) → 0 < N * P → whole P N (subℕ w turn) ≡ subℕ (nearestℕ (w * (N * P)) turn) (N * P)
+-- a number k turns up, encoded
+pub whole-up : (P N w k : ℕ) → 0 < N * P → whole P N (subℕ w (k * turn)) ≡ subℕ (nearestℕ (w * (N * P)) turn) (k * (N * P))
 unfolding whole
+whole-up P N w k p =
+    ap (λ (z : ℤ). nearest z turn) (sub-mul w (k * turn) (N * P) p ∙ sub-eq (w * (N * P)) (k * turn * (N * P)) (w * (N * P)) (k * (N * P) * turn) (omega arith))
+    ∙ sub-nearest (w * (N * P)) (k * (N * P)) turn (omega arith)
+
+-- so a latitude w - turn
+pub whole-is : (P N w : ℕ) → 0 < N * P → whole P N (subℕ w turn) ≡ subℕ (nearestℕ (w * (N * P)) turn) (N * P)
 whole-is P N w p =
-    ap (λ (z : ℤ). nearest z turn) (sub-mul w turn (N * P) p ∙ sub-eq (w * (N * P)) (turn * (N * P)) (w * (N * P)) (N * P * turn) (omega arith))
-    ∙ sub-nearest (w * (N * P)) (N * P) turn (omega arith)
+    whole-up P N w 1 p ∙ ap (λ (m : ℕ). subℕ (nearestℕ (w * (N * P)) turn) m) {x = 1 * (N * P)} {y = N * P} (omega arith)
 
 -- a longitude, encoded
 pub whole-pos : (P N x : ℕ) → whole P N (pos x) ≡ pos (nearestℕ (x * (N * P)) turn)
@@ -94,27 +99,31 @@ pub rounded-turn : (M v : ℕ) → roundedTurn M v ≡ nearestℕ (v * turn) M %
 unfolding roundedTurn rounded nearest floor modulo nearestℕ
 rounded-turn M v = refl
 
--- the zone near a reference: of a latitude w - turn
+-- the zone near a reference, of a number k turns up
+pub near-zone-up : (P N w k c : ℕ) → 0 < P → 0 < N * P → c * turn ≤ w * (N * P) →
+    nearZone P N (subℕ w (k * turn)) c ≡ subℕ (nearestℕ (w * (N * P) - c * turn) (turn * P)) (k * N)
+unfolding nearZone
+near-zone-up P N w k c p q h =
+    ap (λ (z : ℤ). nearest (z -ℤ pos (c * turn)) (turn * P)) (sub-mul w (k * turn) (N * P) q)
+    ∙ ap (λ (z : ℤ). nearest z (turn * P))
+    (sub-less (w * (N * P)) (k * turn * (N * P)) (c * turn)
+    ∙ sub-eq (w * (N * P)) (k * turn * (N * P) + c * turn) (w * (N * P) - c * turn) (k * N * (turn * P)) (omega arith))
+    ∙ sub-nearest (w * (N * P) - c * turn) (k * N) (turn * P) (omega arith)
+
+-- so of a latitude w - turn
 pub near-zone-latitude : (P N w c : ℕ) → 0 < P → 0 < N * P → c * turn ≤ w * (N * P) →
     nearZone P N (subℕ w turn) c ≡ subℕ (nearestℕ (w * (N * P) - c * turn) (turn * P)) N
-unfolding nearZone
 near-zone-latitude P N w c p q h =
-    ap (λ (z : ℤ). nearest (z -ℤ pos (c * turn)) (turn * P)) (sub-mul w turn (N * P) q)
-    ∙ ap (λ (z : ℤ). nearest z (turn * P))
-    (sub-less (w * (N * P)) (turn * (N * P)) (c * turn)
-    ∙ sub-eq (w * (N * P)) (turn * (N * P) + c * turn) (w * (N * P) - c * turn) (N * (turn * P)) (omega arith))
-    ∙ sub-nearest (w * (N * P) - c * turn) N (turn * P) (omega arith)
+    near-zone-up P N w 1 c p q h ∙ ap (λ (m : ℕ). subℕ (nearestℕ (w * (N * P) - c * turn) (turn * P)) m) {x = 1 * N} {y = N} (omega arith)
 
--- and of a longitude w
+-- and of a longitude w, which is w + turn, one turn up
 pub near-zone-longitude : (P N w c : ℕ) → 0 < P → 0 < N → c ≤ P →
     nearZone P N (pos w) c ≡ subℕ (nearestℕ (w * (N * P) + N * (turn * P) - c * turn) (turn * P)) N
-unfolding nearZone
 near-zone-longitude P N w c p q h =
     let g : c * turn * 1 ≤ P * turn * N = mul-le-mul (omega arith) q in
-    ap (λ (z : ℤ). nearest z (turn * P))
-    (pos-sub (w * (N * P)) (c * turn)
-    ∙ sub-eq (w * (N * P)) (c * turn) (w * (N * P) + N * (turn * P) - c * turn) (N * (turn * P)) (omega arith))
-    ∙ sub-nearest (w * (N * P) + N * (turn * P) - c * turn) N (turn * P) (omega arith)
+    ap (λ (z : ℤ). nearZone P N z c) (ap pos {x = w} {y = w + turn - turn} (omega arith) ∙ sym (sub-pos (w + turn) turn (omega arith)))
+    ∙ near-zone-latitude P N (w + turn) c p (omega (arith, mul-le-mul q p)) (omega arith)
+    ∙ ap (λ (x : ℕ). subℕ (nearestℕ (x - c * turn) (turn * P)) N) {x = (w + turn) * (N * P)} {y = w * (N * P) + N * (turn * P)} (omega arith)
 
 pub near-zone-modulo : (P N w c : ℕ) → 0 < P → 0 < N → c ≤ P →
     modulo (nearZone P N (pos w) c) N ≡ nearestℕ (w * (N * P) + N * (turn * P) - c * turn) (turn * P) % N
@@ -123,16 +132,16 @@ near-zone-modulo P N w c p q h =
     ap (λ (z : ℤ). modulo z N) (near-zone-longitude P N w c p q h ∙ sub-eq J N J (1 * N) (omega arith)) ∙ sub-modulo J 1 N q
 
 -- the position near a reference, from its zone
-pub near-is : (P N J c : ℕ) (reference : ℤ) → 0 < P → nearZone P N reference c ≡ subℕ J N → near P N reference c ≡ subℕ (J * P + c) (N * P)
+pub near-is : (P N m J c : ℕ) (reference : ℤ) → 0 < P → nearZone P N reference c ≡ subℕ J m → near P N reference c ≡ subℕ (J * P + c) (m * P)
 unfolding near
-near-is P N J c reference p e =
-    ap (λ (z : ℤ). z *ℤ pos P +ℤ pos c) e ∙ ap (λ (z : ℤ). z +ℤ pos c) (sub-mul J N P p) ∙ sub-add (J * P) (N * P) c
+near-is P N m J c reference p e =
+    ap (λ (z : ℤ). z *ℤ pos P +ℤ pos c) e ∙ ap (λ (z : ℤ). z +ℤ pos c) (sub-mul J m P p) ∙ sub-add (J * P) (m * P) c
 
 -- modulo 360 degrees
 pub near-modulo : (P N J c : ℕ) (reference : ℤ) → 0 < P → 0 < N → c < P → nearZone P N reference c ≡ subℕ J N →
     modulo (near P N reference c) (N * P) ≡ J % N * P + c
 near-modulo P N J c reference p q h e =
-    ap (λ (z : ℤ). modulo z (N * P)) (near-is P N J c reference p e ∙ sub-eq (J * P + c) (N * P) (J * P + c) (1 * (N * P)) (omega arith))
+    ap (λ (z : ℤ). modulo z (N * P)) (near-is P N N J c reference p e ∙ sub-eq (J * P + c) (N * P) (J * P + c) (1 * (N * P)) (omega arith))
     ∙ sub-modulo (J * P + c) 1 (N * P) (omega (arith, mul-le-mul q p))
     ∙ mod-mul (J * P + c) q p
     ∙ ap (λ (y : ℕ). y % N * P + (J * P + c) % P) (digits-div J h)

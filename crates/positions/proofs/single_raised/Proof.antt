@@ -19,7 +19,7 @@ found :
     near 131072 z (subℕ (a .up) 4294967296) (a .counts .latitude .0) ≡ subℕ (u .near-latitude-zone .result .0 * 131072 + a .counts .latitude .0) (z * 131072)
 found u =
     let a = u .before .before .before .before .args in
-    near-is 131072 (u .before .before .all-round .result) (u .near-latitude-zone .result .0) (a .counts .latitude .0) (subℕ (a .up) 4294967296) (lit< tt)
+    near-is 131072 (u .before .before .all-round .result) (u .before .before .all-round .result) (u .near-latitude-zone .result .0) (a .counts .latitude .0) (subℕ (a .up) 4294967296) (lit< tt)
     (u .near-latitude-zone .ensures .0)
 
 latitude-zones-requires : tie.Need-latitude-zones-requires
