@@ -7,3 +7,7 @@ pub mod Table
 pub mod Signed
 pub mod Answers
 pub mod Trip
+pub mod RoundTrip
+pub mod Half
+pub mod Nearby
+pub mod Unique

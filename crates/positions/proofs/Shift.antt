@@ -140,3 +140,16 @@ abs-south r M h = rw (sub-neg r M h) (omega arith)
 
 pub abs-is : (r M : ℕ) → natAbs (subℕ r M) ≡ (r - M) + (M - r)
 abs-is r M = ⊎-elim (λ (h : M ≤ r). abs-north r M h ∙ omega arith) (λ (h : r < M). abs-south r M h ∙ omega arith) (order r M)
+
+-- any whole number, as a difference from any m that is large enough
+abbrev pub lifted : ℤ → ℕ → ℕ
+lifted (pos a) m = a + m
+lifted (negsuc a) m = m - suc a
+
+pub lifted-is : (z : ℤ) (m : ℕ) → natAbs z ≤ m → subℕ (lifted z m) m ≡ z
+lifted-is (pos a) m h = sub-pos (a + m) m (omega arith) ∙ ap pos {x = a + m - m} {y = a} (omega arith)
+lifted-is (negsuc a) m h = sub-neg (m - suc a) m (omega arith) ∙ ap negsuc {x = m - suc (m - suc a)} {y = a} (omega arith)
+
+pub lifted-least : (z : ℤ) (m n : ℕ) → natAbs z + n ≤ m → n ≤ lifted z m
+lifted-least (pos a) m n h = omega arith
+lifted-least (negsuc a) m n h = omega arith

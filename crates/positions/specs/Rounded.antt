@@ -1,7 +1,8 @@
--- The rounded place of a message, which the theorems speak of: both numbers before the modulo, as a spot.
+-- What the theorems speak of: the rounded place of a message, how far apart two places are, and the positions near a reference.
+use mathlib.Core.Path.{_≡_}
 use mathlib.Core.Bool.{cond}
-use Prim.Native.Nat.{ℕ, _*_}
-use lib.IntN.{ℤ, pos}
+use Prim.Native.Nat.{ℕ, _+_, _-_, _*_, _≤_, min}
+use lib.IntN.{ℤ, pos, natAbs, _+ℤ_, _-ℤ_, _*ℤ_}
 use lib.Dec.{eqb}
 use Rattle.refusals.specs.declared.Refusal.the-variants.{Zones}
 use Rattle.positions.specs.declared.Spot.{Spot}
@@ -12,7 +13,7 @@ use Rattle.positions.specs.declared.Found.{Found}
 use Rattle.positions.specs.declared.Found.the-variants.{At, Refused}
 use Rattle.positions.specs.Whole.{modulo}
 use Rattle.positions.specs.Zones.{zoneCount}
-use Rattle.positions.specs.Positions.{latitudeZones, longitudeZones, whole, rounded, roundedTurn}
+use Rattle.positions.specs.Positions.{turn, latitudeZones, longitudeZones, whole, rounded, roundedTurn}
 
 -- NL of the rounded latitude of the airborne message of format f
 unfoldable pub countBy : ℕ → Format → ℤ → ℕ
@@ -31,3 +32,17 @@ roundedSpot P f s =
 unfoldable pub roundTrip : ℕ → Spot → Format → Found
 roundTrip P s later =
     cond (eqb (countBy P Even (s .latitude)) (countBy P Odd (s .latitude))) (At (roundedSpot P later s)) (Refused Zones)
+
+-- how far apart two numbers are on a circle of C
+abbrev pub around : ℕ → ℕ → ℕ → ℕ
+around C a b = min ((a - b) + (b - a)) (C - ((a - b) + (b - a)))
+
+-- how far the position z / (N * P) lies above the reference, both of 360 degrees, over turn * (N * P): a zone is turn * P of it
+abbrev pub beyond : ℕ → ℕ → ℤ → ℤ → ℤ
+beyond P N reference z = z *ℤ pos turn -ℤ reference *ℤ pos (N * P)
+
+-- z has the count c and lies within half a zone of the reference, but not just half a zone below it
+pub record Nearby (P N : ℕ) (reference : ℤ) (c : ℕ) (z : ℤ) : Type 0 where
+  pub counted : modulo z P ≡ c
+  pub within : 2 * natAbs (beyond P N reference z) ≤ turn * P
+  pub upper : pos 2 *ℤ beyond P N reference z +ℤ pos (turn * P) ≡ pos 0 → ⊥
