@@ -11,3 +11,4 @@ pub mod RoundTrip
 pub mod Half
 pub mod Nearby
 pub mod Unique
+pub mod Worked
