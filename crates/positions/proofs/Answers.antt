@@ -1,6 +1,6 @@
 -- Each answer from what the code has computed: every part is put for the one that the definition names, and every test is decided.
-use mathlib.Core.Path.{_≡_, refl, sym, ap, _∙_}
-use mathlib.Core.Bool.{Bool, true, false, _&&_, _||_}
+use mathlib.Core.Path.{_≡_, sym, ap, _∙_}
+use mathlib.Core.Bool.{true, false, _||_}
 use mathlib.Core.Logic.{⊎-elim}
 use Prim.Native.Nat.{ℕ, _+_, _*_, _%_, _≤_, _<_}
 use native.Mathlib.Omega.{arith}
@@ -16,7 +16,7 @@ use Rattle.positions.specs.declared.Format.the-variants.{Even, Odd}
 use Rattle.positions.specs.declared.Found.the-variants.{At, Refused}
 use Rattle.positions.specs.Whole.{modulo}
 use Rattle.positions.specs.Zones.{zoneCount}
-use Rattle.positions.specs.Code.{Paired}
+use Rattle.positions.specs.Code.{Within, Paired}
 use Rattle.positions.specs.Positions.{turn, own, latitudeZones, longitudeZones, allRound, whole, count, spotZones, countsOf, rounded, roundedTurn, inside, pairZone, inZone, pairLatitude, pairLongitude, pairCount, pairSpot, pairFound, fit, nearZone, near, nearSpot, nearFound}
 use Rattle.positions.proofs.Joined.{both, either, neither, and-false}
 use Rattle.positions.proofs.Shift.{sub-modulo}
@@ -27,6 +27,17 @@ spot y x = record { latitude = y; longitude = x }
 
 pub same : {p q : ℤ} {u v : ℕ} → p ≡ q → u ≡ v → spot p u ≡ spot q v
 same e f = λ i. spot (e i) (f i)
+
+-- the parts of a pair
+pub own-small : (f : Format) {even odd : ℕ} → even < 131072 → odd < 131072 → own f even odd < 131072
+own-small Even p q = p
+own-small Odd p q = q
+
+pub pair-latitude : (f : Format) (even odd z zone c r : ℕ) →
+    z ≡ latitudeZones f → zone ≡ modulo (pairZone 131072 60 even odd) z → c ≡ own f even odd → Within (z * 131072) (zone * 131072 + c) r → Paired f even odd r
+unfolding pairLatitude inZone
+pair-latitude f even odd z zone c r ez ezone ec w =
+    record { is = rw (← ez, ← ec, ← ezone) (w .is); south = rw (← ez) (w .south); below = rw (← ez) (w .below) }
 
 module _ (f : Format) (up NL even odd z n zone c : ℕ) {y : ℤ} {x : ℕ} where
   pub pair-spot :

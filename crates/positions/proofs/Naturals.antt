@@ -2,7 +2,7 @@
 -- The turn is a multiple of every divisor, so it comes out of a division whole and a remainder does not see it.
 use mathlib.Core.Path.{_≡_, refl, sym, ap, _∙_}
 use mathlib.Core.Bool.{true, false}
-use Prim.Native.Nat.{ℕ, suc, _+_, _-_, _*_, _/_, _%_, _≤_, _<_}
+use Prim.Native.Nat.{ℕ, _+_, _-_, _*_, _/_, _%_, _≤_, _<_}
 use native.Mathlib.Nat.{mul-le-mul-left, mul-le-mul, mul-le-mul-right, le-div-iff-mul-le, div-lt-iff-lt-mul, le-of-suc-le-suc}
 use native.Mathlib.Omega.{arith}
 use lib.Arith.{mod-mul, digits-div, digits-mod}
@@ -11,7 +11,7 @@ use borrow.Author.Tests.{le-leb, lt-leb}
 use Rattle.positions.specs.Whole.{floor, modulo, nearest}
 use Rattle.positions.specs.Code.{nearestℕ}
 use Rattle.positions.specs.Positions.{turn, whole, rounded, roundedTurn, inside, pairZone, less360, nearZone, near}
-use Rattle.positions.proofs.Shift.{sub-pos, sub-eq, sub-add, sub-less, pos-sub, sub-mul, sub-floor, sub-modulo, sub-nearest, abs-is}
+use Rattle.positions.proofs.Shift.{sub-pos, sub-eq, sub-add, sub-less, pos-sub, sub-mul, sub-modulo, sub-nearest, abs-is}
 
 -- a number k turns up, encoded
 pub whole-up : (P N w k : ℕ) → 0 < N * P → whole P N (subℕ w (k * turn)) ≡ subℕ (nearestℕ (w * (N * P)) turn) (k * (N * P))

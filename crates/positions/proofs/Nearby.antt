@@ -7,7 +7,6 @@ use native.Mathlib.Omega.{arith}
 use lib.Arith.{digits-mod}
 use lib.Dec.{lit<}
 use lib.IntN.{ℤ, pos, natAbs, subℕ, _+ℤ_, _-ℤ_, _*ℤ_, *ℤ-comm}
-use Rattle.positions.specs.Whole.{modulo}
 use Rattle.positions.specs.Code.{nearestℕ}
 use Rattle.positions.specs.Positions.{turn, near}
 use Rattle.positions.specs.Rounded.{beyond, Nearby}

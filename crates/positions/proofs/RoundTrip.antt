@@ -1,14 +1,13 @@
 -- Encoding one place both ways and pairing gives the rounded place of the later message exactly, or 10 just when the two rounded
 -- latitudes differ in NL, and never 9: both latitudes come back exactly (Trip.antt), so their tests and NLs are those of the rounded ones.
 use mathlib.Core.Path.{_≡_, refl, sym, ap, _∙_}
-use mathlib.Core.Bool.{Bool, true, false, cond, _&&_}
-use Prim.Native.Nat.{ℕ, _+_, _*_, _%_, _≤_, _<_, suc, _-_}
+use mathlib.Core.Bool.{Bool, true, false, cond}
+use Prim.Native.Nat.{ℕ, _*_, _≤_, _<_}
 use native.Mathlib.Nat.{mod-lt}
 use native.Mathlib.Omega.{arith}
 use lib.Dec.{T, eqb, eqb→eq, lit<}
 use lib.IntN.{ℤ, pos, negsuc, natAbs}
 use borrow.Author.Tests.{lt-ltb}
-use Rattle.refusals.specs.declared.Refusal.the-variants.{Zones}
 use Rattle.positions.specs.declared.Spot.{Spot}
 use Rattle.positions.specs.declared.Kind.the-variants.{Airborne}
 use Rattle.positions.specs.declared.Format.{Format}
@@ -16,10 +15,10 @@ use Rattle.positions.specs.declared.Format.the-variants.{Even, Odd}
 use Rattle.positions.specs.declared.Counts.{Counts}
 use Rattle.positions.specs.declared.Encoded.the-variants.{As}
 use Rattle.positions.specs.declared.Found.{Found}
-use Rattle.positions.specs.declared.Found.the-variants.{At, Refused}
+use Rattle.positions.specs.declared.Found.the-variants.{At}
 use Rattle.positions.specs.Whole.{modulo}
 use Rattle.positions.specs.Zones.{zoneCount}
-use Rattle.positions.specs.Positions.{latitudeZones, longitudeZones, allRound, whole, count, spotZones, countsOf, fromPole, encoded, rounded, roundedTurn, inside, pairLatitude, pairLongitude, pairCount, pairSpot, pairFound, fit, paired}
+use Rattle.positions.specs.Positions.{latitudeZones, longitudeZones, allRound, whole, count, spotZones, countsOf, fromPole, encoded, inside, pairLatitude, pairLongitude, pairCount, pairSpot, pairFound, fit, paired}
 use Rattle.positions.specs.Rounded.{countBy, roundedSpot, roundTrip}
 use Rattle.positions.proofs.Table.{count-range}
 use Rattle.positions.proofs.encode.Reads as encode

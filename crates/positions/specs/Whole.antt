@@ -1,5 +1,5 @@
 -- Whole numbers of either sign: divided and rounded down, the remainder, and rounded to nearest.
-use Prim.Native.Nat.{ℕ, suc, _+_, _-_, _*_, _/_, _%_}
+use Prim.Native.Nat.{ℕ, suc, _-_, _*_, _/_, _%_}
 use lib.IntN.{ℤ, pos, negsuc, _+ℤ_, _*ℤ_}
 
 -- z / d rounded down, also under zero: -(a + 1) / d is -(a / d + 1)

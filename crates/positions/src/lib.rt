@@ -13,7 +13,7 @@ ghost use lib.Dec.{leb};
 ghost use lib.IntN.{subℕ, pos};
 ghost use Rattle.positions.specs.Whole.{modulo};
 ghost use Rattle.positions.specs.Zones.{latitudes, first, zoneCount};
-ghost use Rattle.positions.specs.Positions.{latitudeZones, longitudeZones, allRound, whole, countsOf, encoded, rounded, roundedTurn, pairZone, pairLatitude, pairSpot, pairFound, fit, paired, nearZone, nearSpot, nearFound, singly};
+ghost use Rattle.positions.specs.Positions.{own, latitudeZones, longitudeZones, allRound, whole, countsOf, encoded, rounded, roundedTurn, pairZone, pairLatitude, pairSpot, pairFound, fit, paired, nearZone, nearSpot, nearFound, singly};
 ghost use Rattle.positions.specs.Code.{nearestℕ, raised, Polar, Within, Paired};
 
 // 58 latitudes in units of 10^-8 degree, at which the number of longitude zones falls: 59 up to the first, 2 up to the last.
@@ -77,6 +77,22 @@ const LATITUDES: [u64; 58] = [
     8653536998,
     8700000000,
 ];
+
+// The units of a spot in 360 degrees, the counts in a zone, and both: the units of a spot times the counts in 360 degrees of one zone.
+const TURN: u64 = 4294967296;
+
+const SIZE: u64 = 131072;
+
+const FINE: u64 = 562949953421312;
+
+// The poles one turn up, in units of a spot; the north pole in fourths of a count, of 60 and of 59 zones.
+const SOUTH: u64 = 3221225472;
+
+const NORTH: u64 = 5368709120;
+
+const EVEN_NORTH: u64 = 39321600;
+
+const ODD_NORTH: u64 = 38666240;
 
 // A spot on the earth, in 2^-32 of 360 degrees: latitude from the equator, longitude from 0.
 pub struct Spot {
@@ -163,7 +179,7 @@ fn raise(latitude: i32) -> u64
 fn from_pole(up: u64) -> bool
     ensures { λ r. ⌜ r ≡ (leb 3221225472 up && leb up 5368709120) ⌝ }
 {
-    (3221225472 <= up) & (up <= 5368709120)
+    (SOUTH <= up) & (up <= NORTH)
 }
 
 fn lower(up: u64) -> i32
@@ -204,7 +220,7 @@ fn zone_count_at(table: &[u64; 58], up: u64, n: u64) -> u32
     requires { ⌜ (now table ≡ latitudes) × (((0 < n) × (n ≤ 240)) × Polar (n * 131072) up) ⌝ }
     ensures { λ r. ⌜ (r ≡ zoneCount (n * 131072) (subℕ up (n * 131072))) × ((0 < r) × (r ≤ 59)) ⌝ }
 {
-    let m = n * 131072;
+    let m = n * SIZE;
     if up < m {
         zone_count(table, (m - up) * 36000000000, m)
     } else {
@@ -249,7 +265,7 @@ fn latitude_out(up: u64, n: u64) -> i32
     requires { ⌜ ((0 < n) × (n ≤ 240)) × Polar (n * 131072) up ⌝ }
     ensures { λ r. ⌜ r ≡ rounded (n * 131072) (subℕ up (n * 131072)) ⌝ }
 {
-    lower(nearest(up * 4294967296, n * 131072))
+    lower(nearest(up * TURN, n * SIZE))
 }
 
 // The longitude of a zone of n and a count; what rounds to 2^32 becomes 0.
@@ -257,8 +273,8 @@ fn longitude_out(zone: Zone, count: LongitudeCount, n: u64) -> u32
     requires { ⌜ (zone .0 < n) × ((count .0 < 131072) × (n ≤ 240)) ⌝ }
     ensures { λ r. ⌜ r ≡ roundedTurn (n * 131072) (zone .0 * 131072 + count .0) ⌝ }
 {
-    let v = (zone.0 as u64) * 131072 + (count.0 as u64);
-    (nearest(v * 4294967296, n * 131072) % 4294967296) as u32
+    let v = (zone.0 as u64) * SIZE + (count.0 as u64);
+    (nearest(v * TURN, n * SIZE) % TURN) as u32
 }
 
 // A latitude one turn up, encoded by n zones: the whole number before the modulo, one turn up.
@@ -266,14 +282,14 @@ fn latitude_whole(up: u64, n: u64) -> u64
     requires { ⌜ ((0 < n) × (n ≤ 240)) × ((3221225472 ≤ up) × (up ≤ 5368709120)) ⌝ }
     ensures { λ r. ⌜ (whole 131072 n (subℕ up 4294967296) ≡ subℕ r (n * 131072)) × Polar (n * 131072) r ⌝ }
 {
-    nearest(up * (n * 131072), 4294967296)
+    nearest(up * (n * SIZE), TURN)
 }
 
 fn longitude_whole(longitude: u32, n: u64) -> u64
     requires { ⌜ (0 < n) × (n ≤ 240) ⌝ }
     ensures { λ r. ⌜ whole 131072 n (pos longitude) ≡ pos r ⌝ }
 {
-    nearest((longitude as u64) * (n * 131072), 4294967296)
+    nearest((longitude as u64) * (n * SIZE), TURN)
 }
 
 fn encode_raised(up: u64, longitude: u32, kind: Kind, format: Format) -> Counts
@@ -286,8 +302,8 @@ fn encode_raised(up: u64, longitude: u32, kind: Kind, format: Format) -> Counts
     let n = all_round(kind, longitude_zones(format, zone_count_at(&table, y, z)));
     let x = longitude_whole(longitude, n);
     Counts {
-        latitude: LatitudeCount((y % 131072) as u32),
-        longitude: LongitudeCount((x % 131072) as u32),
+        latitude: LatitudeCount((y % SIZE) as u32),
+        longitude: LongitudeCount((x % SIZE) as u32),
     }
 }
 
@@ -296,8 +312,8 @@ fn pair_zone(n: u64, z: u64, even: u32, odd: u32) -> Zone
     requires { ⌜ ((0 < n) × (n ≤ 60)) × (((0 < z) × (z ≤ 60)) × ((even < 131072) × (odd < 131072))) ⌝ }
     ensures { λ r. ⌜ (r .0 ≡ modulo (pairZone 131072 n even odd) z) × (r .0 < z) ⌝ }
 {
-    let x = (even as u64) * (n - 1) + n * z * 131072 - (odd as u64) * n;
-    Zone((nearest(x, 131072) % z) as u32)
+    let x = (even as u64) * (n - 1) + n * z * SIZE - (odd as u64) * n;
+    Zone((nearest(x, SIZE) % z) as u32)
 }
 
 fn pair_latitude_zone(z: u64, even: LatitudeCount, odd: LatitudeCount) -> Zone
@@ -319,23 +335,41 @@ fn latitude_in(z: u64, zone: Zone, count: LatitudeCount) -> u64
     requires { ⌜ (zone .0 < z) × ((count .0 < 131072) × (z ≤ 60)) ⌝ }
     ensures { λ r. ⌜ Within (z * 131072) (zone .0 * 131072 + count .0) r ⌝ }
 {
-    let m = z * 131072;
-    let v = (zone.0 as u64) * 131072 + (count.0 as u64);
+    let m = z * SIZE;
+    let v = (zone.0 as u64) * SIZE + (count.0 as u64);
     if 3 * m <= 4 * v { v } else { v + m }
 }
 
-// The exact latitude of the message of a format, of a pair.
+// Of what the two messages of a pair have, what the one of a format has.
+fn own_latitude(format: Format, even: LatitudeCount, odd: LatitudeCount) -> LatitudeCount
+    ensures { λ r. ⌜ r .0 ≡ own format (even .0) (odd .0) ⌝ }
+{
+    match format {
+        Format::Even => even,
+        Format::Odd => odd,
+    }
+}
+
+fn own_longitude(format: Format, even: LongitudeCount, odd: LongitudeCount) -> LongitudeCount
+    ensures { λ r. ⌜ r .0 ≡ own format (even .0) (odd .0) ⌝ }
+{
+    match format {
+        Format::Even => even,
+        Format::Odd => odd,
+    }
+}
+
+// The exact latitude of the message of a format, of a pair, one turn up.
 fn pair_latitude(format: Format, even: LatitudeCount, odd: LatitudeCount) -> u64
     requires { ⌜ (even .0 < 131072) × (odd .0 < 131072) ⌝ }
     ensures { λ r. ⌜ Paired format (even .0) (odd .0) r ⌝ }
 {
-    match format {
-        Format::Even => latitude_in(60, pair_latitude_zone(60, even, odd), even),
-        Format::Odd => latitude_in(59, pair_latitude_zone(59, even, odd), odd),
-    }
+    let z = latitude_zones(format);
+    let zone = pair_latitude_zone(z, even, odd);
+    latitude_in(z, zone, own_latitude(format, even, odd))
 }
 
-// The spot of the message of a format, of a pair: its latitude one turn up is found already.
+// The spot of the message of a format, of a pair: its latitude, one turn up, is found already.
 fn pair_spot(format: Format, up: u64, nl: u32, even: LongitudeCount, odd: LongitudeCount) -> Spot
     requires { ⌜ Polar (latitudeZones format * 131072) up ⌝ }
     requires { ⌜ ((0 < nl) × (nl ≤ 59)) × ((even .0 < 131072) × (odd .0 < 131072)) ⌝ }
@@ -344,21 +378,10 @@ fn pair_spot(format: Format, up: u64, nl: u32, even: LongitudeCount, odd: Longit
     let latitude = latitude_out(up, latitude_zones(format));
     let n = longitude_zones(format, nl);
     let zone = pair_longitude_zone(nl, n, even, odd);
-    match format {
-        Format::Even => {
-            let longitude = longitude_out(zone, even, n);
-            Spot {
-                latitude,
-                longitude,
-            }
-        }
-        Format::Odd => {
-            let longitude = longitude_out(zone, odd, n);
-            Spot {
-                latitude,
-                longitude,
-            }
-        }
+    let longitude = longitude_out(zone, own_longitude(format, even, odd), n);
+    Spot {
+        latitude,
+        longitude,
     }
 }
 
@@ -371,7 +394,7 @@ fn pair_fitting(even: Counts, odd: Counts, later: Format) -> Found
     let b = odd.latitude;
     let r = pair_latitude(Format::Even, a, b);
     let s = pair_latitude(Format::Odd, a, b);
-    if (39321600 < 4 * r) | (38666240 < 4 * s) {
+    if (EVEN_NORTH < 4 * r) | (ODD_NORTH < 4 * s) {
         return Found::Refused(Refusal::Latitude);
     }
     let table = LATITUDES;
@@ -392,8 +415,8 @@ fn near_latitude_zone(up: u64, n: u64, count: LatitudeCount) -> Zone
     requires { ⌜ ((59 ≤ n) × (n ≤ 240)) × (((3221225472 ≤ up) × (up ≤ 5368709120)) × (count .0 < 131072)) ⌝ }
     ensures { λ r. ⌜ (nearZone 131072 n (subℕ up 4294967296) (count .0) ≡ subℕ (r .0) n) × (r .0 ≤ 400) ⌝ }
 {
-    let x = up * (n * 131072) - (count.0 as u64) * 4294967296;
-    Zone(nearest(x, 562949953421312) as u32)
+    let x = up * (n * SIZE) - (count.0 as u64) * TURN;
+    Zone(nearest(x, FINE) as u32)
 }
 
 // The same for a longitude count, modulo n.
@@ -401,8 +424,8 @@ fn near_longitude_zone(longitude: u32, n: u64, count: LongitudeCount) -> Zone
     requires { ⌜ ((0 < n) × (n ≤ 240)) × (count .0 < 131072) ⌝ }
     ensures { λ r. ⌜ (r .0 ≡ modulo (nearZone 131072 n (pos longitude) (count .0)) n) × (r .0 < n) ⌝ }
 {
-    let x = (longitude as u64) * (n * 131072) + n * 562949953421312 - (count.0 as u64) * 4294967296;
-    Zone((nearest(x, 562949953421312) % n) as u32)
+    let x = (longitude as u64) * (n * SIZE) + n * FINE - (count.0 as u64) * TURN;
+    Zone((nearest(x, FINE) % n) as u32)
 }
 
 // The spot with a latitude of z zones, one turn up, and the longitude of n zones nearest to a reference.
@@ -425,10 +448,10 @@ fn single_raised(up: u64, longitude: u32, counts: Counts, kind: Kind, format: Fo
     ensures { λ r. ⌜ r ≡ nearFound 131072 (allRound kind (latitudeZones format)) (record { latitude = subℕ up 4294967296; longitude = longitude }) counts kind format ⌝ }
 {
     let z = all_round(kind, latitude_zones(format));
-    let m = z * 131072;
+    let m = z * SIZE;
     let a = counts.latitude;
     let zone = near_latitude_zone(up, z, a);
-    let y = (zone.0 as u64) * 131072 + (a.0 as u64);
+    let y = (zone.0 as u64) * SIZE + (a.0 as u64);
     if (4 * y < 3 * m) | (5 * m < 4 * y) {
         return Found::Refused(Refusal::Latitude);
     }

@@ -1,6 +1,5 @@
 -- `position_vectors::signed` meets its contract: from 2^31 up the number less 2^32 fits an i32.
 use borrow.Author.Needs.{needs}
-use Prim.Native.Nat.{_≤_, _<_}
 use native.Mathlib.Omega.{arith}
 use lib.IntN.{pos, _-ℤ_}
 use mir.Val.{SFits}

@@ -1,10 +1,9 @@
 -- `positions::pair_spot` meets its contract: each part is the one that the definition names.
-use mathlib.Core.Path.{sym, ap, _∙_}
+use mathlib.Core.Path.{_∙_}
+use native.Mathlib.Omega.{arith}
 use mir.Facts.{toZ-ofZ}
 use mir.Syntax.{w32}
-use Rattle.positions.specs.declared.Format.{Format}
-use Rattle.positions.specs.Positions.{own}
-use Rattle.positions.proofs.Answers.{pair-spot}
+use Rattle.positions.proofs.Answers.{own-small, pair-spot}
 use borrow.Author.Needs.{needs}
 use Rattle.positions.proofs.pair_spot.Statement.{statement}
 use Rattle.positions.proofs.pair_spot.Tie as tie
@@ -21,43 +20,26 @@ longitude-zones-requires c κs = search needs
 pair-longitude-zone-requires : tie.Need-pair-longitude-zone-requires
 pair-longitude-zone-requires c κs = search needs
 
-enum-told : tie.Need-enum-told
-enum-told c = search needs
+own-longitude-requires : tie.Need-own-longitude-requires
+own-longitude-requires c κs = search needs
 
 longitude-out-requires : tie.Need-longitude-out-requires
-longitude-out-requires c κs = search needs
-
-enum-told-2 : tie.Need-enum-told-2
-enum-told-2 c = search needs
-
-longitude-out-requires-2 : tie.Need-longitude-out-requires-2
-longitude-out-requires-2 c κs = search needs
+longitude-out-requires c κs =
+    let a = c .before .before .before .before .before .args in
+    (c .before .pair-longitude-zone .ensures .1, (rw (c .own-longitude .ensures) (own-small (a .format) (omega arith) (omega arith)), omega arith))
 
 returns : tie.Need-returns
 returns c =
-    let zone = c .before .before .before .pair-longitude-zone in
-    let n = c .before .before .before .before .longitude-zones in
-    let latitude = c .before .before .before .before .before .latitude-out in
-    let z = c .before .before .before .before .before .before .latitude-zones in
-    let a = c .before .before .before .before .before .before .before .args in
-    pair-spot (a .format) (a .up) (a .nl) (a .even .0) (a .odd .0) (z .result) (n .result) (zone .result .0) (a .even .0)
-    (z .ensures .0) (n .ensures .0) (zone .ensures .0)
-    (ap (λ (f : Format). own f (a .even .0) (a .odd .0)) (sym (c .before .enum-told .given .1)))
+    let own = c .before .own-longitude in
+    let zone = c .before .before .pair-longitude-zone in
+    let n = c .before .before .before .longitude-zones in
+    let latitude = c .before .before .before .before .latitude-out in
+    let z = c .before .before .before .before .before .latitude-zones in
+    let a = c .before .before .before .before .before .before .args in
+    pair-spot (a .format) (a .up) (a .nl) (a .even .0) (a .odd .0) (z .result) (n .result) (zone .result .0) (own .result .0)
+    (z .ensures .0) (n .ensures .0) (zone .ensures .0) (own .ensures)
     (toZ-ofZ {w = w32} (record { sfits = latitude .ok }) ∙ latitude .ensures)
     (c .longitude-out .ensures)
-
-returns-2 : tie.Need-returns-2
-returns-2 c =
-    let zone = c .before .before .before .pair-longitude-zone in
-    let n = c .before .before .before .before .longitude-zones in
-    let latitude = c .before .before .before .before .before .latitude-out in
-    let z = c .before .before .before .before .before .before .latitude-zones in
-    let a = c .before .before .before .before .before .before .before .args in
-    pair-spot (a .format) (a .up) (a .nl) (a .even .0) (a .odd .0) (z .result) (n .result) (zone .result .0) (a .odd .0)
-    (z .ensures .0) (n .ensures .0) (zone .ensures .0)
-    (ap (λ (f : Format). own f (a .even .0) (a .odd .0)) (sym (c .before .enum-told2 .given .1)))
-    (toZ-ofZ {w = w32} (record { sfits = latitude .ok }) ∙ latitude .ensures)
-    (c .longitude-out2 .ensures)
 
 pub pair-spot-spec : {M : Type 1} → statement M
 pair-spot-spec =
@@ -67,9 +49,6 @@ pair-spot-spec =
     latitude-out-requires
     longitude-zones-requires
     pair-longitude-zone-requires
-    enum-told
+    own-longitude-requires
     longitude-out-requires
-    enum-told-2
-    longitude-out-requires-2
-    returns
-    returns-2)
+    returns)

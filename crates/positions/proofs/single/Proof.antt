@@ -43,8 +43,8 @@ returns c =
     let w = u .raise .result in
     let t = both (fit 131072 (a .counts)) (leb 3221225472 w && leb w 5368709120)
     (rw (c .before .before .before .fits2 .ensures, c .before .before .from-pole .ensures) at (c .before .if1 .taken)) in
-    c .single-raised .ensures
-    ∙ rw (t .0, tested (a .reference .latitude) w (up-is u) true (t .1), back (a .reference .latitude) w (up-is u) (t .1))
+    rw (t .0, tested (a .reference .latitude) w (up-is u) true (t .1))
+    (rw (back (a .reference .latitude) w (up-is u) (t .1)) at (c .single-raised .ensures))
 
 returns-2 : tie.Need-returns-2
 returns-2 c =

@@ -1,5 +1,5 @@
 -- `positions::single_raised` meets its contract: each return is an answer of the definition, by the tests that lead there.
-use Prim.Native.Nat.{ℕ, _+_, _*_}
+use Prim.Native.Nat.{_+_, _*_}
 use mathlib.Core.Path.{_≡_, refl}
 use native.Mathlib.Omega.{arith}
 use lib.Dec.{lit<}
