@@ -17,7 +17,7 @@ use Rattle.positions.specs.declared.Found.the-variants.{At, Refused}
 use Rattle.positions.specs.Whole.{modulo}
 use Rattle.positions.specs.Zones.{zoneCount}
 use Rattle.positions.specs.Code.{Within, Paired}
-use Rattle.positions.specs.Positions.{turn, own, latitudeZones, longitudeZones, allRound, whole, count, spotZones, countsOf, rounded, roundedTurn, inside, pairZone, inZone, pairLatitude, pairLongitude, pairCount, pairSpot, pairFound, fit, nearZone, near, nearSpot, nearFound}
+use Rattle.positions.specs.Positions.{units, own, latitudeZones, longitudeZones, allRound, whole, count, spotZones, countsOf, rounded, roundedTurn, inside, pairZone, inZone, pairLatitude, pairLongitude, pairCount, pairSpot, pairFound, fit, nearZone, near, nearSpot, nearFound}
 use Rattle.positions.proofs.Joined.{both, either, neither, and-false}
 use Rattle.positions.proofs.Shift.{sub-modulo}
 use Rattle.positions.proofs.Naturals.{inside-yes, inside-north, inside-south, near-longitude}
@@ -58,9 +58,9 @@ module _ (up z n longitude zone c : ℕ) (some : 0 < n) (small : c < 131072) {y 
 -- the counts of a spot
 module _ (k : Kind) (f : Format) (up longitude lz z y NL lo n x : ℕ) where
   pub counts :
-      lz ≡ latitudeZones f → z ≡ allRound k lz → whole 131072 z (subℕ up turn) ≡ subℕ y (z * 131072) →
+      lz ≡ latitudeZones f → z ≡ allRound k lz → whole 131072 z (subℕ up units) ≡ subℕ y (z * 131072) →
       NL ≡ zoneCount (z * 131072) (subℕ y (z * 131072)) → lo ≡ longitudeZones f NL → n ≡ allRound k lo → whole 131072 n (pos longitude) ≡ pos x →
-      _≡_ {A = Counts} (record { latitude = record { 0 = y % 131072 }; longitude = record { 0 = x % 131072 } }) (countsOf 131072 (spot (subℕ up turn) longitude) k f)
+      _≡_ {A = Counts} (record { latitude = record { 0 = y % 131072 }; longitude = record { 0 = x % 131072 } }) (countsOf 131072 (spot (subℕ up units) longitude) k f)
   unfolding countsOf count spotZones modulo
   counts elz ez ey eNL elo en ex = rw (← elz, ← ez, ey, ← eNL, ← elo, ← en, ex, sub-modulo y z 131072 (lit< tt))
 

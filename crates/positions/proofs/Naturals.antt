@@ -10,40 +10,40 @@ use lib.IntN.{ℤ, pos, natAbs, subℕ, _+ℤ_, _-ℤ_, _*ℤ_}
 use borrow.Author.Tests.{le-leb, lt-leb}
 use Rattle.positions.specs.Whole.{floor, modulo, nearest}
 use Rattle.positions.specs.Code.{nearestℕ}
-use Rattle.positions.specs.Positions.{turn, whole, rounded, roundedTurn, inside, pairZone, less360, nearZone, near}
+use Rattle.positions.specs.Positions.{units, whole, rounded, roundedTurn, inside, pairZone, less360, nearZone, near}
 use Rattle.positions.proofs.Shift.{sub-pos, sub-eq, sub-add, sub-less, pos-sub, sub-mul, sub-modulo, sub-nearest, abs-is}
 
 -- a number k turns up, encoded
-pub whole-up : (P N w k : ℕ) → 0 < N * P → whole P N (subℕ w (k * turn)) ≡ subℕ (nearestℕ (w * (N * P)) turn) (k * (N * P))
+pub whole-up : (P N w k : ℕ) → 0 < N * P → whole P N (subℕ w (k * units)) ≡ subℕ (nearestℕ (w * (N * P)) units) (k * (N * P))
 unfolding whole
 whole-up P N w k p =
-    ap (λ (z : ℤ). nearest z turn) (sub-mul w (k * turn) (N * P) p ∙ sub-eq (w * (N * P)) (k * turn * (N * P)) (w * (N * P)) (k * (N * P) * turn) (omega arith))
-    ∙ sub-nearest (w * (N * P)) (k * (N * P)) turn (omega arith)
+    ap (λ (z : ℤ). nearest z units) (sub-mul w (k * units) (N * P) p ∙ sub-eq (w * (N * P)) (k * units * (N * P)) (w * (N * P)) (k * (N * P) * units) (omega arith))
+    ∙ sub-nearest (w * (N * P)) (k * (N * P)) units (omega arith)
 
 -- so a latitude w - turn
-pub whole-is : (P N w : ℕ) → 0 < N * P → whole P N (subℕ w turn) ≡ subℕ (nearestℕ (w * (N * P)) turn) (N * P)
+pub whole-is : (P N w : ℕ) → 0 < N * P → whole P N (subℕ w units) ≡ subℕ (nearestℕ (w * (N * P)) units) (N * P)
 whole-is P N w p =
-    whole-up P N w 1 p ∙ ap (λ (m : ℕ). subℕ (nearestℕ (w * (N * P)) turn) m) {x = 1 * (N * P)} {y = N * P} (omega arith)
+    whole-up P N w 1 p ∙ ap (λ (m : ℕ). subℕ (nearestℕ (w * (N * P)) units) m) {x = 1 * (N * P)} {y = N * P} (omega arith)
 
 -- a longitude, encoded
-pub whole-pos : (P N x : ℕ) → whole P N (pos x) ≡ pos (nearestℕ (x * (N * P)) turn)
+pub whole-pos : (P N x : ℕ) → whole P N (pos x) ≡ pos (nearestℕ (x * (N * P)) units)
 unfolding whole nearest floor nearestℕ
 whole-pos P N x = refl
 
 -- the bounds of an encoded latitude, where a quarter turn is a whole number of counts
-module _ (q N w : ℕ) (lw : 3 * turn ≤ 4 * w) (hw : 4 * w ≤ 5 * turn) where
-  pub whole-low : 3 * (N * (4 * q)) ≤ 4 * nearestℕ (w * (N * (4 * q))) turn
+module _ (q N w : ℕ) (lw : 3 * units ≤ 4 * w) (hw : 4 * w ≤ 5 * units) where
+  pub whole-low : 3 * (N * (4 * q)) ≤ 4 * nearestℕ (w * (N * (4 * q))) units
   unfolding nearestℕ
   whole-low =
-      let a : 3 * turn * (N * q) ≤ 4 * w * (N * q) = mul-le-mul-right (N * q) lw in
-      let h : 3 * (N * q) ≤ (2 * (w * (N * (4 * q))) + turn) / (2 * turn) = le-div-iff-mul-le {k = 2 * turn} (omega arith) .1 (omega arith) in
+      let a : 3 * units * (N * q) ≤ 4 * w * (N * q) = mul-le-mul-right (N * q) lw in
+      let h : 3 * (N * q) ≤ (2 * (w * (N * (4 * q))) + units) / (2 * units) = le-div-iff-mul-le {k = 2 * units} (omega arith) .1 (omega arith) in
       omega arith
 
-  pub whole-high : 4 * nearestℕ (w * (N * (4 * q))) turn ≤ 5 * (N * (4 * q))
+  pub whole-high : 4 * nearestℕ (w * (N * (4 * q))) units ≤ 5 * (N * (4 * q))
   unfolding nearestℕ
   whole-high =
-      let a : 4 * w * (N * q) ≤ 5 * turn * (N * q) = mul-le-mul-right (N * q) hw in
-      let h : (2 * (w * (N * (4 * q))) + turn) / (2 * turn) < 5 * (N * q) + 1 = div-lt-iff-lt-mul {k = 2 * turn} (omega arith) .1 (omega arith) in
+      let a : 4 * w * (N * q) ≤ 5 * units * (N * q) = mul-le-mul-right (N * q) hw in
+      let h : (2 * (w * (N * (4 * q))) + units) / (2 * units) < 5 * (N * q) + 1 = div-lt-iff-lt-mul {k = 2 * units} (omega arith) .1 (omega arith) in
       omega arith
 
 -- the zone number of a pair, n * z zones up
@@ -80,55 +80,55 @@ unfolding inside
 inside-south r M h = lt-leb (4 * natAbs (subℕ r M)) M (rw (abs-is r M) (omega arith))
 
 -- a latitude in 2^-32 of 360 degrees
-pub rounded-is : (r M : ℕ) → 0 < M → rounded M (subℕ r M) ≡ subℕ (nearestℕ (r * turn) M) turn
+pub rounded-is : (r M : ℕ) → 0 < M → rounded M (subℕ r M) ≡ subℕ (nearestℕ (r * units) M) units
 unfolding rounded
 rounded-is r M p =
-    ap (λ (w : ℤ). nearest w M) (sub-mul r M turn (omega arith) ∙ sub-eq (r * turn) (M * turn) (r * turn) (turn * M) (omega arith))
-    ∙ sub-nearest (r * turn) turn M p
+    ap (λ (w : ℤ). nearest w M) (sub-mul r M units (omega arith) ∙ sub-eq (r * units) (M * units) (r * units) (units * M) (omega arith))
+    ∙ sub-nearest (r * units) units M p
 
-pub rounded-low : (r M : ℕ) → 0 < M → 3 * M ≤ 4 * r → 3221225472 ≤ nearestℕ (r * turn) M
+pub rounded-low : (r M : ℕ) → 0 < M → 3 * M ≤ 4 * r → 3221225472 ≤ nearestℕ (r * units) M
 unfolding nearestℕ
 rounded-low r M p h = le-div-iff-mul-le {k = 2 * M} {x = 3221225472} (omega arith) .1 (omega arith)
 
-pub rounded-high : (r M : ℕ) → 0 < M → 4 * r ≤ 5 * M → nearestℕ (r * turn) M ≤ 5368709120
+pub rounded-high : (r M : ℕ) → 0 < M → 4 * r ≤ 5 * M → nearestℕ (r * units) M ≤ 5368709120
 unfolding nearestℕ
 rounded-high r M p h = le-of-suc-le-suc (div-lt-iff-lt-mul {k = 2 * M} {y = 5368709121} (omega arith) .1 (omega arith))
 
 -- and a longitude
-pub rounded-turn : (M v : ℕ) → roundedTurn M v ≡ nearestℕ (v * turn) M % turn
+pub rounded-turn : (M v : ℕ) → roundedTurn M v ≡ nearestℕ (v * units) M % units
 unfolding roundedTurn rounded nearest floor modulo nearestℕ
 rounded-turn M v = refl
 
 -- the zone near a reference, of a number k turns up
-pub near-zone-up : (P N w k c : ℕ) → 0 < P → 0 < N * P → c * turn ≤ w * (N * P) →
-    nearZone P N (subℕ w (k * turn)) c ≡ subℕ (nearestℕ (w * (N * P) - c * turn) (turn * P)) (k * N)
+pub near-zone-up : (P N w k c : ℕ) → 0 < P → 0 < N * P → c * units ≤ w * (N * P) →
+    nearZone P N (subℕ w (k * units)) c ≡ subℕ (nearestℕ (w * (N * P) - c * units) (units * P)) (k * N)
 unfolding nearZone
 near-zone-up P N w k c p q h =
-    ap (λ (z : ℤ). nearest (z -ℤ pos (c * turn)) (turn * P)) (sub-mul w (k * turn) (N * P) q)
-    ∙ ap (λ (z : ℤ). nearest z (turn * P))
-    (sub-less (w * (N * P)) (k * turn * (N * P)) (c * turn)
-    ∙ sub-eq (w * (N * P)) (k * turn * (N * P) + c * turn) (w * (N * P) - c * turn) (k * N * (turn * P)) (omega arith))
-    ∙ sub-nearest (w * (N * P) - c * turn) (k * N) (turn * P) (omega arith)
+    ap (λ (z : ℤ). nearest (z -ℤ pos (c * units)) (units * P)) (sub-mul w (k * units) (N * P) q)
+    ∙ ap (λ (z : ℤ). nearest z (units * P))
+    (sub-less (w * (N * P)) (k * units * (N * P)) (c * units)
+    ∙ sub-eq (w * (N * P)) (k * units * (N * P) + c * units) (w * (N * P) - c * units) (k * N * (units * P)) (omega arith))
+    ∙ sub-nearest (w * (N * P) - c * units) (k * N) (units * P) (omega arith)
 
 -- so of a latitude w - turn
-pub near-zone-latitude : (P N w c : ℕ) → 0 < P → 0 < N * P → c * turn ≤ w * (N * P) →
-    nearZone P N (subℕ w turn) c ≡ subℕ (nearestℕ (w * (N * P) - c * turn) (turn * P)) N
+pub near-zone-latitude : (P N w c : ℕ) → 0 < P → 0 < N * P → c * units ≤ w * (N * P) →
+    nearZone P N (subℕ w units) c ≡ subℕ (nearestℕ (w * (N * P) - c * units) (units * P)) N
 near-zone-latitude P N w c p q h =
-    near-zone-up P N w 1 c p q h ∙ ap (λ (m : ℕ). subℕ (nearestℕ (w * (N * P) - c * turn) (turn * P)) m) {x = 1 * N} {y = N} (omega arith)
+    near-zone-up P N w 1 c p q h ∙ ap (λ (m : ℕ). subℕ (nearestℕ (w * (N * P) - c * units) (units * P)) m) {x = 1 * N} {y = N} (omega arith)
 
 -- and of a longitude w, which is w + turn, one turn up
 pub near-zone-longitude : (P N w c : ℕ) → 0 < P → 0 < N → c ≤ P →
-    nearZone P N (pos w) c ≡ subℕ (nearestℕ (w * (N * P) + N * (turn * P) - c * turn) (turn * P)) N
+    nearZone P N (pos w) c ≡ subℕ (nearestℕ (w * (N * P) + N * (units * P) - c * units) (units * P)) N
 near-zone-longitude P N w c p q h =
-    let g : c * turn * 1 ≤ P * turn * N = mul-le-mul (omega arith) q in
-    ap (λ (z : ℤ). nearZone P N z c) (ap pos {x = w} {y = w + turn - turn} (omega arith) ∙ sym (sub-pos (w + turn) turn (omega arith)))
-    ∙ near-zone-latitude P N (w + turn) c p (omega (arith, mul-le-mul q p)) (omega arith)
-    ∙ ap (λ (x : ℕ). subℕ (nearestℕ (x - c * turn) (turn * P)) N) {x = (w + turn) * (N * P)} {y = w * (N * P) + N * (turn * P)} (omega arith)
+    let g : c * units * 1 ≤ P * units * N = mul-le-mul (omega arith) q in
+    ap (λ (z : ℤ). nearZone P N z c) (ap pos {x = w} {y = w + units - units} (omega arith) ∙ sym (sub-pos (w + units) units (omega arith)))
+    ∙ near-zone-latitude P N (w + units) c p (omega (arith, mul-le-mul q p)) (omega arith)
+    ∙ ap (λ (x : ℕ). subℕ (nearestℕ (x - c * units) (units * P)) N) {x = (w + units) * (N * P)} {y = w * (N * P) + N * (units * P)} (omega arith)
 
 pub near-zone-modulo : (P N w c : ℕ) → 0 < P → 0 < N → c ≤ P →
-    modulo (nearZone P N (pos w) c) N ≡ nearestℕ (w * (N * P) + N * (turn * P) - c * turn) (turn * P) % N
+    modulo (nearZone P N (pos w) c) N ≡ nearestℕ (w * (N * P) + N * (units * P) - c * units) (units * P) % N
 near-zone-modulo P N w c p q h =
-    let J : ℕ = nearestℕ (w * (N * P) + N * (turn * P) - c * turn) (turn * P) in
+    let J : ℕ = nearestℕ (w * (N * P) + N * (units * P) - c * units) (units * P) in
     ap (λ (z : ℤ). modulo z N) (near-zone-longitude P N w c p q h ∙ sub-eq J N J (1 * N) (omega arith)) ∙ sub-modulo J 1 N q
 
 -- the position near a reference, from its zone
@@ -149,5 +149,5 @@ near-modulo P N J c reference p q h e =
 
 pub near-longitude : (P N w c : ℕ) → 0 < P → 0 < N → c < P → modulo (near P N (pos w) c) (N * P) ≡ modulo (nearZone P N (pos w) c) N * P + c
 near-longitude P N w c p q h =
-    near-modulo P N (nearestℕ (w * (N * P) + N * (turn * P) - c * turn) (turn * P)) c (pos w) p q h (near-zone-longitude P N w c p q (omega arith))
+    near-modulo P N (nearestℕ (w * (N * P) + N * (units * P) - c * units) (units * P)) c (pos w) p q h (near-zone-longitude P N w c p q (omega arith))
     ∙ ap (λ (y : ℕ). y * P + c) (sym (near-zone-modulo P N w c p q (omega arith)))

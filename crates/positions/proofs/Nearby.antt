@@ -8,67 +8,67 @@ use lib.Arith.{digits-mod}
 use lib.Dec.{lit<}
 use lib.IntN.{ℤ, pos, natAbs, subℕ, _+ℤ_, _-ℤ_, _*ℤ_, *ℤ-comm}
 use Rattle.positions.specs.Code.{nearestℕ}
-use Rattle.positions.specs.Positions.{turn, near}
+use Rattle.positions.specs.Positions.{units, near}
 use Rattle.positions.specs.Rounded.{beyond, Nearby}
 use Rattle.positions.proofs.Shift.{sub-pos, sub-eq, sub-add, sub-mul, sub-minus, sub-modulo, abs-is, lifted, lifted-is, lifted-least}
 use Rattle.positions.proofs.Rounding.{near-low, near-high, near-only}
 use Rattle.positions.proofs.Naturals.{near-zone-up, near-is}
 
 -- a reference w less k turns
-module _ (P N w k c : ℕ) (p : 0 < P) (q : 0 < N * P) (small : c < P) (over : c * turn ≤ w * (N * P)) where
+module _ (P N w k c : ℕ) (p : 0 < P) (q : 0 < N * P) (small : c < P) (over : c * units ≤ w * (N * P)) where
   J : ℕ
-  J = nearestℕ (w * (N * P) - c * turn) (turn * P)
+  J = nearestℕ (w * (N * P) - c * units) (units * P)
 
-  found : near P N (subℕ w (k * turn)) c ≡ subℕ (J * P + c) (k * N * P)
+  found : near P N (subℕ w (k * units)) c ≡ subℕ (J * P + c) (k * N * P)
   unfolding J
-  found = near-is P N (k * N) J c (subℕ w (k * turn)) p (near-zone-up P N w k c p q over)
+  found = near-is P N (k * N) J c (subℕ w (k * units)) p (near-zone-up P N w k c p q over)
 
-  gap : (r : ℕ) → beyond P N (subℕ w (k * turn)) (subℕ r (k * N * P)) ≡ subℕ (r * turn) (w * (N * P))
+  gap : (r : ℕ) → beyond P N (subℕ w (k * units)) (subℕ r (k * N * P)) ≡ subℕ (r * units) (w * (N * P))
   gap r =
-      ap (λ (z : ℤ). z -ℤ subℕ w (k * turn) *ℤ pos (N * P)) (sub-mul r (k * N * P) turn (lit< tt))
-      ∙ ap (λ (z : ℤ). subℕ (r * turn) (k * N * P * turn) -ℤ z) (sub-mul w (k * turn) (N * P) q)
-      ∙ sub-minus (r * turn) (k * N * P * turn) (w * (N * P)) (k * turn * (N * P))
-      ∙ sub-eq (r * turn + k * turn * (N * P)) (k * N * P * turn + w * (N * P)) (r * turn) (w * (N * P)) (omega arith)
+      ap (λ (z : ℤ). z -ℤ subℕ w (k * units) *ℤ pos (N * P)) (sub-mul r (k * N * P) units (lit< tt))
+      ∙ ap (λ (z : ℤ). subℕ (r * units) (k * N * P * units) -ℤ z) (sub-mul w (k * units) (N * P) q)
+      ∙ sub-minus (r * units) (k * N * P * units) (w * (N * P)) (k * units * (N * P))
+      ∙ sub-eq (r * units + k * units * (N * P)) (k * N * P * units + w * (N * P)) (r * units) (w * (N * P)) (omega arith)
 
-  below : (r : ℕ) → pos 2 *ℤ beyond P N (subℕ w (k * turn)) (subℕ r (k * N * P)) +ℤ pos (turn * P) ≡ subℕ (r * turn * 2 + turn * P) (w * (N * P) * 2)
+  below : (r : ℕ) → pos 2 *ℤ beyond P N (subℕ w (k * units)) (subℕ r (k * N * P)) +ℤ pos (units * P) ≡ subℕ (r * units * 2 + units * P) (w * (N * P) * 2)
   below r =
-      ap (λ (z : ℤ). pos 2 *ℤ z +ℤ pos (turn * P)) (gap r)
-      ∙ ap (λ (z : ℤ). z +ℤ pos (turn * P)) (*ℤ-comm (pos 2) (subℕ (r * turn) (w * (N * P))) ∙ sub-mul (r * turn) (w * (N * P)) 2 (lit< tt))
-      ∙ sub-add (r * turn * 2) (w * (N * P) * 2) (turn * P)
+      ap (λ (z : ℤ). pos 2 *ℤ z +ℤ pos (units * P)) (gap r)
+      ∙ ap (λ (z : ℤ). z +ℤ pos (units * P)) (*ℤ-comm (pos 2) (subℕ (r * units) (w * (N * P))) ∙ sub-mul (r * units) (w * (N * P)) 2 (lit< tt))
+      ∙ sub-add (r * units * 2) (w * (N * P) * 2) (units * P)
 
-  lifted-nearby : Nearby P N (subℕ w (k * turn)) c (subℕ (J * P + c) (k * N * P))
+  lifted-nearby : Nearby P N (subℕ w (k * units)) c (subℕ (J * P + c) (k * N * P))
   unfolding J
   lifted-nearby =
       let r : ℕ = J * P + c in
-      let l = near-low (w * (N * P) - c * turn) {d = turn * P} (omega arith) in
-      let h = near-high (w * (N * P) - c * turn) {d = turn * P} (omega arith) in
+      let l = near-low (w * (N * P) - c * units) {d = units * P} (omega arith) in
+      let h = near-high (w * (N * P) - c * units) {d = units * P} (omega arith) in
       record {
         counted = sub-modulo r (k * N) P p ∙ digits-mod J small;
-        within = rw (gap r, abs-is (r * turn) (w * (N * P))) (omega arith);
+        within = rw (gap r, abs-is (r * units) (w * (N * P))) (omega arith);
         upper = λ e.
-            let z : (r * turn * 2 + turn * P - w * (N * P) * 2) + (w * (N * P) * 2 - (r * turn * 2 + turn * P)) ≡ 0 =
-            sym (abs-is (r * turn * 2 + turn * P) (w * (N * P) * 2)) ∙ ap natAbs (sym (below r) ∙ e) in
+            let z : (r * units * 2 + units * P - w * (N * P) * 2) + (w * (N * P) * 2 - (r * units * 2 + units * P)) ≡ 0 =
+            sym (abs-is (r * units * 2 + units * P) (w * (N * P) * 2)) ∙ ap natAbs (sym (below r) ∙ e) in
             omega arith;
       }
 
-  lifted-only : (r : ℕ) → Nearby P N (subℕ w (k * turn)) c (subℕ r (k * N * P)) → subℕ r (k * N * P) ≡ subℕ (J * P + c) (k * N * P)
+  lifted-only : (r : ℕ) → Nearby P N (subℕ w (k * units)) c (subℕ r (k * N * P)) → subℕ r (k * N * P) ≡ subℕ (J * P + c) (k * N * P)
   unfolding J
   lifted-only r n =
       let m : r % P ≡ c = sym (sub-modulo r (k * N) P p) ∙ n .counted in
-      let b : 2 * ((r * turn - w * (N * P)) + (w * (N * P) - r * turn)) ≤ turn * P = rw (gap r, abs-is (r * turn) (w * (N * P))) at (n .within) in
-      let u : r * turn * 2 + turn * P ≡ w * (N * P) * 2 → ⊥ =
-      (λ e. n .upper (below r ∙ sub-pos (r * turn * 2 + turn * P) (w * (N * P) * 2) (omega arith) ∙ ap pos {x = r * turn * 2 + turn * P - w * (N * P) * 2} {y = 0} (omega arith))) in
+      let b : 2 * ((r * units - w * (N * P)) + (w * (N * P) - r * units)) ≤ units * P = rw (gap r, abs-is (r * units) (w * (N * P))) at (n .within) in
+      let u : r * units * 2 + units * P ≡ w * (N * P) * 2 → ⊥ =
+      (λ e. n .upper (below r ∙ sub-pos (r * units * 2 + units * P) (w * (N * P) * 2) (omega arith) ∙ ap pos {x = r * units * 2 + units * P - w * (N * P) * 2} {y = 0} (omega arith))) in
       let s : r / P * P + r % P ≡ r = div-add-mod' r P in
-      let j : J ≡ r / P = near-only (w * (N * P) - c * turn) (turn * P) (r / P) (omega arith) (omega arith) (omega arith) in
+      let j : J ≡ r / P = near-only (w * (N * P) - c * units) (units * P) (r / P) (omega arith) (omega arith) (omega arith) in
       ap (λ (y : ℕ). subℕ y (k * N * P)) {x = r} {y = J * P + c} (omega (arith, ap (λ (y : ℕ). y * P) j))
 
 module _ (P N : ℕ) (reference : ℤ) (c : ℕ) (p : 0 < P) (some : 0 < N) (small : c < P) where
   zoned : 0 < N * P
   zoned = omega (arith, mul-le-mul some p)
 
-  enough : (k : ℕ) → natAbs reference < k → c * turn ≤ lifted reference (k * turn) * (N * P)
+  enough : (k : ℕ) → natAbs reference < k → c * units ≤ lifted reference (k * units) * (N * P)
   enough k h =
-      let g : turn * (N * P) ≤ lifted reference (k * turn) * (N * P) = mul-le-mul-right (N * P) (lifted-least reference (k * turn) turn (omega arith)) in
+      let g : units * (N * P) ≤ lifted reference (k * units) * (N * P) = mul-le-mul-right (N * P) (lifted-least reference (k * units) units (omega arith)) in
       let f : 1 * c ≤ N * P = mul-le-mul some (omega arith) in
       omega arith
 
@@ -76,17 +76,17 @@ module _ (P N : ℕ) (reference : ℤ) (c : ℕ) (p : 0 < P) (some : 0 < N) (sma
   pub near-has : Nearby P N reference c (near P N reference c)
   near-has =
       let k = suc (natAbs reference) in
-      subst (λ (z : ℤ). Nearby P N z c (near P N z c)) (lifted-is reference (k * turn) (omega arith))
-      (rw (found P N (lifted reference (k * turn)) k c p zoned small (enough k (omega arith)))
-      (lifted-nearby P N (lifted reference (k * turn)) k c p zoned small (enough k (omega arith))))
+      subst (λ (z : ℤ). Nearby P N z c (near P N z c)) (lifted-is reference (k * units) (omega arith))
+      (rw (found P N (lifted reference (k * units)) k c p zoned small (enough k (omega arith)))
+      (lifted-nearby P N (lifted reference (k * units)) k c p zoned small (enough k (omega arith))))
 
   -- and no other does
   pub near-alone : (z : ℤ) → Nearby P N reference c z → z ≡ near P N reference c
   near-alone z n =
       let k = suc (natAbs reference + natAbs z) in
-      let w = lifted reference (k * turn) in
+      let w = lifted reference (k * units) in
       let r = lifted z (k * N * P) in
-      let e : subℕ w (k * turn) ≡ reference = lifted-is reference (k * turn) (omega arith) in
+      let e : subℕ w (k * units) ≡ reference = lifted-is reference (k * units) (omega arith) in
       let f : subℕ r (k * N * P) ≡ z = lifted-is z (k * N * P) (omega (arith, mul-le-mul-left k zoned)) in
       sym f
       ∙ lifted-only P N w k c p zoned small (enough k (omega arith)) r (rw (e, f) n)

@@ -13,7 +13,7 @@ use Rattle.positions.specs.declared.Format.{Format}
 use Rattle.positions.specs.declared.Format.the-variants.{Even, Odd}
 use Rattle.positions.specs.Whole.{modulo}
 use Rattle.positions.specs.Code.{nearestℕ, raised}
-use Rattle.positions.specs.Positions.{turn, own, latitudeZones, longitudeZones, whole, count, fromPole, inside, pairZone, inZone, less360, pairLatitude, pairLongitude}
+use Rattle.positions.specs.Positions.{units, own, latitudeZones, longitudeZones, whole, count, fromPole, inside, pairZone, inZone, less360, pairLatitude, pairLongitude}
 use Rattle.positions.proofs.Shift.{order, sub-modulo}
 use Rattle.positions.proofs.Naturals.{whole-is, whole-pos, whole-low, whole-high, pair-zone-is, less-high, less-low, inside-yes}
 use Rattle.positions.proofs.Pairing.{zoneOf, pair-even, pair-odd}
@@ -41,12 +41,12 @@ one-zone P r zone =
 
 -- the number that w rounds to by n zones
 abbrev wholeℕ : ℕ → ℕ → ℕ → ℕ
-wholeℕ P w n = nearestℕ (w * (n * P)) turn
+wholeℕ P w n = nearestℕ (w * (n * P)) units
 
 -- suc k even zones, and k odd ones or 1
 module _ (P w : ℕ) (p : 0 < P) where
-  swap : (n : ℕ) → wholeℕ P w n ≡ nearestℕ (n * (w * P)) turn
-  swap n = ap (λ (y : ℕ). nearestℕ y turn) {x = w * (n * P)} {y = n * (w * P)} (omega arith)
+  swap : (n : ℕ) → wholeℕ P w n ≡ nearestℕ (n * (w * P)) units
+  swap n = ap (λ (y : ℕ). nearestℕ y units) {x = w * (n * P)} {y = n * (w * P)} (omega arith)
 
   more : (k : ℕ) → max (suc k) 1 ≡ suc k
   more k = omega arith
@@ -56,7 +56,7 @@ module _ (P w : ℕ) (p : 0 < P) where
   even-again zero h = one-zone P (wholeℕ P w 1) (pairZone P 1 (wholeℕ P w 1 % P) (wholeℕ P w (max 0 1) % P))
   even-again (suc k) h =
       let n = suc (suc k) in
-      rw (more k, swap (suc k), swap n, zone-is P (suc k) n (nearestℕ (n * (w * P)) turn % P) (nearestℕ (suc k * (w * P)) turn % P) p (zero-lt-suc (suc k)) (le-of-lt (mod-lt (nearestℕ (suc k * (w * P)) turn) p)))
+      rw (more k, swap (suc k), swap n, zone-is P (suc k) n (nearestℕ (n * (w * P)) units % P) (nearestℕ (suc k * (w * P)) units % P) p (zero-lt-suc (suc k)) (le-of-lt (mod-lt (nearestℕ (suc k * (w * P)) units) p)))
       (pair-even P (suc k) (w * P) (lit< tt) h)
 
   pub odd-again : (k : ℕ) → 2 * k < P → inZone P (max k 1) (pairZone P (suc k) (wholeℕ P w (suc k) % P) (wholeℕ P w (max k 1) % P)) (wholeℕ P w (max k 1) % P) ≡ wholeℕ P w (max k 1) % (max k 1 * P)
@@ -64,7 +64,7 @@ module _ (P w : ℕ) (p : 0 < P) where
   odd-again zero h = one-zone P (wholeℕ P w (max 0 1)) (pairZone P 1 (wholeℕ P w 1 % P) (wholeℕ P w (max 0 1) % P))
   odd-again (suc k) h =
       let n = suc (suc k) in
-      rw (more k, swap (suc k), swap n, zone-is P (suc k) (suc k) (nearestℕ (n * (w * P)) turn % P) (nearestℕ (suc k * (w * P)) turn % P) p (zero-lt-suc k) (le-of-lt (mod-lt (nearestℕ (suc k * (w * P)) turn) p)))
+      rw (more k, swap (suc k), swap n, zone-is P (suc k) (suc k) (nearestℕ (n * (w * P)) units % P) (nearestℕ (suc k * (w * P)) units % P) p (zero-lt-suc k) (le-of-lt (mod-lt (nearestℕ (suc k * (w * P)) units) p)))
       (pair-odd P (suc k) (w * P) (lit< tt) h (zero-lt-suc k))
 
 -- Longitude: the exact longitude of the message of either format, modulo 360 degrees
@@ -118,15 +118,15 @@ module _ (q : ℕ) (large : 118 < 4 * q) (latitude : ℤ) (t : T (fromPole latit
   w : ℕ
   w = raised latitude
 
-  low : 3 * turn ≤ 4 * w
+  low : 3 * units ≤ 4 * w
   unfolding w
   low = omega (arith, pole-low latitude t)
 
-  high : 4 * w ≤ 5 * turn
+  high : 4 * w ≤ 5 * units
   unfolding w
   high = omega (arith, pole-high latitude t)
 
-  is : subℕ w turn ≡ latitude
+  is : subℕ w units ≡ latitude
   unfolding w
   is = lowered latitude (pole-low latitude t) (pole-high latitude t)
 

@@ -11,7 +11,7 @@ use Rattle.positions.specs.declared.Encoded.the-variants.{As, Refused as
 use Rattle.positions.specs.declared.Found.the-variants.{At, Refused}
 use Rattle.positions.specs.Whole.{floor, modulo, nearest}
 use Rattle.positions.specs.Zones.{latitudes, first, zoneCount}
-use Rattle.positions.specs.Positions.{turn, longitudeZones, allRound, whole, count, spotZones, countsOf, encoded, rounded, roundedTurn, inside, pairZone, inZone, less360, pairLatitude, pairLongitude, pairCount, pairSpot, pairFound, paired, nearZone, near, nearSpot, nearFound, singly}
+use Rattle.positions.specs.Positions.{units, longitudeZones, allRound, whole, count, spotZones, countsOf, encoded, rounded, roundedTurn, inside, pairZone, inZone, less360, pairLatitude, pairLongitude, pairCount, pairSpot, pairFound, paired, nearZone, near, nearSpot, nearFound, singly}
 
 abbrev spot : ℤ → ℕ → Spot
 spot y x = record { latitude = y; longitude = x }
@@ -45,7 +45,7 @@ refused = (refl, refl, refl, refl)
 -- NL of the unrounded latitude: 124917351 lies below the first edge and is rounded above it, so the longitude count is 65536, not 98304
 pub not-unrounded :
     (countsOf 131072 (spot (pos 124917351) 1073741824) Airborne Even .longitude .0 ≡ 65536)
-    × (count 131072 (longitudeZones Even (zoneCount turn (pos 124917351))) (pos 1073741824) ≡ 98304)
+    × (count 131072 (longitudeZones Even (zoneCount units (pos 124917351))) (pos 1073741824) ≡ 98304)
 unfolding floor modulo nearest latitudes first zoneCount allRound whole count spotZones countsOf
 not-unrounded = (refl, refl)
 
@@ -56,7 +56,7 @@ towardZero (negsuc a) d = negℤ (pos (suc a / d))
 
 pub not-toward-zero :
     (count 131072 60 (negsuc 545) ≡ 131071)
-    × (modulo (towardZero (pos 2 *ℤ (negsuc 545 *ℤ pos (60 * 131072)) +ℤ pos turn) (2 * turn)) 131072 ≡ 0)
+    × (modulo (towardZero (pos 2 *ℤ (negsuc 545 *ℤ pos (60 * 131072)) +ℤ pos units) (2 * units)) 131072 ≡ 0)
 unfolding floor modulo nearest whole count
 not-toward-zero = (refl, refl)
 

@@ -1,5 +1,6 @@
--- Positions, as document 01 states them. P is the count size, 2^17; N is how many zones make 360 degrees.
--- An exact position is a whole number over N * P, in 360 degrees. A spot is in 2^-32 of 360 degrees.
+-- Positions, as document 01 states them. P is the count size, 2^17, and N how many zones make 360 degrees.
+-- A spot is in 2^-32 of 360 degrees. An exact position is a fraction of 360 degrees, a whole number over N * P.
+-- So a spot's x times Z / turn x P is x * (N * P) / 2^32, and a whole number times turn / Z / P is that number over N * P.
 use mathlib.Core.Bool.{Bool, cond, _&&_}
 use Prim.Native.Nat.{ℕ, _+_, _-_, _*_, _/_, max}
 use lib.IntN.{ℤ, pos, natAbs, _+ℤ_, _-ℤ_, _*ℤ_}
@@ -18,9 +19,9 @@ use Rattle.positions.specs.declared.Found.the-variants.{At, Refused}
 use Rattle.positions.specs.Whole.{modulo, nearest}
 use Rattle.positions.specs.Zones.{zoneCount}
 
--- the units of a spot in 360 degrees
-abbrev pub turn : ℕ
-turn = 4294967296
+-- a spot's units in 360 degrees
+abbrev pub units : ℕ
+units = 4294967296
 
 -- F, called i: 0 for even, 1 for odd
 abbrev pub bit : Format → ℕ
@@ -41,17 +42,17 @@ abbrev pub longitudeZones : Format → ℕ → ℕ
 longitudeZones f NL = max (NL - bit f) 1
 
 -- an airborne turn is 360 degrees, a surface turn 90
-abbrev pub degrees : Kind → ℕ
-degrees Airborne = 360
-degrees Surface = 90
+abbrev pub turn : Kind → ℕ
+turn Airborne = 360
+turn Surface = 90
 
 -- N: so many zones make 360 degrees where Z make a turn
 unfoldable pub allRound : Kind → ℕ → ℕ
-allRound k Z = Z * 360 / degrees k
+allRound k Z = Z * 360 / turn k
 
--- Encode: position x Z / turn x P, rounded to nearest, half up
+-- Encode: latitude x Z / turn x P, or longitude with n for Z, rounded to nearest, half up
 unfoldable pub whole : ℕ → ℕ → ℤ → ℤ
-whole P N x = nearest (x *ℤ pos (N * P)) turn
+whole P N x = nearest (x *ℤ pos (N * P)) units
 
 -- and the count is that modulo P
 unfoldable pub count : ℕ → ℕ → ℤ → ℕ
@@ -63,6 +64,7 @@ spotZones P k f latitude =
     let N = allRound k (latitudeZones f) in
     allRound k (longitudeZones f (zoneCount (N * P) (whole P N latitude)))
 
+-- both counts of a spot
 unfoldable pub countsOf : ℕ → Spot → Kind → Format → Counts
 countsOf P s k f =
     record {
@@ -70,7 +72,7 @@ countsOf P s k f =
       longitude = record { 0 = count P (spotZones P k f (s .latitude)) (pos (s .longitude)) };
     }
 
--- A latitude of a spot or of a reference is in -2^30..2^30, from pole to pole
+-- whether a latitude to encode, or of a reference, is in -2^30..2^30
 abbrev pub fromPole : ℤ → Bool
 fromPole latitude = leb (natAbs latitude) 1073741824
 
@@ -78,13 +80,13 @@ fromPole latitude = leb (natAbs latitude) 1073741824
 abbrev pub encoded : ℕ → Spot → Kind → Format → Encoded
 encoded P s k f = cond (fromPole (s .latitude)) (As (countsOf P s k f)) (NotEncoded Field)
 
--- Exact results round to nearest, half up
+-- Places handed out: the exact r / M of 360 degrees rounds to nearest, half up
 unfoldable pub rounded : ℕ → ℤ → ℤ
-rounded M r = nearest (r *ℤ pos turn) M
+rounded M r = nearest (r *ℤ pos units) M
 
 -- a longitude from 0; one that rounds to 2^32 becomes 0
 unfoldable pub roundedTurn : ℕ → ℕ → ℕ
-roundedTurn M r = modulo (rounded M (pos r)) turn
+roundedTurn M r = modulo (rounded M (pos r)) units
 
 -- whether the latitude r / M of 360 degrees is in -90..90 degrees
 unfoldable pub inside : ℕ → ℤ → Bool
@@ -145,7 +147,7 @@ paired P even odd later = cond (fit P even && fit P odd) (pairFound P even odd l
 
 -- Single: the zone is 1/2 + reference x Z / turn - count / P, rounded down
 unfoldable pub nearZone : ℕ → ℕ → ℤ → ℕ → ℤ
-nearZone P N reference c = nearest (reference *ℤ pos (N * P) -ℤ pos (c * turn)) (turn * P)
+nearZone P N reference c = nearest (reference *ℤ pos (N * P) -ℤ pos (c * units)) (units * P)
 
 -- the position with the count that lies nearest to the reference
 unfoldable pub near : ℕ → ℕ → ℤ → ℕ → ℤ

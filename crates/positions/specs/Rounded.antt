@@ -12,7 +12,7 @@ use Rattle.positions.specs.declared.Found.{Found}
 use Rattle.positions.specs.declared.Found.the-variants.{At, Refused}
 use Rattle.positions.specs.Whole.{modulo}
 use Rattle.positions.specs.Zones.{zoneCount}
-use Rattle.positions.specs.Positions.{turn, latitudeZones, longitudeZones, whole, rounded, roundedTurn}
+use Rattle.positions.specs.Positions.{units, latitudeZones, longitudeZones, whole, rounded, roundedTurn}
 
 -- NL of the rounded latitude of the airborne message of format f
 unfoldable pub countBy : ℕ → Format → ℤ → ℕ
@@ -38,10 +38,10 @@ around C a b = min ((a - b) + (b - a)) (C - ((a - b) + (b - a)))
 
 -- how far the position z / (N * P) lies above the reference, both of 360 degrees, over turn * (N * P): a zone is turn * P of it
 abbrev pub beyond : ℕ → ℕ → ℤ → ℤ → ℤ
-beyond P N reference z = z *ℤ pos turn -ℤ reference *ℤ pos (N * P)
+beyond P N reference z = z *ℤ pos units -ℤ reference *ℤ pos (N * P)
 
 -- z has the count c and lies within half a zone of the reference, but not just half a zone below it
 pub record Nearby (P N : ℕ) (reference : ℤ) (c : ℕ) (z : ℤ) : Type 0 where
   pub counted : modulo z P ≡ c
-  pub within : 2 * natAbs (beyond P N reference z) ≤ turn * P
-  pub upper : pos 2 *ℤ beyond P N reference z +ℤ pos (turn * P) ≡ pos 0 → ⊥
+  pub within : 2 * natAbs (beyond P N reference z) ≤ units * P
+  pub upper : pos 2 *ℤ beyond P N reference z +ℤ pos (units * P) ≡ pos 0 → ⊥
