@@ -1,0 +1,35 @@
+-- `position_vectors::raise` meets its contract: a number of 32 bits plus a turn fits an i64 and is not below zero.
+use borrow.Author.Needs.{needs}
+use native.Mathlib.Omega.{arith}
+use lib.IntN.{pos, _+ℤ_}
+use mir.Val.{SFits}
+use mir.Syntax.{w64}
+use mir.Facts.{toZ-ofZ, sfits-widen}
+use Rattle.positions.proofs.Signed.{raise-is, raise-small}
+use Rattle.position_vectors.proofs.raise.Statement.{statement}
+use Rattle.position_vectors.proofs.raise.Tie as tie
+
+wide : (c : tie.Start) → SFits w64 (c .args .v)
+wide c = sfits-widen tt (c .fits .v)
+
+fits : (c : tie.Start) → SFits w64 (c .args .v +ℤ pos 4294967296)
+fits c =
+    rw (raise-is (c .args .v) (c .fits .v .sfits))
+    (record { sfits = omega (arith, raise-small (c .args .v) (c .fits .v .sfits)) })
+
+cast-result : tie.Need-cast-result
+cast-result c = rw (toZ-ofZ (c .fits .v)) (wide c)
+
+add-result : tie.Need-add-result
+add-result c = rw (toZ-ofZ (c .fits .v), toZ-ofZ (wide c)) (fits c)
+
+cast-result-2 : tie.Need-cast-result-2
+cast-result-2 c =
+    rw (toZ-ofZ (c .fits .v), toZ-ofZ (wide c), toZ-ofZ (fits c), raise-is (c .args .v) (c .fits .v .sfits))
+    (tt, omega (arith, raise-small (c .args .v) (c .fits .v .sfits)))
+
+returns : tie.Need-returns
+returns c = search needs
+
+pub raise-spec : {M : Type 1} → statement M
+raise-spec = tie.close (tie.spec cast-result add-result cast-result-2 returns)

@@ -1,0 +1,14 @@
+pub mod Joined
+pub mod Shift
+pub mod Rounding
+pub mod Pairing
+pub mod Naturals
+pub mod Table
+pub mod Signed
+pub mod Answers
+pub mod Trip
+pub mod RoundTrip
+pub mod Half
+pub mod Nearby
+pub mod Unique
+pub mod Worked

@@ -1,0 +1,79 @@
+-- Document 01's worked positions, and beside them the wrong answers that its slips would give: each computed, so each holds by `refl`.
+use mathlib.Core.Path.{_≡_, refl}
+use Prim.Native.Nat.{ℕ, suc, _*_, _/_}
+use lib.IntN.{ℤ, pos, negsuc, negℤ, _+ℤ_, _*ℤ_}
+use Rattle.refusals.specs.declared.Refusal.the-variants.{Field, Latitude, Zones}
+use Rattle.positions.specs.declared.Spot.{Spot}
+use Rattle.positions.specs.declared.Kind.the-variants.{Airborne, Surface}
+use Rattle.positions.specs.declared.Format.the-variants.{Even, Odd}
+use Rattle.positions.specs.declared.Counts.{Counts}
+use Rattle.positions.specs.declared.Encoded.the-variants.{As, Refused as NotEncoded}
+use Rattle.positions.specs.declared.Found.the-variants.{At, Refused}
+use Rattle.positions.specs.Whole.{floor, modulo, nearest}
+use Rattle.positions.specs.Zones.{latitudes, first, zoneCount}
+use Rattle.positions.specs.Positions.{units, longitudeZones, allRound, whole, count, spotZones, countsOf, encoded, rounded, roundedTurn, inside, pairZone, inZone, less360, pairLatitude, pairLongitude, pairCount, pairSpot, pairFound, paired, nearZone, near, nearSpot, nearFound, singly}
+
+abbrev spot : ℤ → ℕ → Spot
+spot y x = record { latitude = y; longitude = x }
+
+abbrev counts : ℕ → ℕ → Counts
+counts y x = record { latitude = record { 0 = y }; longitude = record { 0 = x } }
+
+-- 45 N 90 E from counts 65536 even and 49152 odd, longitudes 65536 and 32768, either later; -45 gives latitude counts 65536 and 81920;
+-- latitudes 0 even and 65536 odd are 9; 87 degrees exactly is NL 2 and one even count more 1; a surface message of counts 0 and 0 is at its site
+pub worked :
+    (paired 131072 (counts 65536 65536) (counts 49152 32768) Odd ≡ At (spot (pos 536870912) 1073741824))
+    × (paired 131072 (counts 65536 65536) (counts 49152 32768) Even ≡ At (spot (pos 536870912) 1073741824))
+    × (encoded 131072 (spot (negsuc 536870911) 1073741824) Airborne Even ≡ As (counts 65536 65536))
+    × (encoded 131072 (spot (negsuc 536870911) 1073741824) Airborne Odd ≡ As (counts 81920 32768))
+    × (paired 131072 (counts 0 0) (counts 65536 0) Odd ≡ Refused Latitude)
+    × (zoneCount (60 * 131072) (pos 1900544) ≡ 2)
+    × (zoneCount (60 * 131072) (pos 1900545) ≡ 1)
+    × (singly 131072 (spot (pos 536870912) 1073741824) (counts 0 0) Surface Even ≡ At (spot (pos 536870912) 1073741824))
+unfolding floor modulo nearest latitudes first zoneCount allRound whole count spotZones countsOf rounded roundedTurn inside pairZone inZone less360 pairLatitude pairLongitude pairCount pairSpot pairFound nearZone near nearSpot nearFound
+worked = (refl, refl, refl, refl, refl, refl, refl, refl)
+
+-- a count of 131,072 and a latitude past the pole are 8, and at an edge of NL a pair is 10
+pub refused :
+    (paired 131072 (counts 131072 0) (counts 65536 0) Odd ≡ Refused Field)
+    × (singly 131072 (spot (pos 1073741825) 0) (counts 0 0) Surface Even ≡ Refused Field)
+    × (encoded 131072 (spot (negsuc 1073741824) 0) Airborne Even ≡ NotEncoded Field)
+    × (paired 131072 (counts 97659 0) (counts 93846 0) Odd ≡ Refused Zones)
+unfolding floor modulo nearest latitudes first zoneCount allRound whole count spotZones countsOf rounded roundedTurn inside pairZone inZone less360 pairLatitude pairLongitude pairCount pairSpot pairFound nearZone near nearSpot nearFound
+refused = (refl, refl, refl, refl)
+
+-- NL of the unrounded latitude: 124917351 lies below the first edge and is rounded above it, so the longitude count is 65536, not 98304
+pub not-unrounded :
+    (countsOf 131072 (spot (pos 124917351) 1073741824) Airborne Even .longitude .0 ≡ 65536)
+    × (count 131072 (longitudeZones Even (zoneCount units (pos 124917351))) (pos 1073741824) ≡ 98304)
+unfolding floor modulo nearest latitudes first zoneCount allRound whole count spotZones countsOf
+not-unrounded = (refl, refl)
+
+-- division toward zero: just south of the equator the even latitude count of -546 is 131071, not 0
+abbrev towardZero : ℤ → ℕ → ℤ
+towardZero (pos a) d = pos (a / d)
+towardZero (negsuc a) d = negℤ (pos (suc a / d))
+
+pub not-toward-zero :
+    (count 131072 60 (negsuc 545) ≡ 131071)
+    × (modulo (towardZero (pos 2 *ℤ (negsuc 545 *ℤ pos (60 * 131072)) +ℤ pos units) (2 * units)) 131072 ≡ 0)
+unfolding floor modulo nearest whole count
+not-toward-zero = (refl, refl)
+
+-- one addition for m mod n: counts 0 even and 131071 odd have m = -59 at the equator; with 58 odd zones that is zone 57, and one addition leaves -1
+pub not-one-addition :
+    (pairZone 131072 59 0 131071 ≡ negsuc 58)
+    × (modulo (pairZone 131072 59 0 131071) 58 ≡ 57)
+    × (pairZone 131072 59 0 131071 +ℤ pos 58 ≡ negsuc 0)
+    × (paired 131072 (counts 0 0) (counts 0 131071) Odd ≡ At (spot (pos 0) 4294966731))
+unfolding floor modulo nearest latitudes first zoneCount rounded roundedTurn inside pairZone inZone less360 pairLatitude pairLongitude pairCount pairSpot pairFound
+not-one-addition = (refl, refl, refl, refl)
+
+-- above 270 for from 270 up: the south pole is 270 degrees exactly, and is a latitude, not 9
+pub from-270 :
+    (encoded 131072 (spot (negsuc 1073741823) 0) Airborne Even ≡ As (counts 0 0))
+    × (encoded 131072 (spot (negsuc 1073741823) 0) Airborne Odd ≡ As (counts 32768 0))
+    × (paired 131072 (counts 0 0) (counts 32768 0) Even ≡ At (spot (negsuc 1073741823) 0))
+    × (paired 131072 (counts 0 0) (counts 32768 0) Odd ≡ At (spot (negsuc 1073741823) 0))
+unfolding floor modulo nearest latitudes first zoneCount allRound whole count spotZones countsOf rounded roundedTurn inside pairZone inZone less360 pairLatitude pairLongitude pairCount pairSpot pairFound
+from-270 = (refl, refl, refl, refl)

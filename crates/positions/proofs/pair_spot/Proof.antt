@@ -1,0 +1,54 @@
+-- `positions::pair_spot` meets its contract: each part is the one that the definition names.
+use mathlib.Core.Path.{_∙_}
+use native.Mathlib.Omega.{arith}
+use mir.Facts.{toZ-ofZ}
+use mir.Syntax.{w32}
+use Rattle.positions.proofs.Answers.{own-small, pair-spot}
+use borrow.Author.Needs.{needs}
+use Rattle.positions.proofs.pair_spot.Statement.{statement}
+use Rattle.positions.proofs.pair_spot.Tie as tie
+
+latitude-zones-requires : tie.Need-latitude-zones-requires
+latitude-zones-requires c κs = search needs
+
+latitude-out-requires : tie.Need-latitude-out-requires
+latitude-out-requires c κs = search needs
+
+longitude-zones-requires : tie.Need-longitude-zones-requires
+longitude-zones-requires c κs = search needs
+
+pair-longitude-zone-requires : tie.Need-pair-longitude-zone-requires
+pair-longitude-zone-requires c κs = search needs
+
+own-longitude-requires : tie.Need-own-longitude-requires
+own-longitude-requires c κs = search needs
+
+longitude-out-requires : tie.Need-longitude-out-requires
+longitude-out-requires c κs =
+    let a = c .before .before .before .before .before .args in
+    (c .before .pair-longitude-zone .ensures .1, (rw (c .own-longitude .ensures) (own-small (a .format) (omega arith) (omega arith)), omega arith))
+
+returns : tie.Need-returns
+returns c =
+    let own = c .before .own-longitude in
+    let zone = c .before .before .pair-longitude-zone in
+    let n = c .before .before .before .longitude-zones in
+    let latitude = c .before .before .before .before .latitude-out in
+    let z = c .before .before .before .before .before .latitude-zones in
+    let a = c .before .before .before .before .before .before .args in
+    pair-spot (a .format) (a .up) (a .nl) (a .even .0) (a .odd .0) (z .result) (n .result) (zone .result .0) (own .result .0)
+    (z .ensures .0) (n .ensures .0) (zone .ensures .0) (own .ensures)
+    (toZ-ofZ {w = w32} (record { sfits = latitude .ok }) ∙ latitude .ensures)
+    (c .longitude-out .ensures)
+
+pub pair-spot-spec : {M : Type 1} → statement M
+pair-spot-spec =
+    tie.close
+    (tie.spec
+    latitude-zones-requires
+    latitude-out-requires
+    longitude-zones-requires
+    pair-longitude-zone-requires
+    own-longitude-requires
+    longitude-out-requires
+    returns)

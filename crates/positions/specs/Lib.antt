@@ -1,0 +1,5 @@
+pub mod Whole
+pub mod Zones
+pub mod Positions
+pub mod Rounded
+pub mod Code

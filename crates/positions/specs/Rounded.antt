@@ -1,0 +1,47 @@
+-- What the theorems speak of: the rounded place of a message, how far apart two places are, and the positions near a reference.
+use mathlib.Core.Path.{_≡_}
+use mathlib.Core.Bool.{cond}
+use Prim.Native.Nat.{ℕ, _+_, _-_, _*_, _≤_, min}
+use lib.IntN.{ℤ, pos, natAbs, _+ℤ_, _-ℤ_, _*ℤ_}
+use lib.Dec.{eqb}
+use Rattle.refusals.specs.declared.Refusal.the-variants.{Zones}
+use Rattle.positions.specs.declared.Spot.{Spot}
+use Rattle.positions.specs.declared.Format.{Format}
+use Rattle.positions.specs.declared.Format.the-variants.{Even, Odd}
+use Rattle.positions.specs.declared.Found.{Found}
+use Rattle.positions.specs.declared.Found.the-variants.{At, Refused}
+use Rattle.positions.specs.Whole.{modulo}
+use Rattle.positions.specs.Zones.{zoneCount}
+use Rattle.positions.specs.Positions.{units, latitudeZones, longitudeZones, whole, rounded, roundedTurn}
+
+-- NL of the rounded latitude of the airborne message of format f
+unfoldable pub countBy : ℕ → Format → ℤ → ℕ
+countBy P f latitude = zoneCount (latitudeZones f * P) (whole P (latitudeZones f) latitude)
+
+-- its rounded place, the longitude modulo 360 degrees, rounded to 2^-32
+unfoldable pub roundedSpot : ℕ → Format → Spot → Spot
+roundedSpot P f s =
+    let n = longitudeZones f (countBy P f (s .latitude)) in
+    record {
+      latitude = rounded (latitudeZones f * P) (whole P (latitudeZones f) (s .latitude));
+      longitude = roundedTurn (n * P) (modulo (whole P n (pos (s .longitude))) (n * P));
+    }
+
+-- the rounded place of the later message, or 10 just where the two rounded latitudes differ in NL
+unfoldable pub roundTrip : ℕ → Spot → Format → Found
+roundTrip P s later =
+    cond (eqb (countBy P Even (s .latitude)) (countBy P Odd (s .latitude))) (At (roundedSpot P later s)) (Refused Zones)
+
+-- how far apart two numbers are on a circle of C
+abbrev pub around : ℕ → ℕ → ℕ → ℕ
+around C a b = min ((a - b) + (b - a)) (C - ((a - b) + (b - a)))
+
+-- how far the position z / (N * P) lies above the reference, both of 360 degrees, over turn * (N * P): a zone is turn * P of it
+abbrev pub beyond : ℕ → ℕ → ℤ → ℤ → ℤ
+beyond P N reference z = z *ℤ pos units -ℤ reference *ℤ pos (N * P)
+
+-- z has the count c and lies within half a zone of the reference, but not just half a zone below it
+pub record Nearby (P N : ℕ) (reference : ℤ) (c : ℕ) (z : ℤ) : Type 0 where
+  pub counted : modulo z P ≡ c
+  pub within : 2 * natAbs (beyond P N reference z) ≤ units * P
+  pub upper : pos 2 *ℤ beyond P N reference z +ℤ pos (units * P) ≡ pos 0 → ⊥

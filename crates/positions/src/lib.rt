@@ -1,0 +1,461 @@
+// Positions: a spot on the earth encoded as two counts, and found again from a pair of messages or from one near a reference.
+//
+// The definitions speak of whole numbers of either sign. The code holds what can be below zero one whole turn up, in u64:
+// a turn is a multiple of every divisor that occurs, so division rounds down and the remainder is right also in the south.
+use counts::LatitudeCount;
+use counts::LongitudeCount;
+use counts::Zone;
+use refusals::Refusal;
+ghost use mathlib.Core.Path.{_≡_};
+ghost use mathlib.Core.Bool.{_&&_};
+ghost use Prim.Native.Nat.{_+_, _-_, _*_, _<_, _≤_};
+ghost use lib.Dec.{leb};
+ghost use lib.IntN.{subℕ, pos};
+ghost use Rattle.positions.specs.Whole.{modulo};
+ghost use Rattle.positions.specs.Zones.{latitudes, first, zoneCount};
+ghost use Rattle.positions.specs.Positions.{own, latitudeZones, longitudeZones, allRound, whole, countsOf, encoded, rounded, roundedTurn, pairZone, pairLatitude, pairSpot, pairFound, fit, paired, nearZone, nearSpot, nearFound, singly};
+ghost use Rattle.positions.specs.Code.{nearestℕ, raised, Polar, Within, Paired};
+
+// 58 latitudes in units of 10^-8 degree, at which the number of longitude zones falls: 59 up to the first, 2 up to the last.
+const LATITUDES: [u64; 58] = [
+    1047047130,
+    1482817437,
+    1818626357,
+    2102939493,
+    2354504487,
+    2582924707,
+    2793898710,
+    2991135686,
+    3177209708,
+    3353993436,
+    3522899598,
+    3685025108,
+    3841241892,
+    3992256684,
+    4138651832,
+    4280914012,
+    4419454951,
+    4554626723,
+    4686733252,
+    4816039128,
+    4942776439,
+    5067150166,
+    5189342469,
+    5309516153,
+    5427817472,
+    5544378444,
+    5659318756,
+    5772747354,
+    5884763776,
+    5995459277,
+    6104917774,
+    6213216659,
+    6320427479,
+    6426616523,
+    6531845310,
+    6636171008,
+    6739646774,
+    6842322022,
+    6944242631,
+    7045451075,
+    7145986473,
+    7245884545,
+    7345177442,
+    7443893416,
+    7542056257,
+    7639684391,
+    7736789461,
+    7833374083,
+    7929428225,
+    8024923213,
+    8119801349,
+    8213956981,
+    8307199445,
+    8399173563,
+    8489166191,
+    8575541621,
+    8653536998,
+    8700000000,
+];
+
+// The units of a spot in 360 degrees, the counts in a zone, and both: the units of a spot times the counts in 360 degrees of one zone.
+const TURN: u64 = 4294967296;
+
+const SIZE: u64 = 131072;
+
+const FINE: u64 = 562949953421312;
+
+// The poles one turn up, in units of a spot; the north pole in fourths of a count, of 60 and of 59 zones.
+const SOUTH: u64 = 3221225472;
+
+const NORTH: u64 = 5368709120;
+
+const EVEN_NORTH: u64 = 39321600;
+
+const ODD_NORTH: u64 = 38666240;
+
+// A spot on the earth, in 2^-32 of 360 degrees: latitude from the equator, longitude from 0.
+pub struct Spot {
+    pub latitude: i32,
+    pub longitude: u32,
+}
+
+// What a message says of a spot: an airborne turn is 360 degrees, a surface turn 90.
+pub enum Kind {
+    Airborne,
+    Surface,
+}
+
+// F of a message.
+pub enum Format {
+    Even,
+    Odd,
+}
+
+// The two counts of one message.
+pub struct Counts {
+    pub latitude: LatitudeCount,
+    pub longitude: LongitudeCount,
+}
+
+pub enum Encoded {
+    As(Counts),
+    Refused(Refusal),
+}
+
+pub enum Found {
+    At(Spot),
+    Refused(Refusal),
+}
+
+// The counts of a spot, by the zones at its rounded latitude.
+pub fn encode(spot: Spot, kind: Kind, format: Format) -> Encoded
+    ensures { λ r. ⌜ r ≡ encoded 131072 spot kind format ⌝ }
+{
+    let up = raise(spot.latitude);
+    if from_pole(up) {
+        Encoded::As(encode_raised(up, spot.longitude, kind, format))
+    } else {
+        Encoded::Refused(Refusal::Field)
+    }
+}
+
+// The spot of the later of an even and an odd airborne message.
+pub fn pair(even: Counts, odd: Counts, later: Format) -> Found
+    ensures { λ r. ⌜ r ≡ paired 131072 even odd later ⌝ }
+{
+    if fits(even) & fits(odd) {
+        pair_fitting(even, odd, later)
+    } else {
+        Found::Refused(Refusal::Field)
+    }
+}
+
+// The spot of one message that lies nearest to a reference.
+pub fn single(reference: Spot, counts: Counts, kind: Kind, format: Format) -> Found
+    ensures { λ r. ⌜ r ≡ singly 131072 reference counts kind format ⌝ }
+{
+    let up = raise(reference.latitude);
+    if fits(counts) & from_pole(up) {
+        single_raised(up, reference.longitude, counts, kind, format)
+    } else {
+        Found::Refused(Refusal::Field)
+    }
+}
+
+fn fits(c: Counts) -> bool
+    ensures { λ r. ⌜ r ≡ fit 131072 c ⌝ }
+{
+    (c.latitude.0 < 131072) & (c.longitude.0 < 131072)
+}
+
+// A latitude one whole turn up, so that it is never below zero; whether it is in range; and back down.
+fn raise(latitude: i32) -> u64
+    ensures { λ r. ⌜ r ≡ raised latitude ⌝ }
+{
+    (latitude as i64 + 4294967296) as u64
+}
+
+fn from_pole(up: u64) -> bool
+    ensures { λ r. ⌜ r ≡ (leb 3221225472 up && leb up 5368709120) ⌝ }
+{
+    (SOUTH <= up) & (up <= NORTH)
+}
+
+fn lower(up: u64) -> i32
+    requires { ⌜ (3221225472 ≤ up) × (up ≤ 5368709120) ⌝ }
+    ensures { λ r. ⌜ r ≡ subℕ up 4294967296 ⌝ }
+{
+    (up as i64 - 4294967296) as i32
+}
+
+// a / d to nearest, half up.
+fn nearest(a: u64, d: u64) -> u64
+    requires { ⌜ (a < 1152921504606846976) × ((0 < d) × (d < 1152921504606846976)) ⌝ }
+    ensures { λ r. ⌜ r ≡ nearestℕ a d ⌝ }
+{
+    (2 * a + d) / (2 * d)
+}
+
+// NL of the latitude x / d in 10^-8 degree, by halves: entries before `low` are below it, those from `high` on are not.
+fn zone_count(table: &[u64; 58], x: u64, d: u64) -> u32
+    requires { ⌜ (now table ≡ latitudes) × (d < 67108864) ⌝ }
+    ensures { λ r. ⌜ (r ≡ first 59 latitudes x d) × ((0 < r) × (r ≤ 59)) ⌝ }
+{
+    let mut low: usize = 0;
+    let mut high: usize = 58;
+    while low < high {
+        let middle = (low + high) / 2;
+        if x <= table[middle] * d {
+            high = middle;
+        } else {
+            low = middle + 1;
+        }
+    }
+    59 - low as u32
+}
+
+// NL of a latitude of n zones to 360 degrees, one turn up.
+fn zone_count_at(table: &[u64; 58], up: u64, n: u64) -> u32
+    requires { ⌜ (now table ≡ latitudes) × (((0 < n) × (n ≤ 240)) × Polar (n * 131072) up) ⌝ }
+    ensures { λ r. ⌜ (r ≡ zoneCount (n * 131072) (subℕ up (n * 131072))) × ((0 < r) × (r ≤ 59)) ⌝ }
+{
+    let m = n * SIZE;
+    if up < m {
+        zone_count(table, (m - up) * 36000000000, m)
+    } else {
+        zone_count(table, (up - m) * 36000000000, m)
+    }
+}
+
+// Z, the zones of latitude to a turn.
+fn latitude_zones(format: Format) -> u64
+    ensures { λ r. ⌜ (r ≡ latitudeZones format) × ((59 ≤ r) × (r ≤ 60)) ⌝ }
+{
+    match format {
+        Format::Even => 60,
+        Format::Odd => 59,
+    }
+}
+
+// n, the zones of longitude to a turn.
+fn longitude_zones(format: Format, nl: u32) -> u64
+    requires { ⌜ (0 < nl) × (nl ≤ 59) ⌝ }
+    ensures { λ r. ⌜ (r ≡ longitudeZones format nl) × ((0 < r) × (r ≤ 59)) ⌝ }
+{
+    match format {
+        Format::Even => nl as u64,
+        Format::Odd => if nl == 1 { 1 } else { nl as u64 - 1 },
+    }
+}
+
+// The zones to 360 degrees.
+fn all_round(kind: Kind, zones: u64) -> u64
+    requires { ⌜ (0 < zones) × (zones ≤ 60) ⌝ }
+    ensures { λ r. ⌜ (r ≡ allRound kind zones) × ((zones ≤ r) × (r ≤ 240)) ⌝ }
+{
+    match kind {
+        Kind::Airborne => zones,
+        Kind::Surface => 4 * zones,
+    }
+}
+
+// The exact latitude of n zones, one turn up, in 2^-32 of 360 degrees.
+fn latitude_out(up: u64, n: u64) -> i32
+    requires { ⌜ ((0 < n) × (n ≤ 240)) × Polar (n * 131072) up ⌝ }
+    ensures { λ r. ⌜ r ≡ rounded (n * 131072) (subℕ up (n * 131072)) ⌝ }
+{
+    lower(nearest(up * TURN, n * SIZE))
+}
+
+// The longitude of a zone of n and a count; what rounds to 2^32 becomes 0.
+fn longitude_out(zone: Zone, count: LongitudeCount, n: u64) -> u32
+    requires { ⌜ (zone .0 < n) × ((count .0 < 131072) × (n ≤ 240)) ⌝ }
+    ensures { λ r. ⌜ r ≡ roundedTurn (n * 131072) (zone .0 * 131072 + count .0) ⌝ }
+{
+    let v = (zone.0 as u64) * SIZE + (count.0 as u64);
+    (nearest(v * TURN, n * SIZE) % TURN) as u32
+}
+
+// A latitude one turn up, encoded by n zones: the whole number before the modulo, one turn up.
+fn latitude_whole(up: u64, n: u64) -> u64
+    requires { ⌜ ((0 < n) × (n ≤ 240)) × ((3221225472 ≤ up) × (up ≤ 5368709120)) ⌝ }
+    ensures { λ r. ⌜ (whole 131072 n (subℕ up 4294967296) ≡ subℕ r (n * 131072)) × Polar (n * 131072) r ⌝ }
+{
+    nearest(up * (n * SIZE), TURN)
+}
+
+fn longitude_whole(longitude: u32, n: u64) -> u64
+    requires { ⌜ (0 < n) × (n ≤ 240) ⌝ }
+    ensures { λ r. ⌜ whole 131072 n (pos longitude) ≡ pos r ⌝ }
+{
+    nearest((longitude as u64) * (n * SIZE), TURN)
+}
+
+fn encode_raised(up: u64, longitude: u32, kind: Kind, format: Format) -> Counts
+    requires { ⌜ (3221225472 ≤ up) × (up ≤ 5368709120) ⌝ }
+    ensures { λ r. ⌜ r ≡ countsOf 131072 (record { latitude = subℕ up 4294967296; longitude = longitude }) kind format ⌝ }
+{
+    let table = LATITUDES;
+    let z = all_round(kind, latitude_zones(format));
+    let y = latitude_whole(up, z);
+    let n = all_round(kind, longitude_zones(format, zone_count_at(&table, y, z)));
+    let x = longitude_whole(longitude, n);
+    Counts {
+        latitude: LatitudeCount((y % SIZE) as u32),
+        longitude: LongitudeCount((x % SIZE) as u32),
+    }
+}
+
+// The zone of a pair of counts by n and n - 1 zones, modulo z. It is n * z zones up, which z does not see, so that it is never below zero.
+fn pair_zone(n: u64, z: u64, even: u32, odd: u32) -> Zone
+    requires { ⌜ ((0 < n) × (n ≤ 60)) × (((0 < z) × (z ≤ 60)) × ((even < 131072) × (odd < 131072))) ⌝ }
+    ensures { λ r. ⌜ (r .0 ≡ modulo (pairZone 131072 n even odd) z) × (r .0 < z) ⌝ }
+{
+    let x = (even as u64) * (n - 1) + n * z * SIZE - (odd as u64) * n;
+    Zone((nearest(x, SIZE) % z) as u32)
+}
+
+fn pair_latitude_zone(z: u64, even: LatitudeCount, odd: LatitudeCount) -> Zone
+    requires { ⌜ ((0 < z) × (z ≤ 60)) × ((even .0 < 131072) × (odd .0 < 131072)) ⌝ }
+    ensures { λ r. ⌜ (r .0 ≡ modulo (pairZone 131072 60 (even .0) (odd .0)) z) × (r .0 < z) ⌝ }
+{
+    pair_zone(60, z, even.0, odd.0)
+}
+
+fn pair_longitude_zone(nl: u32, n: u64, even: LongitudeCount, odd: LongitudeCount) -> Zone
+    requires { ⌜ ((0 < nl) × (nl ≤ 59)) × (((0 < n) × (n ≤ 59)) × ((even .0 < 131072) × (odd .0 < 131072))) ⌝ }
+    ensures { λ r. ⌜ (r .0 ≡ modulo (pairZone 131072 nl (even .0) (odd .0)) n) × (r .0 < n) ⌝ }
+{
+    pair_zone(nl as u64, n, even.0, odd.0)
+}
+
+// The exact latitude of a zone of z and a count, less 360 from 270 up; and that one turn up.
+fn latitude_in(z: u64, zone: Zone, count: LatitudeCount) -> u64
+    requires { ⌜ (zone .0 < z) × ((count .0 < 131072) × (z ≤ 60)) ⌝ }
+    ensures { λ r. ⌜ Within (z * 131072) (zone .0 * 131072 + count .0) r ⌝ }
+{
+    let m = z * SIZE;
+    let v = (zone.0 as u64) * SIZE + (count.0 as u64);
+    if 3 * m <= 4 * v { v } else { v + m }
+}
+
+// Of what the two messages of a pair have, what the one of a format has.
+fn own_latitude(format: Format, even: LatitudeCount, odd: LatitudeCount) -> LatitudeCount
+    ensures { λ r. ⌜ r .0 ≡ own format (even .0) (odd .0) ⌝ }
+{
+    match format {
+        Format::Even => even,
+        Format::Odd => odd,
+    }
+}
+
+fn own_longitude(format: Format, even: LongitudeCount, odd: LongitudeCount) -> LongitudeCount
+    ensures { λ r. ⌜ r .0 ≡ own format (even .0) (odd .0) ⌝ }
+{
+    match format {
+        Format::Even => even,
+        Format::Odd => odd,
+    }
+}
+
+// The exact latitude of the message of a format, of a pair, one turn up.
+fn pair_latitude(format: Format, even: LatitudeCount, odd: LatitudeCount) -> u64
+    requires { ⌜ (even .0 < 131072) × (odd .0 < 131072) ⌝ }
+    ensures { λ r. ⌜ Paired format (even .0) (odd .0) r ⌝ }
+{
+    let z = latitude_zones(format);
+    let zone = pair_latitude_zone(z, even, odd);
+    latitude_in(z, zone, own_latitude(format, even, odd))
+}
+
+// The spot of the message of a format, of a pair: its latitude, one turn up, is found already.
+fn pair_spot(format: Format, up: u64, nl: u32, even: LongitudeCount, odd: LongitudeCount) -> Spot
+    requires { ⌜ Polar (latitudeZones format * 131072) up ⌝ }
+    requires { ⌜ ((0 < nl) × (nl ≤ 59)) × ((even .0 < 131072) × (odd .0 < 131072)) ⌝ }
+    ensures { λ r. ⌜ r ≡ pairSpot 131072 format (subℕ up (latitudeZones format * 131072)) nl (even .0) (odd .0) ⌝ }
+{
+    let latitude = latitude_out(up, latitude_zones(format));
+    let n = longitude_zones(format, nl);
+    let zone = pair_longitude_zone(nl, n, even, odd);
+    let longitude = longitude_out(zone, own_longitude(format, even, odd), n);
+    Spot {
+        latitude,
+        longitude,
+    }
+}
+
+fn pair_fitting(even: Counts, odd: Counts, later: Format) -> Found
+    requires { ⌜ (even .latitude .0 < 131072) × (even .longitude .0 < 131072) ⌝ }
+    requires { ⌜ (odd .latitude .0 < 131072) × (odd .longitude .0 < 131072) ⌝ }
+    ensures { λ r. ⌜ r ≡ pairFound 131072 even odd later ⌝ }
+{
+    let a = even.latitude;
+    let b = odd.latitude;
+    let r = pair_latitude(Format::Even, a, b);
+    let s = pair_latitude(Format::Odd, a, b);
+    if (EVEN_NORTH < 4 * r) | (ODD_NORTH < 4 * s) {
+        return Found::Refused(Refusal::Latitude);
+    }
+    let table = LATITUDES;
+    let nl = zone_count_at(&table, r, 60);
+    if nl != zone_count_at(&table, s, 59) {
+        return Found::Refused(Refusal::Zones);
+    }
+    let x = even.longitude;
+    let y = odd.longitude;
+    match later {
+        Format::Even => Found::At(pair_spot(Format::Even, r, nl, x, y)),
+        Format::Odd => Found::At(pair_spot(Format::Odd, s, nl, x, y)),
+    }
+}
+
+// The zone of n in which a latitude count lies nearest to a reference; both one turn up.
+fn near_latitude_zone(up: u64, n: u64, count: LatitudeCount) -> Zone
+    requires { ⌜ ((59 ≤ n) × (n ≤ 240)) × (((3221225472 ≤ up) × (up ≤ 5368709120)) × (count .0 < 131072)) ⌝ }
+    ensures { λ r. ⌜ (nearZone 131072 n (subℕ up 4294967296) (count .0) ≡ subℕ (r .0) n) × (r .0 ≤ 400) ⌝ }
+{
+    let x = up * (n * SIZE) - (count.0 as u64) * TURN;
+    Zone(nearest(x, FINE) as u32)
+}
+
+// The same for a longitude count, modulo n.
+fn near_longitude_zone(longitude: u32, n: u64, count: LongitudeCount) -> Zone
+    requires { ⌜ ((0 < n) × (n ≤ 240)) × (count .0 < 131072) ⌝ }
+    ensures { λ r. ⌜ (r .0 ≡ modulo (nearZone 131072 n (pos longitude) (count .0)) n) × (r .0 < n) ⌝ }
+{
+    let x = (longitude as u64) * (n * SIZE) + n * FINE - (count.0 as u64) * TURN;
+    Zone((nearest(x, FINE) % n) as u32)
+}
+
+// The spot with a latitude of z zones, one turn up, and the longitude of n zones nearest to a reference.
+fn near_spot(up: u64, z: u64, n: u64, longitude: u32, count: LongitudeCount) -> Spot
+    requires { ⌜ ((0 < z) × (z ≤ 240)) × Polar (z * 131072) up ⌝ }
+    requires { ⌜ ((0 < n) × (n ≤ 240)) × (count .0 < 131072) ⌝ }
+    ensures { λ r. ⌜ r ≡ nearSpot 131072 z (subℕ up (z * 131072)) n longitude (count .0) ⌝ }
+{
+    let latitude = latitude_out(up, z);
+    let near = longitude_out(near_longitude_zone(longitude, n, count), count, n);
+    Spot {
+        latitude,
+        longitude: near,
+    }
+}
+
+fn single_raised(up: u64, longitude: u32, counts: Counts, kind: Kind, format: Format) -> Found
+    requires { ⌜ (3221225472 ≤ up) × (up ≤ 5368709120) ⌝ }
+    requires { ⌜ (counts .latitude .0 < 131072) × (counts .longitude .0 < 131072) ⌝ }
+    ensures { λ r. ⌜ r ≡ nearFound 131072 (allRound kind (latitudeZones format)) (record { latitude = subℕ up 4294967296; longitude = longitude }) counts kind format ⌝ }
+{
+    let z = all_round(kind, latitude_zones(format));
+    let m = z * SIZE;
+    let a = counts.latitude;
+    let zone = near_latitude_zone(up, z, a);
+    let y = (zone.0 as u64) * SIZE + (a.0 as u64);
+    if (4 * y < 3 * m) | (5 * m < 4 * y) {
+        return Found::Refused(Refusal::Latitude);
+    }
+    let table = LATITUDES;
+    let n = all_round(kind, longitude_zones(format, zone_count_at(&table, y, z)));
+    Found::At(near_spot(y, z, n, longitude, counts.longitude))
+}
