@@ -18,7 +18,7 @@ use Rattle.fields.proofs.Bools.{and-left, and-right, both, by-test}
 use Rattle.fields.proofs.Fits.{fits-fit, unpack-fits}
 use Rattle.fields.proofs.Packing.{pack-lt, unpack-pack, pack-unpack}
 use Rattle.fields.proofs.Bytes.{bytes-take, bytes-drop, fit-bytes, number-bytes, bytes-number, number-whole}
-use Rattle.parity.specs.Division.{remainder}
+use Rattle.parity.specs.Parity.{remainder}
 use Rattle.parity.proofs.Seal.{sealed, only-sealed}
 use Rattle.layouts.specs.Bodies.{taken, bodyMe, bodyFits}
 use Rattle.layouts.proofs.BothWays.{written-read, read-good, me-lt}

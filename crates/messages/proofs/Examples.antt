@@ -4,7 +4,8 @@ use Prim.Native.Nat.{ℕ}
 use mathlib.Core.Path.{_≡_, refl, sym, ap, _∙_}
 use mathlib.Core.List.{List, [], _∷_}
 use native.Mathlib.Omega.{arith}
-use Rattle.parity.specs.Division.{remainder, remainderFrom, reduce}
+use Rattle.division.specs.Division.{remainderFrom, reduce}
+use Rattle.parity.specs.Parity.{remainder}
 use Rattle.messages.specs.Message.{decoded, opened}
 use Rattle.messages.specs.Table.{Said, number, values, said}
 

@@ -9,7 +9,7 @@ use lib.Dec.{eqb}
 use lib.ListN.{length}
 use Rattle.fields.specs.Bytes.{number}
 use Rattle.fields.proofs.Bools.{by-test}
-use Rattle.parity.specs.Division.{remainder}
+use Rattle.parity.specs.Parity.{remainder}
 use Rattle.layouts.specs.Bodies.{taken}
 use Rattle.layouts.specs.declared.bodies.Taken.{Taken}
 use Rattle.layouts.specs.declared.bodies.Taken.the-variants as read

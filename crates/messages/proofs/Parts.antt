@@ -11,7 +11,7 @@ use borrow.Rule.Slice.PartMut.{midOf, putMid}
 use Rattle.fields.specs.Packing.{unpack}
 use Rattle.fields.specs.Bytes.{number, bytesOf, Bytes}
 use Rattle.fields.proofs.Bytes.{bytes-take, bytes-drop, number-lt, number-cut, number-whole}
-use Rattle.parity.specs.Division.{seal}
+use Rattle.parity.specs.Parity.{seal}
 use Rattle.messages.specs.Message.{bits, opened, headWidths, sealedBy}
 
 module _ (s : List ℕ) (e : length s ≡ 14) (h : Bytes s) where

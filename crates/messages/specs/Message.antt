@@ -7,7 +7,7 @@ use lib.ListN.{length}
 use Rattle.refusals.specs.declared.Refusal.the-variants.{Length, Parity, Format, Field}
 use Rattle.fields.specs.Packing.{field, pack, fits}
 use Rattle.fields.specs.Bytes.{number, bytesOf}
-use Rattle.parity.specs.Division.{remainder, seal}
+use Rattle.parity.specs.Parity.{remainder, seal}
 use Rattle.layouts.specs.Bodies.{taken, bodyMe, bodyFits}
 use Rattle.layouts.specs.declared.bodies.Taken.{Taken}
 use Rattle.layouts.specs.declared.bodies.Taken.the-variants as read

@@ -6,7 +6,7 @@ use lib.Dec.{eqb}
 use lib.ListN.{length}
 use Rattle.refusals.specs.Numbers.{numberOf}
 use Rattle.fields.specs.Packing.{unpack}
-use Rattle.parity.specs.Division.{remainder}
+use Rattle.parity.specs.Parity.{remainder}
 use Rattle.layouts.specs.Layouts.{isIdentification, isSurface, isAirborne, isGround, isAir, identificationWidths, surfaceWidths, airborneWidths, velocityWidths}
 use Rattle.layouts.specs.Bodies.{bodyFields}
 use Rattle.messages.specs.Message.{bits, formatTaken, headWidths, headFields}

@@ -7,7 +7,7 @@ use lib.Dec.{eqb}
 use lib.ListN.{length}
 use borrow.Author.Tests.{eq-eqb, ne-eqb}
 use Rattle.fields.specs.Bytes.{Bytes}
-use Rattle.parity.specs.Division.{remainder}
+use Rattle.parity.specs.Parity.{remainder}
 use Rattle.messages.proofs.Parts.{opened-is}
 use borrow.Author.Needs.{needs}
 use Rattle.messages.proofs.decode.Statement.{statement}
