@@ -18,3 +18,7 @@ neither false b e = (refl, e)
 pub and-false : (a : Bool) → (a && false) ≡ false
 and-false true = refl
 and-false false = refl
+
+pub not-both : (a b : Bool) → (a && b) ≡ false → (a ≡ false) ⊎ (b ≡ false)
+not-both true b e = inr e
+not-both false b e = inl refl

@@ -12,3 +12,4 @@ pub mod Half
 pub mod Nearby
 pub mod Unique
 pub mod Worked
+pub mod Order
