@@ -78,14 +78,14 @@ const LATITUDES: [u64; 58] = [
     8700000000,
 ];
 
-// The units of a spot in 360 degrees, the counts in a zone, and both: the units of a spot times the counts in 360 degrees of one zone.
+// A spot's units in 360 degrees, a zone's counts, and the product of the two.
 const TURN: u64 = 4294967296;
 
 const SIZE: u64 = 131072;
 
 const FINE: u64 = 562949953421312;
 
-// The poles one turn up, in units of a spot; the north pole in fourths of a count, of 60 and of 59 zones.
+// The poles one turn up, in a spot's units; and four times the north pole one turn up, in counts of 60 zones and of 59.
 const SOUTH: u64 = 3221225472;
 
 const NORTH: u64 = 5368709120;
@@ -100,13 +100,13 @@ pub struct Spot {
     pub longitude: u32,
 }
 
-// What a message says of a spot: an airborne turn is 360 degrees, a surface turn 90.
+// Of a message: an airborne turn is 360 degrees, a surface turn 90.
 pub enum Kind {
     Airborne,
     Surface,
 }
 
-// F of a message.
+// F of a message: 0 is even, 1 is odd.
 pub enum Format {
     Even,
     Odd,
@@ -163,6 +163,7 @@ pub fn single(reference: Spot, counts: Counts, kind: Kind, format: Format) -> Fo
     }
 }
 
+// Whether both counts have 17 bits.
 fn fits(c: Counts) -> bool
     ensures { λ r. ⌜ r ≡ fit 131072 c ⌝ }
 {
@@ -285,6 +286,7 @@ fn latitude_whole(up: u64, n: u64) -> u64
     nearest(up * (n * SIZE), TURN)
 }
 
+// A longitude likewise; it is never below zero.
 fn longitude_whole(longitude: u32, n: u64) -> u64
     requires { ⌜ (0 < n) × (n ≤ 240) ⌝ }
     ensures { λ r. ⌜ whole 131072 n (pos longitude) ≡ pos r ⌝ }
@@ -292,6 +294,7 @@ fn longitude_whole(longitude: u32, n: u64) -> u64
     nearest((longitude as u64) * (n * SIZE), TURN)
 }
 
+// The counts of a spot whose latitude is one turn up and in range.
 fn encode_raised(up: u64, longitude: u32, kind: Kind, format: Format) -> Counts
     requires { ⌜ (3221225472 ≤ up) × (up ≤ 5368709120) ⌝ }
     ensures { λ r. ⌜ r ≡ countsOf 131072 (record { latitude = subℕ up 4294967296; longitude = longitude }) kind format ⌝ }
@@ -316,6 +319,7 @@ fn pair_zone(n: u64, z: u64, even: u32, odd: u32) -> Zone
     Zone((nearest(x, SIZE) % z) as u32)
 }
 
+// j, and m, each modulo the zones of one message.
 fn pair_latitude_zone(z: u64, even: LatitudeCount, odd: LatitudeCount) -> Zone
     requires { ⌜ ((0 < z) × (z ≤ 60)) × ((even .0 < 131072) × (odd .0 < 131072)) ⌝ }
     ensures { λ r. ⌜ (r .0 ≡ modulo (pairZone 131072 60 (even .0) (odd .0)) z) × (r .0 < z) ⌝ }
@@ -385,6 +389,7 @@ fn pair_spot(format: Format, up: u64, nl: u32, even: LongitudeCount, odd: Longit
     }
 }
 
+// What counts in range give; 9 is tested before NL is asked, so NL is only asked of a latitude.
 fn pair_fitting(even: Counts, odd: Counts, later: Format) -> Found
     requires { ⌜ (even .latitude .0 < 131072) × (even .longitude .0 < 131072) ⌝ }
     requires { ⌜ (odd .latitude .0 < 131072) × (odd .longitude .0 < 131072) ⌝ }
@@ -442,6 +447,7 @@ fn near_spot(up: u64, z: u64, n: u64, longitude: u32, count: LongitudeCount) -> 
     }
 }
 
+// What counts in range give near a reference whose latitude is one turn up and in range.
 fn single_raised(up: u64, longitude: u32, counts: Counts, kind: Kind, format: Format) -> Found
     requires { ⌜ (3221225472 ≤ up) × (up ≤ 5368709120) ⌝ }
     requires { ⌜ (counts .latitude .0 < 131072) × (counts .longitude .0 < 131072) ⌝ }
