@@ -157,3 +157,7 @@ written-read n b e =
 
 pub read-written : (n : ℕ) (b : Body) → n < 2 ^ 56 → taken n ≡ read.Body b → written b ≡ write.Me n
 read-written n b h e = let g = read-good n b h e in rw (g .0) (ap write.Me (g .1))
+
+-- so no bit is dropped: MEs that say the same are the same
+pub every-bit : (m n : ℕ) (b : Body) → m < 2 ^ 56 → n < 2 ^ 56 → taken m ≡ read.Body b → taken n ≡ read.Body b → m ≡ n
+every-bit m n b hm hn em en = sym (read-good m b hm em .1) ∙ read-good n b hn en .1

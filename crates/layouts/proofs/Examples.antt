@@ -1,0 +1,44 @@
+-- Published MEs with their fields, and what is not taken: T and F, the two speeds, latitude and longitude are unlike, so none could be swapped. Each is computed.
+-- Assumes nothing.
+use mathlib.Core.Path.{_≡_, refl}
+use Rattle.refusals.specs.declared.Refusal.the-variants.{TypeCode}
+use Rattle.layouts.specs.Bodies.{taken}
+use Rattle.layouts.specs.declared.bodies.Body.the-variants as body
+use Rattle.layouts.specs.declared.bodies.Taken.the-variants as read
+
+-- of the message 8C4841753A8A35323FAEBDAC702D
+pub surface : taken 0x3A8A35323FAEBD
+    ≡ read.Body (body.Surface (record {
+      typecode = 7;
+      movement = 40;
+      status = 1;
+      heading = 35;
+      t = 0;
+      f = 1;
+      latitude = record { 0 = 39199 };
+      longitude = record { 0 = 110269 };
+    }))
+surface = refl
+
+-- of the message 8D485020994409940838175B284F
+pub ground : taken 0x99440994083817
+    ≡ read.Body (body.Ground (record {
+      typecode = 19;
+      subtype = 1;
+      bit9 = 0;
+      bit10 = 1;
+      nacv = 0;
+      west = 1;
+      eastward = 9;
+      south = 1;
+      northward = 160;
+      vertical = record { source = 0; down = 1; rate = 14; reserved = 0; below = 0; difference = 23 };
+    }))
+ground = refl
+
+-- TYPE 0, TYPE 23, and TYPE 19 with subtypes 0 and 5
+pub not-taken : (taken 0 ≡ read.Refused TypeCode)
+    × (taken 0xB8000000000000 ≡ read.Refused TypeCode)
+    × (taken 0x98000000000000 ≡ read.Refused TypeCode)
+    × (taken 0x9D000000000000 ≡ read.Refused TypeCode)
+not-taken = (refl, refl, refl, refl)
