@@ -13,7 +13,7 @@ use Rattle.readings.specs.declared.amounts.Rate.{Rate}
 use Rattle.readings.specs.declared.amounts.Rate.the-variants as rate
 use Rattle.positions.specs.declared.Counts.{Counts}
 use Rattle.positions.specs.declared.Spot.{Spot}
-use Rattle.positions.specs.declared.Kind.the-variants.{Airborne, Surface}
+use Rattle.positions.specs.declared.Turn.the-variants.{Airborne, Surface}
 use Rattle.positions.specs.declared.Format.{Format}
 use Rattle.positions.specs.declared.Format.the-variants.{Even, Odd}
 use Rattle.positions.specs.declared.Encoded.{Encoded}

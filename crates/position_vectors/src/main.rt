@@ -12,8 +12,8 @@ use positions::Counts;
 use positions::Encoded;
 use positions::Format;
 use positions::Found;
-use positions::Kind;
 use positions::Spot;
+use positions::Turn;
 use refusals::Refusal;
 ghost use Prim.Native.Nat.{_≤_, _<_};
 
@@ -113,19 +113,19 @@ fn answer(record: &[u8; 18]) {
     let question = record[0];
     let format = format_of(record[1]);
     match question {
-        0 => say_encoded(positions::encode(spot_at(record, 2), Kind::Airborne, format)),
-        1 => say_encoded(positions::encode(spot_at(record, 2), Kind::Surface, format)),
+        0 => say_encoded(positions::encode(spot_at(record, 2), Turn::Airborne, format)),
+        1 => say_encoded(positions::encode(spot_at(record, 2), Turn::Surface, format)),
         2 => say_found(positions::pair(counts_at(record, 2), counts_at(record, 10), format)),
         3 => say_found(positions::single(
             spot_at(record, 10),
             counts_at(record, 2),
-            Kind::Airborne,
+            Turn::Airborne,
             format,
         )),
         _ => say_found(positions::single(
             spot_at(record, 10),
             counts_at(record, 2),
-            Kind::Surface,
+            Turn::Surface,
             format,
         )),
     }

@@ -10,7 +10,7 @@ use borrow.Author.Tests.{ltb-true, ltb-false, eq-eqb, ne-eqb}
 use Rattle.refusals.specs.declared.Refusal.the-variants.{Latitude, Zones}
 use Rattle.positions.specs.declared.Spot.{Spot}
 use Rattle.positions.specs.declared.Counts.{Counts}
-use Rattle.positions.specs.declared.Kind.{Kind}
+use Rattle.positions.specs.declared.Turn.{Turn}
 use Rattle.positions.specs.declared.Format.{Format}
 use Rattle.positions.specs.declared.Format.the-variants.{Even, Odd}
 use Rattle.positions.specs.declared.Found.the-variants.{At, Refused}
@@ -56,7 +56,7 @@ module _ (up z n longitude zone c : ℕ) (some : 0 < n) (small : c < 131072) {y 
   near-spot ezone ey ex = same ey (ex ∙ rw (ezone, near-longitude 131072 n longitude c (omega arith) some small))
 
 -- the counts of a spot
-module _ (k : Kind) (f : Format) (up longitude lz z y NL lo n x : ℕ) where
+module _ (k : Turn) (f : Format) (up longitude lz z y NL lo n x : ℕ) where
   pub counts :
       lz ≡ latitudeZones f → z ≡ allRound k lz → whole 131072 z (subℕ up units) ≡ subℕ y (z * 131072) →
       NL ≡ zoneCount (z * 131072) (subℕ y (z * 131072)) → lo ≡ longitudeZones f NL → n ≡ allRound k lo → whole 131072 n (pos longitude) ≡ pos x →
@@ -113,7 +113,7 @@ module _ (even odd : Counts) (r s : ℕ) (er : Paired Even (even .latitude .0) (
       pair-found Odd e p ep = ap At ep ∙ rw (even-inside, odd-inside, even-count, odd-count, eq-eqb NL m e, es .is)
 
 -- what is found near a reference, with y the latitude one turn up
-module _ (N y : ℕ) (s : Spot) (c : Counts) (k : Kind) (f : Format) (e : near 131072 N (s .latitude) (c .latitude .0) ≡ subℕ y (N * 131072)) where
+module _ (N y : ℕ) (s : Spot) (c : Counts) (k : Turn) (f : Format) (e : near 131072 N (s .latitude) (c .latitude .0) ≡ subℕ y (N * 131072)) where
   pub near-far : (ltb (4 * y) (3 * (N * 131072)) || ltb (5 * (N * 131072)) (4 * y)) ≡ true → Refused Latitude ≡ nearFound 131072 N s c k f
   unfolding nearFound
   near-far t =

@@ -9,7 +9,7 @@ use lib.Dec.{T, eqb, eqb→eq, lit<}
 use lib.IntN.{ℤ, pos, negsuc, natAbs}
 use borrow.Author.Tests.{lt-ltb}
 use Rattle.positions.specs.declared.Spot.{Spot}
-use Rattle.positions.specs.declared.Kind.the-variants.{Airborne}
+use Rattle.positions.specs.declared.Turn.the-variants.{Airborne}
 use Rattle.positions.specs.declared.Format.{Format}
 use Rattle.positions.specs.declared.Format.the-variants.{Even, Odd}
 use Rattle.positions.specs.declared.Counts.{Counts}

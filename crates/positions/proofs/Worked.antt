@@ -4,7 +4,7 @@ use Prim.Native.Nat.{ℕ, suc, _*_, _/_}
 use lib.IntN.{ℤ, pos, negsuc, negℤ, _+ℤ_, _*ℤ_}
 use Rattle.refusals.specs.declared.Refusal.the-variants.{Field, Latitude, Zones}
 use Rattle.positions.specs.declared.Spot.{Spot}
-use Rattle.positions.specs.declared.Kind.the-variants.{Airborne, Surface}
+use Rattle.positions.specs.declared.Turn.the-variants.{Airborne, Surface}
 use Rattle.positions.specs.declared.Format.the-variants.{Even, Odd}
 use Rattle.positions.specs.declared.Counts.{Counts}
 use Rattle.positions.specs.declared.Encoded.the-variants.{As, Refused as NotEncoded}

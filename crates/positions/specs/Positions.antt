@@ -7,8 +7,8 @@ use lib.IntN.{ℤ, pos, natAbs, _+ℤ_, _-ℤ_, _*ℤ_}
 use lib.Dec.{leb, ltb, eqb}
 use Rattle.refusals.specs.declared.Refusal.the-variants.{Field, Latitude, Zones}
 use Rattle.positions.specs.declared.Spot.{Spot}
-use Rattle.positions.specs.declared.Kind.{Kind}
-use Rattle.positions.specs.declared.Kind.the-variants.{Airborne, Surface}
+use Rattle.positions.specs.declared.Turn.{Turn}
+use Rattle.positions.specs.declared.Turn.the-variants.{Airborne, Surface}
 use Rattle.positions.specs.declared.Format.{Format}
 use Rattle.positions.specs.declared.Format.the-variants.{Even, Odd}
 use Rattle.positions.specs.declared.Counts.{Counts}
@@ -42,13 +42,13 @@ abbrev pub longitudeZones : Format → ℕ → ℕ
 longitudeZones f NL = max (NL - bit f) 1
 
 -- an airborne turn is 360 degrees, a surface turn 90
-abbrev pub turn : Kind → ℕ
-turn Airborne = 360
-turn Surface = 90
+abbrev pub degrees : Turn → ℕ
+degrees Airborne = 360
+degrees Surface = 90
 
 -- N: so many zones make 360 degrees where Z make a turn
-unfoldable pub allRound : Kind → ℕ → ℕ
-allRound k Z = Z * 360 / turn k
+unfoldable pub allRound : Turn → ℕ → ℕ
+allRound k Z = Z * 360 / degrees k
 
 -- Encode: latitude x Z / turn x P, or longitude with n for Z, rounded to nearest, half up
 unfoldable pub whole : ℕ → ℕ → ℤ → ℤ
@@ -59,13 +59,13 @@ unfoldable pub count : ℕ → ℕ → ℤ → ℕ
 count P N x = modulo (whole P N x) P
 
 -- the zones of longitude of a spot's message, by the NL of its rounded latitude
-unfoldable pub spotZones : ℕ → Kind → Format → ℤ → ℕ
+unfoldable pub spotZones : ℕ → Turn → Format → ℤ → ℕ
 spotZones P k f latitude =
     let N = allRound k (latitudeZones f) in
     allRound k (longitudeZones f (zoneCount (N * P) (whole P N latitude)))
 
 -- both counts of a spot
-unfoldable pub countsOf : ℕ → Spot → Kind → Format → Counts
+unfoldable pub countsOf : ℕ → Spot → Turn → Format → Counts
 countsOf P s k f =
     record {
       latitude = record { 0 = count P (allRound k (latitudeZones f)) (s .latitude) };
@@ -77,7 +77,7 @@ abbrev pub fromPole : ℤ → Bool
 fromPole latitude = leb (natAbs latitude) 1073741824
 
 -- the counts of a spot, or 8
-abbrev pub encoded : ℕ → Spot → Kind → Format → Encoded
+abbrev pub encoded : ℕ → Spot → Turn → Format → Encoded
 encoded P s k f = cond (fromPole (s .latitude)) (As (countsOf P s k f)) (NotEncoded Field)
 
 -- Places handed out: the exact r / M of 360 degrees rounds to nearest, half up
@@ -162,7 +162,7 @@ nearSpot P N r n longitude c =
     }
 
 -- with N zones of latitude; NL is the decoded latitude's
-unfoldable pub nearFound : ℕ → ℕ → Spot → Counts → Kind → Format → Found
+unfoldable pub nearFound : ℕ → ℕ → Spot → Counts → Turn → Format → Found
 nearFound P N s c k f =
     let r = near P N (s .latitude) (c .latitude .0) in
     cond (inside (N * P) r)
@@ -170,6 +170,6 @@ nearFound P N s c k f =
     (Refused Latitude)
 
 -- the spot near a reference, or 8, 9 in that order
-abbrev pub singly : ℕ → Spot → Counts → Kind → Format → Found
+abbrev pub singly : ℕ → Spot → Counts → Turn → Format → Found
 singly P reference c k f =
     cond (fit P c && fromPole (reference .latitude)) (nearFound P (allRound k (latitudeZones f)) reference c k f) (Refused Field)

@@ -101,7 +101,7 @@ pub struct Spot {
 }
 
 // Of a message: an airborne turn is 360 degrees, a surface turn 90.
-pub enum Kind {
+pub enum Turn {
     Airborne,
     Surface,
 }
@@ -129,12 +129,12 @@ pub enum Found {
 }
 
 // The counts of a spot, by the zones at its rounded latitude.
-pub fn encode(spot: Spot, kind: Kind, format: Format) -> Encoded
-    ensures { λ r. ⌜ r ≡ encoded 131072 spot kind format ⌝ }
+pub fn encode(spot: Spot, turn: Turn, format: Format) -> Encoded
+    ensures { λ r. ⌜ r ≡ encoded 131072 spot turn format ⌝ }
 {
     let up = raise(spot.latitude);
     if from_pole(up) {
-        Encoded::As(encode_raised(up, spot.longitude, kind, format))
+        Encoded::As(encode_raised(up, spot.longitude, turn, format))
     } else {
         Encoded::Refused(Refusal::Field)
     }
@@ -152,12 +152,12 @@ pub fn pair(even: Counts, odd: Counts, later: Format) -> Found
 }
 
 // The spot of one message that lies nearest to a reference.
-pub fn single(reference: Spot, counts: Counts, kind: Kind, format: Format) -> Found
-    ensures { λ r. ⌜ r ≡ singly 131072 reference counts kind format ⌝ }
+pub fn single(reference: Spot, counts: Counts, turn: Turn, format: Format) -> Found
+    ensures { λ r. ⌜ r ≡ singly 131072 reference counts turn format ⌝ }
 {
     let up = raise(reference.latitude);
     if fits(counts) & from_pole(up) {
-        single_raised(up, reference.longitude, counts, kind, format)
+        single_raised(up, reference.longitude, counts, turn, format)
     } else {
         Found::Refused(Refusal::Field)
     }
@@ -251,13 +251,13 @@ fn longitude_zones(format: Format, nl: u32) -> u64
 }
 
 // The zones to 360 degrees.
-fn all_round(kind: Kind, zones: u64) -> u64
+fn all_round(turn: Turn, zones: u64) -> u64
     requires { ⌜ (0 < zones) × (zones ≤ 60) ⌝ }
-    ensures { λ r. ⌜ (r ≡ allRound kind zones) × ((zones ≤ r) × (r ≤ 240)) ⌝ }
+    ensures { λ r. ⌜ (r ≡ allRound turn zones) × ((zones ≤ r) × (r ≤ 240)) ⌝ }
 {
-    match kind {
-        Kind::Airborne => zones,
-        Kind::Surface => 4 * zones,
+    match turn {
+        Turn::Airborne => zones,
+        Turn::Surface => 4 * zones,
     }
 }
 
@@ -295,14 +295,14 @@ fn longitude_whole(longitude: u32, n: u64) -> u64
 }
 
 // The counts of a spot whose latitude is one turn up and in range.
-fn encode_raised(up: u64, longitude: u32, kind: Kind, format: Format) -> Counts
+fn encode_raised(up: u64, longitude: u32, turn: Turn, format: Format) -> Counts
     requires { ⌜ (3221225472 ≤ up) × (up ≤ 5368709120) ⌝ }
-    ensures { λ r. ⌜ r ≡ countsOf 131072 (record { latitude = subℕ up 4294967296; longitude = longitude }) kind format ⌝ }
+    ensures { λ r. ⌜ r ≡ countsOf 131072 (record { latitude = subℕ up 4294967296; longitude = longitude }) turn format ⌝ }
 {
     let table = LATITUDES;
-    let z = all_round(kind, latitude_zones(format));
+    let z = all_round(turn, latitude_zones(format));
     let y = latitude_whole(up, z);
-    let n = all_round(kind, longitude_zones(format, zone_count_at(&table, y, z)));
+    let n = all_round(turn, longitude_zones(format, zone_count_at(&table, y, z)));
     let x = longitude_whole(longitude, n);
     Counts {
         latitude: LatitudeCount((y % SIZE) as u32),
@@ -448,12 +448,12 @@ fn near_spot(up: u64, z: u64, n: u64, longitude: u32, count: LongitudeCount) -> 
 }
 
 // What counts in range give near a reference whose latitude is one turn up and in range.
-fn single_raised(up: u64, longitude: u32, counts: Counts, kind: Kind, format: Format) -> Found
+fn single_raised(up: u64, longitude: u32, counts: Counts, turn: Turn, format: Format) -> Found
     requires { ⌜ (3221225472 ≤ up) × (up ≤ 5368709120) ⌝ }
     requires { ⌜ (counts .latitude .0 < 131072) × (counts .longitude .0 < 131072) ⌝ }
-    ensures { λ r. ⌜ r ≡ nearFound 131072 (allRound kind (latitudeZones format)) (record { latitude = subℕ up 4294967296; longitude = longitude }) counts kind format ⌝ }
+    ensures { λ r. ⌜ r ≡ nearFound 131072 (allRound turn (latitudeZones format)) (record { latitude = subℕ up 4294967296; longitude = longitude }) counts turn format ⌝ }
 {
-    let z = all_round(kind, latitude_zones(format));
+    let z = all_round(turn, latitude_zones(format));
     let m = z * SIZE;
     let a = counts.latitude;
     let zone = near_latitude_zone(up, z, a);
@@ -462,6 +462,6 @@ fn single_raised(up: u64, longitude: u32, counts: Counts, kind: Kind, format: Fo
         return Found::Refused(Refusal::Latitude);
     }
     let table = LATITUDES;
-    let n = all_round(kind, longitude_zones(format, zone_count_at(&table, y, z)));
+    let n = all_round(turn, longitude_zones(format, zone_count_at(&table, y, z)));
     Found::At(near_spot(y, z, n, longitude, counts.longitude))
 }

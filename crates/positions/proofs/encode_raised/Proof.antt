@@ -44,7 +44,7 @@ returns c =
     let z = c .before .before .before .before .before .before .all-round in
     let lz = c .before .before .before .before .before .before .before .latitude-zones in
     let a = c .before .before .before .before .before .before .before .before .args in
-    counts (a .kind) (a .format) (a .up) (a .longitude)
+    counts (a .turn) (a .format) (a .up) (a .longitude)
     (lz .result) (z .result) (y .result) (nl .result) (lo .result) (n .result) (c .longitude-whole .result)
     (lz .ensures .0) (z .ensures .0) (y .ensures .0) (nl .ensures .0) (lo .ensures .0) (n .ensures .0) (c .longitude-whole .ensures)
 

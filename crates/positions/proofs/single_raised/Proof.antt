@@ -65,7 +65,7 @@ returns c =
     let lz = u .before .before .before .latitude-zones in
     let a = u .before .before .before .before .args in
     let y = u .near-latitude-zone .result .0 * 131072 + a .counts .latitude .0 in
-    rw (← (lz .ensures .0), ← (z .ensures .0)) (near-far (z .result) y (spot (subℕ (a .up) 4294967296) (a .longitude)) (a .counts) (a .kind) (a .format) (found u) (c .if1 .taken))
+    rw (← (lz .ensures .0), ← (z .ensures .0)) (near-far (z .result) y (spot (subℕ (a .up) 4294967296) (a .longitude)) (a .counts) (a .turn) (a .format) (found u) (c .if1 .taken))
 
 zone-count-at-requires : tie.Need-zone-count-at-requires
 unfolding latitudes
@@ -75,8 +75,8 @@ zone-count-at-requires c κs =
     let lz = u .before .before .before .latitude-zones in
     let a = u .before .before .before .before .args in
     let y = u .near-latitude-zone .result .0 * 131072 + a .counts .latitude .0 in
-    let south = near-south (z .result) y (spot (subℕ (a .up) 4294967296) (a .longitude)) (a .counts) (a .kind) (a .format) (found u) (c .before .if1 .left) in
-    let north = near-north (z .result) y (spot (subℕ (a .up) 4294967296) (a .longitude)) (a .counts) (a .kind) (a .format) (found u) (c .before .if1 .left) in
+    let south = near-south (z .result) y (spot (subℕ (a .up) 4294967296) (a .longitude)) (a .counts) (a .turn) (a .format) (found u) (c .before .if1 .left) in
+    let north = near-north (z .result) y (spot (subℕ (a .up) 4294967296) (a .longitude)) (a .counts) (a .turn) (a .format) (found u) (c .before .if1 .left) in
     (refl, ((omega arith, omega arith), record { south = south; north = north }))
 
 longitude-zones-requires : tie.Need-longitude-zones-requires
@@ -93,8 +93,8 @@ near-spot-requires c κs =
     let a = u .before .before .before .before .args in
     let y = u .near-latitude-zone .result .0 * 131072 + a .counts .latitude .0 in
     let t = c .before .before .before .before .if1 .left in
-    let south = near-south (z .result) y (spot (subℕ (a .up) 4294967296) (a .longitude)) (a .counts) (a .kind) (a .format) (found u) t in
-    let north = near-north (z .result) y (spot (subℕ (a .up) 4294967296) (a .longitude)) (a .counts) (a .kind) (a .format) (found u) t in
+    let south = near-south (z .result) y (spot (subℕ (a .up) 4294967296) (a .longitude)) (a .counts) (a .turn) (a .format) (found u) t in
+    let north = near-north (z .result) y (spot (subℕ (a .up) 4294967296) (a .longitude)) (a .counts) (a .turn) (a .format) (found u) t in
     (((omega arith, omega arith), record { south = south; north = north }), ((omega arith, omega arith), omega arith))
 
 returns-2 : tie.Need-returns-2
@@ -109,7 +109,7 @@ returns-2 c =
     let nl = c .before .before .before .zone-count-at in
     let t = c .before .before .before .before .before .if1 .left in
     rw (← (lz .ensures .0), ← (z .ensures .0))
-    (near-found (z .result) y (spot (subℕ (a .up) 4294967296) (a .longitude)) (a .counts) (a .kind) (a .format) (found u) t (nl .result) (lo .result) (n .result) (nl .ensures .0) (lo .ensures .0) (n .ensures .0) (c .near-spot .result) (c .near-spot .ensures))
+    (near-found (z .result) y (spot (subℕ (a .up) 4294967296) (a .longitude)) (a .counts) (a .turn) (a .format) (found u) t (nl .result) (lo .result) (n .result) (nl .ensures .0) (lo .ensures .0) (n .ensures .0) (c .near-spot .result) (c .near-spot .ensures))
 
 pub single-raised-spec : {M : Type 1} → statement M
 single-raised-spec =
