@@ -41,11 +41,6 @@ fn signed(x: u32) -> i32 {
     }
 }
 
-// One turn of 2^32 up, so that it is not below zero.
-fn raise(v: i32) -> u64 {
-    (v as i64 + 4294967296) as u64
-}
-
 fn spot_at(record: &[u8; 18], at: usize) -> Spot
     requires { ⌜ at ≤ 10 ⌝ }
 {
@@ -72,14 +67,11 @@ fn format_of(f: u8) -> Format {
     if f == 0 { Format::Even } else { Format::Odd }
 }
 
-fn say_signed(v: i32) {
-    let up = raise(v);
-    if up < 4294967296 {
+fn say_signed(z: i32) {
+    if signs::is_below(z) {
         io::write_all(STDOUT_FILENO, b"-");
-        io::print_decimal(STDOUT_FILENO, 4294967296 - up);
-    } else {
-        io::print_decimal(STDOUT_FILENO, up - 4294967296);
     }
+    io::print_decimal(STDOUT_FILENO, signs::size_of(z) as u64);
 }
 
 fn say_refusal(r: Refusal) {
