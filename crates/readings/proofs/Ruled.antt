@@ -1,13 +1,17 @@
 -- Answers at which a likely slip would show: each is computed from the definitions.
 -- Assumes nothing.
+use Prim.Native.Nat.{_*_, _^_}
 use mathlib.Core.Path.{_≡_, refl}
+use mathlib.Core.Bool.{true, false}
 use lib.IntN.{pos, negsuc}
 use Rattle.refusals.specs.declared.Refusal.the-variants.{Field}
+use Rattle.layouts.specs.Layouts.{identificationOf, surfaceOf, airborneOf, groundOf, airOf}
+use Rattle.readings.specs.Bodies.{identificationMeans, surfaceMeans, airborneMeans, groundMeans, airMeans}
 use Rattle.readings.specs.Altitude.{altitudeOf, byHundreds, turn, straight, fiveHundreds, hundreds, grayStep}
 use Rattle.readings.specs.Amounts.{speedOf, rateOf, differenceOf, amount, signed, times}
 use Rattle.readings.specs.Headings.{headingOf}
 use Rattle.readings.specs.Movement.{movementOf, lowerEdge}
-use Rattle.readings.specs.Text.{categorySetOf, characterOf, shown}
+use Rattle.readings.specs.Text.{categorySetOf, characterOf, shown, textOf}
 use Rattle.readings.specs.declared.altitude.Altitude.the-variants as altitude
 use Rattle.readings.specs.declared.amounts.Speed.the-variants as speed
 use Rattle.readings.specs.declared.amounts.Rate.the-variants as rate
@@ -16,6 +20,7 @@ use Rattle.readings.specs.declared.headings.Heading.the-variants as head
 use Rattle.readings.specs.declared.movement.Movement.the-variants as movement
 use Rattle.readings.specs.declared.text.CategorySet.the-variants as set
 use Rattle.readings.specs.declared.text.Character.the-variants as character
+use Rattle.readings.specs.declared.text.Text.the-variants as text
 
 -- an H of 5 or 6 is unknown, and is no altitude of 500 F + 100 H - 1,300
 pub unknown-hundreds : (altitudeOf 2688 ≡ altitude.Unknown) × (altitudeOf 2176 ≡ altitude.Unknown)
@@ -58,3 +63,47 @@ last-set = (refl, refl)
 pub no-letters : (characterOf 0 ≡ character.Shown 63) × (characterOf 27 ≡ character.Shown 63)
 unfolding characterOf shown
 no-letters = (refl, refl)
+
+-- ---- whole layouts, of published messages
+
+-- 8D4840D6202CC371C32CE0576098: set A, "KLM1023 ", the first character the highest byte
+pub published-identification : identificationMeans (identificationOf 0x202CC371C32CE0) ≡ record { set = set.A; text = text.Shown 0x4B4C4D3130323320 }
+unfolding categorySetOf textOf shown
+published-identification = refl
+
+-- 8C4841753AAB238733C8CD4020B1: 18 knots, 50/128 of a turn
+pub published-surface : surfaceMeans (surfaceOf 0x3AAB238733C8CD) ≡ record { movement = movement.LowerEdge 864; heading = heading.Turn 1677721600 }
+unfolding movementOf lowerEdge
+published-surface = refl
+
+-- 8D40621D58C382D690C8AC2863A7: 38,000 feet of pressure altitude; TYPE 18 has that too, and TYPE 20 a GNSS height
+pub published-airborne : (airborneMeans (airborneOf 0x58C382D690C8AC) ≡ record { altitude = altitude.Feet (pos 38000); gnss = false })
+    × (airborneMeans (airborneOf (18 * 2 ^ 51)) .gnss ≡ false)
+    × (airborneMeans (airborneOf (20 * 2 ^ 51)) .gnss ≡ true)
+unfolding altitudeOf
+published-airborne = (refl, refl, refl)
+
+-- 8D485020994409940838175B284F: west 8, south 159 knots, 832 feet per minute down, 550 feet above
+pub published-ground : groundMeans (groundOf 0x99440994083817) ≡ record {
+  east = speed.Knots (negsuc 7);
+  north = speed.Knots (negsuc 158);
+  rate = rate.FeetPerMinute (negsuc 831);
+  difference = difference.Feet (pos 550);
+}
+unfolding speedOf rateOf differenceOf amount signed times
+published-ground = refl
+
+-- 8DA05F219B06B6AF189400CBC33F: 694/1024 of a turn, 375 knots, which have no direction, 2,304 feet per minute down, difference unknown
+pub published-air : airMeans (airOf 0x9B06B6AF189400) ≡ record {
+  heading = heading.Turn 2910846976;
+  airspeed = speed.Knots (pos 375);
+  rate = rate.FeetPerMinute (negsuc 2303);
+  difference = difference.Unknown;
+}
+unfolding speedOf rateOf differenceOf amount signed times
+published-air = refl
+
+-- code 0 is no letter, and 49 bits are refused
+pub no-text : (textOf 0 ≡ text.Shown 0x3F3F3F3F3F3F3F3F) × (textOf (2 ^ 48) ≡ text.Refused Field)
+unfolding textOf shown
+no-text = (refl, refl)
