@@ -6,7 +6,7 @@ use mathlib.Core.List.{List, [], _∷_}
 use native.Mathlib.Omega.{arith}
 use Rattle.parity.specs.Division.{remainder, remainderFrom, reduce}
 use Rattle.messages.specs.Message.{decoded, opened}
-use Rattle.messages.specs.Table.{Said, number, values, said}
+use Rattle.messages.specs.Table.{number, values, said}
 
 -- 8D4840D6202CC371C32CE0576098
 abbrev identification : List ℕ

@@ -1,3 +1,4 @@
 pub mod BelowZero
+pub mod Published
 pub mod Spelled
 pub mod Unique
