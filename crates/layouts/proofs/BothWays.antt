@@ -2,15 +2,15 @@
 -- Assumes nothing.
 use Prim.Native.Nat.{ℕ, _^_, _<_, _≤_}
 use mathlib.Core.Path.{_≡_, refl, sym, ap, subst, _∙_}
-use mathlib.Core.Bool.{Bool, true, false, cond, _&&_, _||_}
-use Rattle.refusals.specs.declared.Refusal.{Refusal}
-use Rattle.refusals.specs.declared.Refusal.the-variants.{Field}
+use mathlib.Core.Bool.{Bool, true, false, cond, _&&_}
 use mathlib.Core.List.{List}
 use native.Mathlib.Nat.{mod-eq-of-lt}
 use native.Mathlib.Omega.{arith}
 use lib.Dec.{leb, eqb}
 use lib.ListN.{getD}
 use borrow.Author.Tests.{leb-true, lt-leb, eqb-true}
+use Rattle.refusals.specs.declared.Refusal.{Refusal}
+use Rattle.refusals.specs.declared.Refusal.the-variants.{Field}
 use Rattle.fields.specs.Packing.{total, pack, unpack, Fit, fits}
 use Rattle.fields.proofs.Bools.{and-left, and-right, both, by-test}
 use Rattle.fields.proofs.Fits.{fits-fit, unpack-fits}
@@ -32,9 +32,8 @@ use Rattle.layouts.specs.declared.bodies.Body.{Body}
 use Rattle.layouts.specs.declared.bodies.Body.the-variants as body
 use Rattle.layouts.specs.declared.bodies.Taken.{Taken}
 use Rattle.layouts.specs.declared.bodies.Taken.the-variants as read
-use Rattle.layouts.specs.declared.bodies.Written.{Written}
 use Rattle.layouts.specs.declared.bodies.Written.the-variants as write
-use Rattle.layouts.proofs.Layouts.{Layout, unpacked, back, identification, surface, airborne, ground, air}
+use Rattle.layouts.proofs.Layouts.{unpacked, back, identification, surface, airborne, ground, air}
 
 -- ---- a body that fits
 

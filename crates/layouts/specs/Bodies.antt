@@ -2,8 +2,8 @@
 use Prim.Native.Nat.{ℕ}
 use mathlib.Core.List.{List}
 use mathlib.Core.Bool.{Bool, cond, _&&_}
-use Rattle.fields.specs.Packing.{pack, fits}
 use Rattle.refusals.specs.declared.Refusal.the-variants.{TypeCode, Field}
+use Rattle.fields.specs.Packing.{pack, fits}
 use Rattle.layouts.specs.declared.bodies.Body.{Body}
 use Rattle.layouts.specs.declared.bodies.Body.the-variants as body
 use Rattle.layouts.specs.declared.bodies.Taken.{Taken}

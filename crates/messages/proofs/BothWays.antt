@@ -4,7 +4,7 @@
 use Prim.Native.Nat.{ℕ, _/_, _%_, _^_, _<_}
 use mathlib.Core.Path.{_≡_, refl, sym, ap, ap₂, subst, _∙_}
 use mathlib.Core.Bool.{Bool, true, false, not, cond, _&&_}
-use mathlib.Core.List.{List, [], _∷_, _++_}
+use mathlib.Core.List.{List, _++_}
 use native.Mathlib.Nat.{mod-eq-of-lt, mod-lt}
 use native.Mathlib.Omega.{arith}
 use lib.Dec.{eqb, lit<}
@@ -17,7 +17,7 @@ use Rattle.fields.specs.Bytes.{number, bytesOf, Bytes}
 use Rattle.fields.proofs.Bools.{and-left, and-right, both, by-test}
 use Rattle.fields.proofs.Fits.{fits-fit, unpack-fits}
 use Rattle.fields.proofs.Packing.{pack-lt, unpack-pack, pack-unpack}
-use Rattle.fields.proofs.Bytes.{bytes-take, bytes-drop, fit-bytes, number-bytes, bytes-number, number-whole}
+use Rattle.fields.proofs.Bytes.{bytes-take, bytes-drop, fit-bytes, number-bytes, bytes-number}
 use Rattle.parity.specs.Parity.{remainder}
 use Rattle.parity.proofs.Seal.{sealed, only-sealed}
 use Rattle.layouts.specs.Bodies.{taken, bodyMe, bodyFits}

@@ -13,10 +13,9 @@ use Rattle.refusals.specs.declared.Refusal.{Refusal}
 use Rattle.refusals.specs.declared.Refusal.the-variants.{Length, Field}
 use Rattle.fields.specs.Bytes.{Bytes}
 use Rattle.messages.specs.Message.{decoded, messageFits, messageBytes, encoded, encodedBytes}
-use Rattle.messages.specs.Table.{Said, number, values, wrote}
+use Rattle.messages.specs.Table.{number, values, wrote}
 use Rattle.messages.specs.declared.Message.{Message}
 use Rattle.messages.specs.declared.Decoded.the-variants as decode
-use Rattle.messages.specs.declared.Encoded.{Encoded}
 use Rattle.messages.specs.declared.Encoded.the-variants as encode
 use Rattle.messages.proofs.BothWays.{encoded-decoded, decoded-good, message-bytes}
 

@@ -4,11 +4,10 @@
 use Prim.Native.Nat.{ℕ, _+_, _*_, _/_, _%_, _^_}
 use mathlib.Core.Path.{_≡_, refl, sym, ap, ap₂, _∙_}
 use mathlib.Core.Bool.{Bool, true, false, cond, not, _||_}
-use mathlib.Core.List.{List, [], _∷_, _++_}
+use mathlib.Core.List.{List, _∷_, _++_}
 use mathlib.Core.Logic.{_↔_}
 use native.Mathlib.Omega.{arith}
 use lib.Dec.{eqb}
-use lib.ListN.{length}
 use borrow.Author.Tests.{eq-eqb}
 use Rattle.refusals.specs.Numbers.{numberOf}
 use Rattle.fields.specs.Packing.{field, total, unpack}
@@ -29,7 +28,7 @@ use Rattle.layouts.specs.Layouts.{
 }
 use Rattle.layouts.specs.Bodies.{taken, bodyFields}
 use Rattle.layouts.specs.declared.bodies.Taken.{Taken}
-use Rattle.messages.specs.Message.{bits, formatTaken, withBody, opened, decoded, headWidths, headFields}
+use Rattle.messages.specs.Message.{bits, withBody, opened, decoded, headWidths, headFields}
 use Rattle.messages.specs.Table.{Said, number, values, said, earns1, earns3, earns4, typeTaken, earns5, layoutWidths, table}
 use Rattle.messages.specs.declared.Message.{Message}
 use Rattle.messages.specs.declared.Decoded.{Decoded}

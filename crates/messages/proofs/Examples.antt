@@ -7,7 +7,7 @@ use native.Mathlib.Omega.{arith}
 use Rattle.division.specs.Division.{remainderFrom, reduce}
 use Rattle.parity.specs.Parity.{remainder}
 use Rattle.messages.specs.Message.{decoded, opened}
-use Rattle.messages.specs.Table.{Said, number, values, said}
+use Rattle.messages.specs.Table.{number, values, said}
 
 -- 8D4840D6202CC371C32CE0576098
 abbrev identification : List ℕ

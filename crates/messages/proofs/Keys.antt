@@ -1,13 +1,12 @@
 -- The key of a decoded message is its kind and AA by their bits, and keys are equal just where both are: 24 bits hold the address.
 -- Assumes nothing.
 use Prim.Native.Nat.{ℕ, _+_, _*_, _%_, _^_}
-use mathlib.Core.Path.{_≡_, refl, ap, subst, _∙_}
-use mathlib.Core.Bool.{cond, not}
+use mathlib.Core.Path.{_≡_, ap, subst}
+use mathlib.Core.Bool.{not}
 use mathlib.Core.List.{List}
 use native.Mathlib.Omega.{arith}
 use lib.Dec.{eqb}
 use lib.ListN.{length}
-use Rattle.fields.specs.Bytes.{number}
 use Rattle.fields.proofs.Bools.{by-test}
 use Rattle.parity.specs.Parity.{remainder}
 use Rattle.layouts.specs.Bodies.{taken}

@@ -1,6 +1,6 @@
 -- What an answer says in document 01's terms: a number of its table, or the values of all fields in the order of their bits.
 use Prim.Native.Nat.{ℕ}
-use mathlib.Core.List.{List, [], _∷_, _++_}
+use mathlib.Core.List.{List, _++_}
 use mathlib.Core.Bool.{Bool, cond, not, _||_}
 use lib.Dec.{eqb}
 use lib.ListN.{length}

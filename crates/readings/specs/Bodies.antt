@@ -1,5 +1,4 @@
 -- What the fields of a body mean, for each layout of ME.
-use Prim.Native.Nat.{ℕ}
 use lib.Dec.{leb}
 use Rattle.layouts.specs.declared.identification.Identification.{Identification}
 use Rattle.layouts.specs.declared.surface.Surface.{Surface}

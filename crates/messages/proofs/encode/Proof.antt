@@ -1,11 +1,10 @@
 -- `messages::encode` meets its contract: its tests are the definition's, and only the last way writes.
 -- Assumes nothing.
-use mathlib.Core.Path.{_≡_, sym, ap, _∙_}
-use mathlib.Core.Bool.{true, false}
+use mathlib.Core.Path.{sym, _∙_}
 use borrow.Author.Tests.{eq-eqb, ne-eqb}
 use Rattle.layouts.specs.Bodies.{bodyMe}
 use Rattle.layouts.proofs.BothWays.{if-written, if-refused}
-use Rattle.messages.specs.Message.{messageFits, sealedBy}
+use Rattle.messages.specs.Message.{messageFits}
 use borrow.Author.Needs.{needs}
 use Rattle.messages.proofs.encode.Statement.{statement}
 use Rattle.messages.proofs.encode.Tie as tie
