@@ -1,23 +1,34 @@
 -- What a test that is joined of two says of each, and what a choice by a test has: by the cases of the test.
 -- Assumes nothing.
 use mathlib.Core.Path.{_≡_, refl}
-use mathlib.Core.Bool.{Bool, true, false, cond, _&&_, _||_}
+use mathlib.Core.Logic.{_⊎_, inl, inr}
+use mathlib.Core.Bool.{Bool, true, false, cond, _&&_, _||_, true≢false, false≢true}
+
+pub each : (a b : Bool) → a && b ≡ true → (a ≡ true) × (b ≡ true)
+each true b e = (refl, e)
+each false b e = absurd (false≢true e)
 
 pub and-left : (a b : Bool) → a && b ≡ true → a ≡ true
-and-left true b e = refl
-and-left false b e = e
+and-left a b e = each a b e .0
 
 pub and-right : (a b : Bool) → a && b ≡ true → b ≡ true
-and-right true b e = e
-and-right false b e = cc
+and-right a b e = each a b e .1
 
-pub or-left : (a b : Bool) → a || b ≡ false → a ≡ false
-or-left true b e = e
-or-left false b e = refl
+pub not-each : (a b : Bool) → a && b ≡ false → (a ≡ false) ⊎ (b ≡ false)
+not-each true b e = inr e
+not-each false b e = inl refl
 
-pub or-right : (a b : Bool) → a || b ≡ false → b ≡ false
-or-right true b e = cc
-or-right false b e = e
+pub and-false : (a : Bool) → a && false ≡ false
+and-false true = refl
+and-false false = refl
+
+pub either : (a b : Bool) → a || b ≡ true → (a ≡ true) ⊎ (b ≡ true)
+either true b e = inl refl
+either false b e = inr e
+
+pub neither : (a b : Bool) → a || b ≡ false → (a ≡ false) × (b ≡ false)
+neither true b e = absurd (true≢false e)
+neither false b e = (refl, e)
 
 pub both : {a b : Bool} → a ≡ true → b ≡ true → a && b ≡ true
 both p q = rw (p, q)

@@ -18,7 +18,7 @@ use Rattle.positions.specs.Whole.{modulo}
 use Rattle.positions.specs.Zones.{zoneCount}
 use Rattle.positions.specs.Code.{Within, Paired}
 use Rattle.positions.specs.Positions.{units, own, latitudeZones, longitudeZones, allRound, whole, count, spotZones, countsOf, rounded, roundedTurn, inside, pairZone, inZone, pairLatitude, pairLongitude, pairCount, pairSpot, pairFound, fit, nearZone, near, nearSpot, nearFound}
-use Rattle.positions.proofs.Joined.{both, either, neither, and-false}
+use Rattle.fields.proofs.Bools.{each, either, neither, and-false}
 use Rattle.positions.proofs.Shift.{sub-modulo}
 use Rattle.positions.proofs.Naturals.{inside-yes, inside-north, inside-south, near-longitude}
 
@@ -66,7 +66,7 @@ module _ (k : Turn) (f : Format) (up longitude lz z y NL lo n x : ℕ) where
 
 pub fit-counts : (c : Counts) → fit 131072 c ≡ true → (c .latitude .0 < 131072) × (c .longitude .0 < 131072)
 fit-counts c e =
-    let t = both (ltb (c .latitude .0) 131072) (ltb (c .longitude .0) 131072) e in
+    let t = each (ltb (c .latitude .0) 131072) (ltb (c .longitude .0) 131072) e in
     (ltb-true (c .latitude .0) 131072 (t .0), ltb-true (c .longitude .0) 131072 (t .1))
 
 -- what a pair finds, with r and s the two latitudes one turn up

@@ -1,4 +1,3 @@
-pub mod Joined
 pub mod Shift
 pub mod Rounding
 pub mod Pairing

@@ -16,7 +16,7 @@ use Rattle.positions.specs.Whole.{modulo}
 use Rattle.positions.specs.Code.{nearestℕ}
 use Rattle.positions.specs.Zones.{latitudes, zoneCount}
 use Rattle.positions.specs.Positions.{inside, pairZone, inZone, less360, pairLatitude, pairCount}
-use Rattle.positions.proofs.Joined.{not-both}
+use Rattle.fields.proofs.Bools.{not-each}
 use Rattle.positions.proofs.Shift.{order, abs-is}
 use Rattle.positions.proofs.Naturals.{pair-zone-is, less-high, less-low}
 use Rattle.positions.proofs.Table.{passed, reached}
@@ -161,4 +161,4 @@ module _ (a b : ℕ) (ha : a < 131072) (hb : b < 131072) where
       (λ (f : inside 7733248 (less360 7733248 (t * 131072 + b)) ≡ false).
       let p = past 7733248 (t * 131072 + b) (omega arith) f in
       both-one (odd-past a b j u t ha hb (omega arith) (omega arith) u-is t-is (p .0) (p .1)) (inr p))
-      (not-both (inside 7864320 (less360 7864320 (u * 131072 + a))) (inside 7733248 (less360 7733248 (t * 131072 + b))) e)
+      (not-each (inside 7864320 (less360 7864320 (u * 131072 + a))) (inside 7733248 (less360 7733248 (t * 131072 + b))) e)

@@ -10,7 +10,7 @@ use lib.Signed.{mag}
 use borrow.Author.Tests.{le-leb, lt-leb, leb-true}
 use Rattle.positions.specs.Positions.{fromPole}
 use Rattle.positions.specs.Code.{raised}
-use Rattle.positions.proofs.Joined.{both}
+use Rattle.fields.proofs.Bools.{each}
 use Rattle.positions.proofs.Shift.{sub-pos, sub-neg, order}
 
 pub raise-is : (z : ℤ) → mag z < 2147483648 → z +ℤ pos 4294967296 ≡ pos (raised z)
@@ -46,7 +46,7 @@ from-pole-is (negsuc a) =
 
 pub poles : (w : ℕ) → (leb 3221225472 w && leb w 5368709120) ≡ true → (3221225472 ≤ w) × (w ≤ 5368709120)
 poles w e =
-    let t = both (leb 3221225472 w) (leb w 5368709120) e in
+    let t = each (leb 3221225472 w) (leb w 5368709120) e in
     (leb-true 3221225472 w (t .0), leb-true w 5368709120 (t .1))
 
 -- a latitude is itself one turn up, less the turn

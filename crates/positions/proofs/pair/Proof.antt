@@ -2,7 +2,7 @@
 use mathlib.Core.Path.{_≡_, _∙_}
 use mathlib.Core.Bool.{true, false, _&&_}
 use Rattle.positions.specs.Positions.{fit}
-use Rattle.positions.proofs.Joined.{both}
+use Rattle.fields.proofs.Bools.{each}
 use Rattle.positions.proofs.Answers.{fit-counts}
 use borrow.Author.Needs.{needs}
 use Rattle.positions.proofs.pair.Statement.{statement}
@@ -17,7 +17,7 @@ fits-requires-2 c κs = search needs
 pair-fitting-requires : tie.Need-pair-fitting-requires
 pair-fitting-requires c κs =
     let a = c .before .before .before .args in
-    let t = both (fit 131072 (a .even)) (fit 131072 (a .odd)) (rw (c .before .before .fits2 .ensures, c .before .fits3 .ensures) at (c .if1 .taken)) in
+    let t = each (fit 131072 (a .even)) (fit 131072 (a .odd)) (rw (c .before .before .fits2 .ensures, c .before .fits3 .ensures) at (c .if1 .taken)) in
     (fit-counts (a .even) (t .0), fit-counts (a .odd) (t .1))
 
 returns : tie.Need-returns

@@ -7,7 +7,7 @@ use mir.Facts.{toZ-ofZ}
 use mir.Syntax.{w32}
 use Rattle.positions.specs.Positions.{fit, fromPole}
 use Rattle.positions.specs.Code.{raised}
-use Rattle.positions.proofs.Joined.{both}
+use Rattle.fields.proofs.Bools.{each}
 use Rattle.positions.proofs.Signed.{poles, tested, back}
 use Rattle.positions.proofs.Answers.{fit-counts}
 use borrow.Author.Needs.{needs}
@@ -32,7 +32,7 @@ single-raised-requires : tie.Need-single-raised-requires
 single-raised-requires c κs =
     let u = c .before .before .before in
     let a = u .before .before .args in
-    let t = both (fit 131072 (a .counts)) (leb 3221225472 (u .raise .result) && leb (u .raise .result) 5368709120)
+    let t = each (fit 131072 (a .counts)) (leb 3221225472 (u .raise .result) && leb (u .raise .result) 5368709120)
     (rw (c .before .before .fits2 .ensures, c .before .from-pole .ensures) at (c .if1 .taken)) in
     (poles (u .raise .result) (t .1), fit-counts (a .counts) (t .0))
 
@@ -41,7 +41,7 @@ returns c =
     let u = c .before .before .before .before in
     let a = u .before .before .args in
     let w = u .raise .result in
-    let t = both (fit 131072 (a .counts)) (leb 3221225472 w && leb w 5368709120)
+    let t = each (fit 131072 (a .counts)) (leb 3221225472 w && leb w 5368709120)
     (rw (c .before .before .before .fits2 .ensures, c .before .before .from-pole .ensures) at (c .before .if1 .taken)) in
     rw (t .0, tested (a .reference .latitude) w (up-is u) true (t .1))
     (rw (back (a .reference .latitude) w (up-is u) (t .1)) at (c .single-raised .ensures))

@@ -8,7 +8,7 @@ use borrow.Author.Tests.{leb-false, eq-eqb, ne-eqb}
 use borrow.Author.Needs.{needs}
 use Rattle.readings.specs.declared.amounts.Difference.the-variants.{Feet}
 use Rattle.readings.specs.Amounts.{amount, differenceOf}
-use Rattle.fields.proofs.Bools.{or-right}
+use Rattle.fields.proofs.Bools.{neither}
 use Rattle.readings.proofs.BelowZero.{kept, signed-fits}
 use Rattle.readings.proofs.amounts.difference_of.Statement.{statement}
 use Rattle.readings.proofs.amounts.difference_of.Tie as tie
@@ -37,13 +37,13 @@ mul-n c = search needs
 with-sign-requires : tie.Need-with-sign-requires
 with-sign-requires c κs =
     let a = c .before .before .before .args in
-    omega (arith, leb-false 128 (a .code) (or-right (leb 2 (a .sign)) (leb 128 (a .code)) (c .before .before .if1 .left)))
+    omega (arith, leb-false 128 (a .code) (neither (leb 2 (a .sign)) (leb 128 (a .code)) (c .before .before .if1 .left) .1))
 
 returns-4 : tie.Need-returns-4
 unfolding differenceOf amount
 returns-4 c =
     let a = c .before .before .before .before .args in
-    let h = leb-false 128 (a .code) (or-right (leb 2 (a .sign)) (leb 128 (a .code)) (c .before .before .before .if1 .left)) in
+    let h = leb-false 128 (a .code) (neither (leb 2 (a .sign)) (leb 128 (a .code)) (c .before .before .before .if1 .left) .1) in
     rw (c .before .before .before .if1 .left, ne-eqb _ _ (c .before .before .if2 .left), ne-eqb _ _ (c .before .if3 .left))
     (ap Feet (kept (signed-fits (a .sign) (25 * (a .code - 1)) (omega arith)) (c .with-sign .ensures)))
 

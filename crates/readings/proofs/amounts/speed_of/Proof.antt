@@ -9,7 +9,7 @@ use borrow.Author.Tests.{leb-false, le-leb, lt-leb, eq-eqb, ne-eqb}
 use borrow.Author.Needs.{needs}
 use Rattle.readings.specs.declared.amounts.Speed.the-variants.{Knots}
 use Rattle.readings.specs.Amounts.{amount, signed, speedOf}
-use Rattle.fields.proofs.Bools.{or-right}
+use Rattle.fields.proofs.Bools.{neither}
 use Rattle.readings.proofs.BelowZero.{kept, signed-fits}
 use Rattle.readings.proofs.amounts.speed_of.Statement.{statement}
 use Rattle.readings.proofs.amounts.speed_of.Tie as tie
@@ -43,7 +43,7 @@ cast-n c = search needs
 most : (c : tie.After-times-of) → c .times-of .result * (c .before .before .before .before .before .args .code - 1) ≤ 4 * 1022
 most c =
     let a = c .before .before .before .before .before .args in
-    let h : a .code < 1024 = leb-false 1024 (a .code) (or-right (leb 2 (a .direction)) (leb 1024 (a .code)) (c .before .before .before .if2 .left)) in
+    let h : a .code < 1024 = leb-false 1024 (a .code) (neither (leb 2 (a .direction)) (leb 1024 (a .code)) (c .before .before .before .if2 .left) .1) in
     mul-le-mul {n₂ = 4} {m₂ = 1022} (omega arith) (omega arith)
 
 mul-n : tie.Need-mul-n
