@@ -1,4 +1,5 @@
 -- Each answer from what the code has computed: every part is put for the one that the definition names, and every test is decided.
+-- Assumes nothing.
 use mathlib.Core.Path.{_≡_, sym, ap, _∙_}
 use mathlib.Core.Bool.{true, false, _||_}
 use mathlib.Core.Logic.{⊎-elim}

@@ -1,5 +1,6 @@
 -- The rounded place is within half a count of the true one on each axis, longitude around the circle.
 -- A rounded quotient is within a half of it; lifted by whole turns, so that this is said of naturals.
+-- Assumes nothing.
 use mathlib.Core.Path.{_≡_, ap, _∙_, subst}
 use mathlib.Core.Logic.{⊎-elim}
 use Prim.Native.Nat.{ℕ, suc, _+_, _*_, _≤_, _<_}

@@ -1,5 +1,6 @@
 -- Each definition over whole numbers as the code computes it: over naturals, one whole turn up.
 -- The turn is a multiple of every divisor, so it comes out of a division whole and a remainder does not see it.
+-- Assumes nothing.
 use mathlib.Core.Path.{_≡_, refl, sym, ap, _∙_}
 use mathlib.Core.Bool.{true, false}
 use Prim.Native.Nat.{ℕ, _+_, _-_, _*_, _/_, _%_, _≤_, _<_}

@@ -1,5 +1,6 @@
 -- Single gives the one position that has the count and lies within half a zone of the reference, the upper end included.
 -- Its zone is a quotient rounded to nearest, and that is the only whole number within a half; lifted by whole turns, so that this is said of naturals.
+-- Assumes nothing.
 use mathlib.Core.Path.{_≡_, sym, ap, _∙_, subst}
 use Prim.Native.Nat.{ℕ, suc, _+_, _-_, _*_, _/_, _%_, _≤_, _<_}
 use native.Mathlib.Nat.{div-add-mod', mul-le-mul, mul-le-mul-left, mul-le-mul-right}

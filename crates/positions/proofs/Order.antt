@@ -1,6 +1,7 @@
 -- Whether 9 or 10 is tested first cannot be seen: where 9 is due, both latitudes have NL 1, so 10 is not.
 -- Before the wrap at 270 degrees the two latitudes of any pair are at most half of one of 60 * 59 zones apart, 0.051 degrees:
 -- so if one is past a pole, the other is past 87 degrees. All numbers are known but the two counts, so `omega` does the cases.
+-- Assumes nothing.
 use mathlib.Core.Path.{_≡_, sym, ap, _∙_}
 use mathlib.Core.Bool.{false, _&&_}
 use mathlib.Core.Logic.{_⊎_, inl, inr, ⊎-elim}

@@ -1,6 +1,7 @@
 -- One place encoded by suc k and by k zones, and the two counts paired: the zone numbers come out exactly, modulo the zones.
 -- Each rounded number times the other's zones differs by at most k, which is less than half a zone of P counts; so rounding the
 -- zone number finds the whole number. Over any k, any count size P above 2 * k, any place x / (T * P).
+-- Assumes nothing.
 use mathlib.Core.Path.{_≡_, sym, ap, _∙_}
 use Prim.Native.Nat.{ℕ, suc, _+_, _-_, _*_, _/_, _%_, _≤_, _<_}
 use native.Mathlib.Nat.{mul-le-mul-left, mul-lt-mul-of-pos-left, lt-of-mul-lt-mul-left, le-of-mul-le-mul-left, le-of-lt, zero-lt-suc, add-mul-div-right, mod-lt, div-add-mod', add-mul-mod-self-left, mul-le-mul-right, div-eq-of-lt-le}

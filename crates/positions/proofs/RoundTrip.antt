@@ -1,5 +1,6 @@
 -- Encoding one place both ways and pairing gives the rounded place of the later message exactly, or 10 just when the two rounded
 -- latitudes differ in NL, and never 9: both latitudes come back exactly (Trip.antt), so their tests and NLs are those of the rounded ones.
+-- Assumes nothing.
 use mathlib.Core.Path.{_≡_, refl, sym, ap, _∙_}
 use mathlib.Core.Bool.{Bool, true, false, cond}
 use Prim.Native.Nat.{ℕ, _*_, _≤_, _<_}

@@ -1,4 +1,5 @@
 -- A number rounded to nearest, half up, is within a half of it, and is the only whole number that is: the bounds of a quotient.
+-- Assumes nothing.
 use mathlib.Core.Path.{_≡_}
 use Prim.Native.Nat.{ℕ, _+_, _*_, _≤_, _<_}
 use native.Mathlib.Nat.{div-mul-le-self, lt-div-mul-add, div-eq-of-lt-le}

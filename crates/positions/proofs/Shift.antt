@@ -1,5 +1,6 @@
 -- A whole number as a difference of naturals, subℕ a b: what each operation on it does to a and b, by which of the two is larger.
 -- So every fact about a number below zero is proved as one about naturals.
+-- Assumes nothing.
 use mathlib.Core.Path.{_≡_, refl, sym, ap, _∙_}
 use mathlib.Core.Logic.{_⊎_, inl, inr, ⊎-elim}
 use Prim.Native.Nat.{ℕ, zero, suc, _+_, _-_, _*_, _/_, _%_, _≤_, _<_, zero-le, suc-le-suc}

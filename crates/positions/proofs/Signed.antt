@@ -1,4 +1,5 @@
 -- The two crossings between a latitude of either sign and a natural one whole turn up, by the sign.
+-- Assumes nothing.
 use mathlib.Core.Path.{_≡_, refl, sym, ap, _∙_}
 use mathlib.Core.Bool.{Bool, true, _&&_}
 use mathlib.Core.Logic.{⊎-elim}

@@ -1,5 +1,6 @@
 -- The 58 latitudes rise strictly, by one test that antt computes; so a search by halves finds the first entry not below.
 -- Where one entry is below a latitude, all before it are, and the search may go on behind it.
+-- Assumes nothing.
 use mathlib.Core.Path.{_≡_, refl, ap, _∙_}
 use mathlib.Core.Bool.{Bool, true, false, cond, _&&_}
 use mathlib.Core.List.{List, [], _∷_}

@@ -1,6 +1,7 @@
 -- One place encoded by both formats, and the two counts paired: the exact position of either message comes back.
 -- Pairing.antt finds the zone modulo the zones; here the zone and the count are put together again, on each axis.
 -- Over the zones and any count size P that is large enough, so that 2^17 and 2^12 are instances.
+-- Assumes nothing.
 use mathlib.Core.Path.{_≡_, sym, ap, _∙_}
 use mathlib.Core.Bool.{true}
 use mathlib.Core.Logic.{⊎-elim}

@@ -1,4 +1,5 @@
 -- Document 01's worked positions, and beside them the wrong answers that its slips would give: each computed, so each holds by `refl`.
+-- Assumes nothing.
 use mathlib.Core.Path.{_≡_, refl}
 use Prim.Native.Nat.{ℕ, suc, _*_, _/_}
 use lib.IntN.{ℤ, pos, negsuc, negℤ, _+ℤ_, _*ℤ_}

@@ -1,4 +1,5 @@
 -- `position_vectors::main` ends: it answers at most a million questions.
+-- Assumes nothing.
 use borrow.Author.Needs.{needs}
 use mathlib.Core.Path.{_≡_}
 use lib.ListN.{length}

@@ -1,4 +1,5 @@
 -- `position_vectors::signed` meets its contract: from 2^31 up the number less 2^32 fits an i32.
+-- Assumes nothing.
 use borrow.Author.Needs.{needs}
 use native.Mathlib.Omega.{arith}
 use lib.IntN.{pos, _-ℤ_}

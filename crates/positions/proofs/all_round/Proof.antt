@@ -1,4 +1,5 @@
 -- `positions::all_round` meets its contract, by the turn: 360 degrees are one airborne turn and four surface turns.
+-- Assumes nothing.
 use native.Mathlib.Omega.{arith}
 use Rattle.positions.specs.Positions.{allRound}
 use borrow.Author.Needs.{needs}

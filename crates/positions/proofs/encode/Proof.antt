@@ -1,4 +1,5 @@
 -- `positions::encode` meets its contract: the test of the latitude one turn up is the test of the latitude.
+-- Assumes nothing.
 use mathlib.Core.Path.{_≡_, sym, ap, _∙_}
 use mathlib.Core.Bool.{true, false}
 use native.Mathlib.Omega.{arith}

@@ -1,4 +1,5 @@
 -- `positions::encode_raised` meets its contract: each part is the one that the definition names.
+-- Assumes nothing.
 use mathlib.Core.Path.{refl}
 use native.Mathlib.Omega.{arith}
 use Rattle.positions.specs.Zones.{latitudes}

@@ -1,4 +1,5 @@
 -- `positions::latitude_in` meets its contract: from 270 degrees up the number itself is one turn above the latitude.
+-- Assumes nothing.
 use Prim.Native.Nat.{_+_, _*_}
 use native.Mathlib.Omega.{arith}
 use Rattle.positions.proofs.Naturals.{less-high, less-low}

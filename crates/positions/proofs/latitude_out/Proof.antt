@@ -1,4 +1,5 @@
 -- `positions::latitude_out` meets its contract: rounding one turn up is rounding, one turn up.
+-- Assumes nothing.
 use Prim.Native.Nat.{ℕ, _*_}
 use mathlib.Core.Path.{sym, ap, _∙_}
 use native.Mathlib.Omega.{arith}

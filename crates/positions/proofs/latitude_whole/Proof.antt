@@ -1,4 +1,5 @@
 -- `positions::latitude_whole` meets its contract: rounding one turn up is rounding, one turn up; a pole is a whole number of counts.
+-- Assumes nothing.
 use Prim.Native.Nat.{_*_, _≤_}
 use native.Mathlib.Omega.{arith}
 use native.Mathlib.Nat.{mul-le-mul}

@@ -1,4 +1,5 @@
 -- `positions::latitude_zones` meets its contract, by the format.
+-- Assumes nothing.
 use mathlib.Core.Path.{refl}
 use native.Mathlib.Omega.{arith}
 use borrow.Author.Needs.{needs}

@@ -1,4 +1,5 @@
 -- `positions::longitude_out` meets its contract, which is its formula.
+-- Assumes nothing.
 use Prim.Native.Nat.{ℕ, _+_, _*_, _%_}
 use mathlib.Core.Path.{sym, ap, _∙_}
 use Rattle.positions.proofs.Naturals.{rounded-turn}

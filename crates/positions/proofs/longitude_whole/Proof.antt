@@ -1,4 +1,5 @@
 -- `positions::longitude_whole` meets its contract, which is its formula.
+-- Assumes nothing.
 use Prim.Native.Nat.{_*_, _≤_}
 use mathlib.Core.Path.{sym, ap, _∙_}
 use native.Mathlib.Omega.{arith}

@@ -1,4 +1,5 @@
 -- `positions::longitude_zones` meets its contract, by the format; at NL 1 the odd message has one zone too.
+-- Assumes nothing.
 use native.Mathlib.Omega.{arith}
 use borrow.Author.Needs.{needs}
 use Rattle.positions.proofs.longitude_zones.Statement.{statement}

@@ -1,4 +1,5 @@
 -- `positions::lower` meets its contract: from pole to pole the latitude less the turn fits an i32.
+-- Assumes nothing.
 use borrow.Author.Needs.{needs}
 use native.Mathlib.Omega.{arith}
 use lib.IntN.{pos, _-ℤ_}

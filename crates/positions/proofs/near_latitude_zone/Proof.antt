@@ -1,4 +1,5 @@
 -- `positions::near_latitude_zone` meets its contract: one turn up the difference is never below zero, and rounds as it would a turn lower.
+-- Assumes nothing.
 use Prim.Native.Nat.{_-_, _*_, _≤_}
 use mathlib.Core.Path.{_≡_}
 use native.Mathlib.Omega.{arith}

@@ -1,4 +1,5 @@
 -- `positions::nearest` meets its contract, which is its formula.
+-- Assumes nothing.
 use mathlib.Core.Path.{refl}
 use borrow.Author.Needs.{needs}
 use Rattle.positions.specs.Code.{nearestℕ}

@@ -1,4 +1,5 @@
 -- `positions::pair` meets its contract: what it tests is what the definition tests.
+-- Assumes nothing.
 use mathlib.Core.Path.{_≡_, _∙_}
 use mathlib.Core.Bool.{true, false, _&&_}
 use Rattle.positions.specs.Positions.{fit}

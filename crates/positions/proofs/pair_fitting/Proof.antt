@@ -1,4 +1,5 @@
 -- `positions::pair_fitting` meets its contract: each return is an answer of the definition, by the tests that lead there.
+-- Assumes nothing.
 use mathlib.Core.Path.{refl}
 use native.Mathlib.Omega.{arith}
 use Rattle.positions.specs.declared.Format.the-variants.{Even, Odd}

@@ -1,4 +1,5 @@
 -- `positions::pair_latitude` meets its contract: each part is the one that the definition names.
+-- Assumes nothing.
 use native.Mathlib.Omega.{arith}
 use Rattle.positions.proofs.Answers.{own-small, pair-latitude}
 use borrow.Author.Needs.{needs}

@@ -1,4 +1,5 @@
 -- `positions::pair_spot` meets its contract: each part is the one that the definition names.
+-- Assumes nothing.
 use mathlib.Core.Path.{_∙_}
 use native.Mathlib.Omega.{arith}
 use mir.Facts.{toZ-ofZ}

@@ -1,4 +1,5 @@
 -- `positions::raise` meets its contract: a latitude of 32 bits plus a turn fits an i64 and is not below zero.
+-- Assumes nothing.
 use native.Mathlib.Omega.{arith}
 use lib.IntN.{pos, _+ℤ_}
 use mir.Val.{SFits}

@@ -1,4 +1,5 @@
 -- `positions::single` meets its contract: what it tests is what the definition tests.
+-- Assumes nothing.
 use mathlib.Core.Path.{_≡_, refl, ap, _∙_}
 use mathlib.Core.Bool.{Bool, true, false, _&&_}
 use native.Mathlib.Omega.{arith}

@@ -1,4 +1,5 @@
 -- `positions::single_raised` meets its contract: each return is an answer of the definition, by the tests that lead there.
+-- Assumes nothing.
 use Prim.Native.Nat.{_+_, _*_}
 use mathlib.Core.Path.{_≡_, refl}
 use native.Mathlib.Omega.{arith}

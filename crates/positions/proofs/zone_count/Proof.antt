@@ -1,5 +1,6 @@
 -- `positions::zone_count` meets its contract. The invariant: the entries before `low` are below the latitude, so the search from `low` on is
 -- the whole search, and that at `high`, if there is one, is not below it. The measure is what lies between.
+-- Assumes nothing.
 use Prim.Native.Nat.{_+_, _-_, _*_, _/_, _≤_, _<_}
 use mathlib.Core.Path.{_≡_, refl, sym, _∙_}
 use native.Mathlib.Nat.{mul-le-mul}

@@ -1,4 +1,5 @@
 -- `positions::zone_count_at` meets its contract: the absolute latitude, on either side of the equator.
+-- Assumes nothing.
 use Prim.Native.Nat.{ℕ, _*_}
 use mathlib.Core.Path.{sym, ap, _∙_}
 use Rattle.positions.specs.Zones.{latitudes, first, zoneCount}
