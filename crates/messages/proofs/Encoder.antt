@@ -19,6 +19,16 @@ use Rattle.messages.specs.declared.Decoded.the-variants as decode
 use Rattle.messages.specs.declared.Encoded.the-variants as encode
 use Rattle.messages.proofs.BothWays.{encoded-decoded, decoded-good, message-bytes}
 
+unchanged : (a b : Bool) (x y : List ℕ) (r : Refusal)
+    → cond (not a) (encode.Refused Length) (cond (not b) (encode.Refused Field) encode.Written) ≡ encode.Refused r → cond (a && b) x y ≡ y
+unchanged true true x y r e = let z : _≡_ {A = ℕ} 0 1 = cc in let f : ⊥ = omega arith in absurd f
+unchanged true false x y r e = refl
+unchanged false b x y r e = refl
+
+-- a refusal leaves the buffer as it was
+pub refused-unchanged : (m : Message) (out : List ℕ) (r : Refusal) → encoded m out ≡ encode.Refused r → encodedBytes m out ≡ out
+refused-unchanged m out r e = unchanged (eqb (length out) 14) (messageFits m) (messageBytes m) out r e
+
 by-tests : (a b : Bool) (x y : List ℕ)
     → wrote (cond (not a) (encode.Refused Length) (cond (not b) (encode.Refused Field) encode.Written)) (cond (a && b) x y)
     ≡ cond (not a) (number 1) (cond (not b) (number 8) (values x))
@@ -37,13 +47,3 @@ taken-exactly m = (
   λ e. (messageBytes m, message-bytes m, encoded-decoded m e),
   λ p. decoded-good (p .0) m (p .1) (p .2) .0,
 )
-
-unchanged : (a b : Bool) (x y : List ℕ) (r : Refusal)
-    → cond (not a) (encode.Refused Length) (cond (not b) (encode.Refused Field) encode.Written) ≡ encode.Refused r → cond (a && b) x y ≡ y
-unchanged true true x y r e = let z : _≡_ {A = ℕ} 0 1 = cc in let f : ⊥ = omega arith in absurd f
-unchanged true false x y r e = refl
-unchanged false b x y r e = refl
-
--- a refusal leaves the buffer as it was
-pub refused-unchanged : (m : Message) (out : List ℕ) (r : Refusal) → encoded m out ≡ encode.Refused r → encodedBytes m out ≡ out
-refused-unchanged m out r e = unchanged (eqb (length out) 14) (messageFits m) (messageBytes m) out r e
