@@ -13,7 +13,6 @@ use Rattle.layouts.specs.Bodies.{bodyMe, bodyFits}
 use Rattle.messages.specs.declared.Decoded.{Decoded}
 use Rattle.messages.specs.declared.Decoded.the-variants as decode
 use Rattle.track.specs.declared.Saved.{Saved}
-use Rattle.track.specs.declared.Position.{Position}
 use Rattle.track.specs.declared.Site.{Site}
 use Rattle.track.specs.declared.Groups.{Groups}
 use Rattle.track.specs.declared.Track.{Track}
@@ -32,15 +31,18 @@ newTrack = record { heard = 0; groups = noGroups; position = noPosition; saved =
 unfoldable pub groupTrack : Track → Groups → ℕ → Track
 groupTrack t g time = record { heard = time; groups = g; position = t .position; saved = t .saved }
 
+-- the encoded position of an airborne message
+abbrev pub countsIn : Airborne → Counts
+countsIn b = record { latitude = b .latitude; longitude = b .longitude }
+
 -- an airborne message is saved by its F, then paired with the other one
 unfoldable pub airborneTrack : Track → Airborne → ℕ → Track
 airborneTrack t b time =
-    let counts : Counts = record { latitude = b .latitude; longitude = b .longitude } in
     record {
       heard = time;
       groups = high (t .groups) (b .typecode) (b .altitude);
-      position = airbornePosition (t .position) (getD (t .saved) (1 - b .f) noSaved) counts (formatOf (b .f)) time;
-      saved = set (t .saved) (b .f) (record { known = true; counts = counts; time = time });
+      position = airbornePosition (t .position) (getD (t .saved) (1 - b .f) noSaved) (countsIn b) (formatOf (b .f)) time;
+      saved = set (t .saved) (b .f) (record { known = true; counts = countsIn b; time = time });
     }
 
 -- a surface message clears the two saved ones

@@ -5,10 +5,10 @@ use crate::Site;
 use positions::Counts;
 use positions::Format;
 use positions::Found;
-use positions::Turn;
 use positions::Spot;
+use positions::Turn;
 ghost use mathlib.Core.Path.{_≡_};
-ghost use Rattle.track.specs.Located.{noPosition, formatOf, isWithin, isFresh, settled, readSingly, afterPair, pairedWith, airbornePosition, surfacePosition};
+ghost use Rattle.track.specs.Located.{noPosition, formatOf, isWithin, isFresh, foundAt, settled, readNear, readSingly, afterPair, pairedWith, airbornePosition, surfacePosition};
 
 pub(crate) fn no_position() -> Position
     ensures { λ r. ⌜ r ≡ noPosition ⌝ }
@@ -45,25 +45,46 @@ fn is_fresh(p: Position, clock: u64) -> bool
     p.known & is_within(120000, clock, p.time)
 }
 
+// A position found takes the message's time.
+fn found_at(spot: Spot, time: u64) -> Position
+    ensures { λ r. ⌜ r ≡ foundAt spot time ⌝ }
+{
+    Position {
+        known: true,
+        spot: spot,
+        time: time,
+    }
+}
+
 fn settle(found: Found, p: Position, time: u64) -> Position
     ensures { λ r. ⌜ r ≡ settled found p time ⌝ }
 {
     match found {
-        Found::At(spot) => Position {
-            known: true,
-            spot: spot,
-            time: time,
-        },
+        Found::At(spot) => found_at(spot, time),
         Found::Refused(_) => p,
     }
 }
 
-fn read_singly(p: Position, counts: Counts, turn: Turn, format: Format, time: u64) -> Position
-    ensures { λ r. ⌜ r ≡ readSingly p counts turn format time ⌝ }
+fn read_near(
+    reference: Spot,
+    p: Position,
+    counts: Counts,
+    turn: Turn,
+    format: Format,
+    time: u64,
+) -> Position
+    ensures { λ r. ⌜ r ≡ readNear reference p counts turn format time ⌝ }
+{
+    settle(positions::single(reference, counts, turn, format), p, time)
+}
+
+// An airborne message without its partner.
+fn read_singly(p: Position, counts: Counts, format: Format, time: u64) -> Position
+    ensures { λ r. ⌜ r ≡ readSingly p counts format time ⌝ }
 {
     if is_fresh(p, time) {
         let spot = p.spot;
-        settle(positions::single(spot, counts, turn, format), p, time)
+        read_near(spot, p, counts, Turn::Airborne, format, time)
     } else {
         p
     }
@@ -82,12 +103,8 @@ fn after_pair(found: Found, p: Position, counts: Counts, format: Format, time: u
     ensures { λ r. ⌜ r ≡ afterPair found p counts format time ⌝ }
 {
     match found {
-        Found::At(spot) => Position {
-            known: true,
-            spot: spot,
-            time: time,
-        },
-        Found::Refused(_) => read_singly(p, counts, Turn::Airborne, format, time),
+        Found::At(spot) => found_at(spot, time),
+        Found::Refused(_) => read_singly(p, counts, format, time),
     }
 }
 
@@ -104,7 +121,7 @@ pub(crate) fn airborne_position(
         let other = partner.counts;
         after_pair(paired_with(other, counts, format), p, counts, format, time)
     } else {
-        read_singly(p, counts, Turn::Airborne, format, time)
+        read_singly(p, counts, format, time)
     }
 }
 
@@ -118,15 +135,12 @@ pub(crate) fn surface_position(
     ensures { λ r. ⌜ r ≡ surfacePosition p site counts format time ⌝ }
 {
     if is_fresh(p, time) {
-        return read_singly(p, counts, Turn::Surface, format, time);
+        let spot = p.spot;
+        return read_near(spot, p, counts, Turn::Surface, format, time);
     }
     if site.known {
         let spot = site.spot;
-        return settle(
-            positions::single(spot, counts, Turn::Surface, format),
-            p,
-            time,
-        );
+        return read_near(spot, p, counts, Turn::Surface, format, time);
     }
     p
 }
