@@ -121,6 +121,7 @@ fn surface_track(t: Track, b: Surface, me: u64, site: Site, time: u64) -> Track
     ensures { λ r. ⌜ r ≡ surfaceTrack t b me site time ⌝ }
 {
     let none = no_saved();
+    let saved = [none, none];
     let latitude = b.latitude;
     let longitude = b.longitude;
     let counts = Counts {
@@ -133,7 +134,7 @@ fn surface_track(t: Track, b: Surface, me: u64, site: Site, time: u64) -> Track
         heard: time,
         groups: replaced::with_surface(g, me),
         position: located::surface_position(p, site, counts, located::format_of(b.f), time),
-        saved: [none, none],
+        saved: saved,
     }
 }
 
