@@ -1,0 +1,245 @@
+-- Document 01's rules of a track, one by one. Each is read off the definitions, once a test in its way is known.
+-- Assumes nothing.
+use Prim.Native.Nat.{ℕ, _-_, _≤_, _<_}
+use mathlib.Core.Path.{_≡_, refl, ap, _∙_}
+use mathlib.Core.Bool.{Bool, true, false, _&&_}
+use mathlib.Core.List.{List, [], _∷_}
+use lib.Dec.{leb}
+use lib.ListN.{length, getD, length-set}
+use lib.Seq.{getD-set-same, getD-set-other}
+use borrow.Author.Tests.{le-leb, lt-leb}
+use Rattle.refusals.specs.declared.Refusal.{Refusal}
+use Rattle.refusals.specs.declared.Refusal.the-variants.{Field}
+use Rattle.fields.specs.Bytes.{Bytes}
+use Rattle.fields.specs.Packing.{fits}
+use Rattle.fields.proofs.Bools.{and-right, both}
+use Rattle.positions.specs.declared.Counts.{Counts}
+use Rattle.positions.specs.declared.Spot.{Spot}
+use Rattle.positions.specs.declared.Turn.{Turn}
+use Rattle.positions.specs.declared.Turn.the-variants as turn
+use Rattle.positions.specs.declared.Format.{Format}
+use Rattle.positions.specs.declared.Found.{Found}
+use Rattle.positions.specs.declared.Found.the-variants as find
+use Rattle.positions.specs.Positions.{singly}
+use Rattle.layouts.specs.declared.identification.Identification.{Identification}
+use Rattle.layouts.specs.declared.surface.Surface.{Surface}
+use Rattle.layouts.specs.declared.airborne.Airborne.{Airborne}
+use Rattle.layouts.specs.declared.velocity.Ground.{Ground}
+use Rattle.layouts.specs.declared.velocity.Air.{Air}
+use Rattle.layouts.specs.declared.bodies.Body.{Body}
+use Rattle.layouts.specs.declared.bodies.Body.the-variants as body
+use Rattle.layouts.specs.Bodies.{bodyMe, bodyFits}
+use Rattle.messages.specs.Message.{headWidths, headFields, formatTaken, decoded}
+use Rattle.messages.specs.declared.Message.{Message}
+use Rattle.messages.specs.declared.Decoded.{Decoded}
+use Rattle.messages.specs.declared.Decoded.the-variants as decode
+use Rattle.messages.proofs.BothWays.{decoded-good}
+use Rattle.track.specs.declared.Saved.{Saved}
+use Rattle.track.specs.declared.Position.{Position}
+use Rattle.track.specs.declared.Site.{Site}
+use Rattle.track.specs.declared.Track.{Track}
+use Rattle.track.specs.declared.Stepped.{Stepped}
+use Rattle.track.specs.Groups.{identified, moving, onSurface, atPressure, atHeight}
+use Rattle.track.specs.Located.{
+  formatOf,
+  isFresh,
+  settled,
+  readNear,
+  readSingly,
+  pairedWith,
+  afterPair,
+  airbornePosition,
+  surfacePosition,
+}
+use Rattle.track.specs.Track.{countsIn, noSaved, groupTrack, airborneTrack, surfaceTrack, stepBody, stepped}
+
+-- ---- refused or accepted
+
+pub refusal-passed-on : (t : Track) (r : Refusal) (site : Site) (time : ℕ)
+    → stepped t (decode.Refused r) site time ≡ record { answer = decode.Refused r; track = t }
+refusal-passed-on t r site time = refl
+
+pub misfit-refused : (t : Track) (m : Message) (site : Site) (time : ℕ) → bodyFits (m .body) ≡ false
+    → stepped t (decode.Message m) site time ≡ record { answer = decode.Refused Field; track = t }
+misfit-refused t m site time e = rw e
+
+pub accepted : (t : Track) (m : Message) (site : Site) (time : ℕ) → bodyFits (m .body) ≡ true
+    → stepped t (decode.Message m) site time ≡ record { answer = decode.Message m; track = stepBody t (m .body) (bodyMe (m .body)) site time }
+accepted t m site time e = rw e
+
+body-decoded : (s : List ℕ) (m : Message) → Bytes s → decoded s ≡ decode.Message m → bodyFits (m .body) ≡ true
+body-decoded s m h e =
+    and-right (fits headWidths (headFields m) && formatTaken (m .format) (m .control)) (bodyFits (m .body)) (decoded-good s m h e .0)
+
+passed-on : (t : Track) (s : List ℕ) (d : Decoded) (site : Site) (time : ℕ) → Bytes s → decoded s ≡ d → stepped t d site time .answer ≡ d
+passed-on t s (decode.Refused r) site time h e = refl
+passed-on t s (decode.Message m) site time h e = ap (λ (x : Stepped). x .answer) (accepted t m site time (body-decoded s m h e))
+
+-- what the decoder takes from bytes always fits, so a step refuses nothing that the decoder did not
+pub answer-passed-on : (t : Track) (s : List ℕ) (site : Site) (time : ℕ) → Bytes s → stepped t (decoded s) site time .answer ≡ decoded s
+answer-passed-on t s site time h = passed-on t s (decoded s) site time h refl
+
+pub heard-at-its-time : (t : Track) (b : Body) (me : ℕ) (site : Site) (time : ℕ) → stepBody t b me site time .heard ≡ time
+unfolding groupTrack airborneTrack surfaceTrack
+heard-at-its-time t (body.Identification b) me site time = refl
+heard-at-its-time t (body.Surface b) me site time = refl
+heard-at-its-time t (body.Airborne b) me site time = refl
+heard-at-its-time t (body.Ground b) me site time = refl
+heard-at-its-time t (body.Air b) me site time = refl
+
+-- ---- a message replaces its own group whole, and one with no position leaves where the aircraft is
+
+-- the position and the two saved ones
+abbrev pub Unmoved : Track → Track → Type 0
+Unmoved t n = (n .position ≡ t .position) × (n .saved ≡ t .saved)
+
+module _ (t : Track) (me : ℕ) (site : Site) (time : ℕ) where
+  pub identification-replaces : (b : Identification) → stepBody t (body.Identification b) me site time .groups ≡ identified (t .groups) me
+  unfolding groupTrack
+  identification-replaces b = refl
+
+  pub ground-replaces : (b : Ground) → stepBody t (body.Ground b) me site time .groups ≡ moving (t .groups) me
+  unfolding groupTrack
+  ground-replaces b = refl
+
+  pub air-replaces : (b : Air) → stepBody t (body.Air b) me site time .groups ≡ moving (t .groups) me
+  unfolding groupTrack
+  air-replaces b = refl
+
+  pub surface-replaces : (b : Surface) → stepBody t (body.Surface b) me site time .groups ≡ onSurface (t .groups) me
+  unfolding surfaceTrack
+  surface-replaces b = refl
+
+  -- TYPE 9-18
+  pub pressure-replaces : (b : Airborne) → b .typecode ≤ 18 → stepBody t (body.Airborne b) me site time .groups ≡ atPressure (t .groups) (b .altitude)
+  unfolding airborneTrack
+  pressure-replaces b h = simp (le-leb (b .typecode) 18 h)
+
+  -- TYPE 20-22
+  pub height-replaces : (b : Airborne) → 18 < b .typecode → stepBody t (body.Airborne b) me site time .groups ≡ atHeight (t .groups) (b .altitude)
+  unfolding airborneTrack
+  height-replaces b h = simp (lt-leb (b .typecode) 18 h)
+
+  pub identification-stays : (b : Identification) → Unmoved t (stepBody t (body.Identification b) me site time)
+  unfolding groupTrack
+  identification-stays b = (refl, refl)
+
+  pub ground-stays : (b : Ground) → Unmoved t (stepBody t (body.Ground b) me site time)
+  unfolding groupTrack
+  ground-stays b = (refl, refl)
+
+  pub air-stays : (b : Air) → Unmoved t (stepBody t (body.Air b) me site time)
+  unfolding groupTrack
+  air-stays b = (refl, refl)
+
+  -- ---- the two saved ones
+
+  pub surface-clears : (b : Surface) → stepBody t (body.Surface b) me site time .saved ≡ noSaved ∷ noSaved ∷ []
+  unfolding surfaceTrack
+  surface-clears b = refl
+
+  pub airborne-saved : (b : Airborne) → b .f < length (t .saved)
+      → getD (stepBody t (body.Airborne b) me site time .saved) (b .f) noSaved ≡ record { known = true; counts = countsIn b; time = time }
+  unfolding airborneTrack
+  airborne-saved b h = getD-set-same (t .saved) (b .f) _ noSaved h
+
+  pub airborne-leaves : (b : Airborne) (i : ℕ) → (i ≡ b .f → ⊥)
+      → getD (stepBody t (body.Airborne b) me site time .saved) i noSaved ≡ getD (t .saved) i noSaved
+  unfolding airborneTrack
+  airborne-leaves b i h = getD-set-other (t .saved) (b .f) i _ noSaved h
+
+  -- the partner is the one of the other F, as it was saved before
+  pub airborne-located : (b : Airborne)
+      → stepBody t (body.Airborne b) me site time .position
+      ≡ airbornePosition (t .position) (getD (t .saved) (1 - b .f) noSaved) (countsIn b) (formatOf (b .f)) time
+  unfolding airborneTrack
+  airborne-located b = refl
+
+  pub surface-located : (b : Surface)
+      → stepBody t (body.Surface b) me site time .position
+      ≡ surfacePosition (t .position) site (record { latitude = b .latitude; longitude = b .longitude }) (formatOf (b .f)) time
+  unfolding surfaceTrack
+  surface-located b = refl
+
+  pub two-saved : (b : Body) → length (t .saved) ≡ 2 → length (stepBody t b me site time .saved) ≡ 2
+  unfolding groupTrack airborneTrack surfaceTrack
+  two-saved (body.Identification b) h = h
+  two-saved (body.Surface b) h = refl
+  two-saved (body.Airborne b) h = length-set (t .saved) (b .f) _ ∙ h
+  two-saved (body.Ground b) h = h
+  two-saved (body.Air b) h = h
+
+-- ---- the ages: 10,000 of a partner, 120,000 of a position; a time after the clock has age 0
+
+within : (known : Bool) (age most : ℕ) → known ≡ true → age ≤ most → known && leb age most ≡ true
+within known age most k h = both k (le-leb age most h)
+
+beyond : (known : Bool) (age most : ℕ) → most < age → known && leb age most ≡ false
+beyond true age most h = lt-leb age most h
+beyond false age most h = refl
+
+module _ (p : Position) (counts : Counts) (format : Format) (time : ℕ) where
+  pub paired-within : (partner : Saved) → partner .known ≡ true → time - partner .time ≤ 10000
+      → airbornePosition p partner counts format time ≡ afterPair (pairedWith (partner .counts) counts format) p counts format time
+  unfolding airbornePosition
+  paired-within partner k h = rw (within (partner .known) (time - partner .time) 10000 k h)
+
+  pub unpaired-beyond : (partner : Saved) → 10000 < time - partner .time
+      → airbornePosition p partner counts format time ≡ readSingly p counts format time
+  unfolding airbornePosition
+  unpaired-beyond partner h = rw (beyond (partner .known) (time - partner .time) 10000 h)
+
+  pub unpaired-alone : (partner : Saved) → partner .known ≡ false
+      → airbornePosition p partner counts format time ≡ readSingly p counts format time
+  unfolding airbornePosition
+  unpaired-alone partner k = rw k
+
+  pub read-within : p .known ≡ true → time - p .time ≤ 120000
+      → readSingly p counts format time ≡ readNear (p .spot) p counts turn.Airborne format time
+  unfolding readSingly
+  read-within k h = rw (within (p .known) (time - p .time) 120000 k h)
+
+  pub stays-beyond : 120000 < time - p .time → readSingly p counts format time ≡ p
+  unfolding readSingly
+  stays-beyond h = rw (beyond (p .known) (time - p .time) 120000 h)
+
+  pub stays-unknown : p .known ≡ false → readSingly p counts format time ≡ p
+  unfolding readSingly
+  stays-unknown k = rw k
+
+  pub surface-within : (site : Site) → p .known ≡ true → time - p .time ≤ 120000
+      → surfacePosition p site counts format time ≡ readNear (p .spot) p counts turn.Surface format time
+  unfolding surfacePosition
+  surface-within site k h = rw (within (p .known) (time - p .time) 120000 k h)
+
+  pub surface-by-site : (site : Site) → isFresh p time ≡ false → site .known ≡ true
+      → surfacePosition p site counts format time ≡ readNear (site .spot) p counts turn.Surface format time
+  unfolding surfacePosition
+  surface-by-site site e k = rw (e, k)
+
+  pub surface-by-none : (site : Site) → isFresh p time ≡ false → site .known ≡ false → surfacePosition p site counts format time ≡ p
+  unfolding surfacePosition
+  surface-by-none site e k = rw (e, k)
+
+  -- so a position of 120,001 is none: the site is used
+  pub stale-beyond : 120000 < time - p .time → isFresh p time ≡ false
+  stale-beyond h = beyond (p .known) (time - p .time) 120000 h
+
+  -- ---- a position found takes the message's time; on a refusal a pair is read singly, and what is read singly stays
+
+  pub pair-found : (found : Found) (spot : Spot) → found ≡ find.At spot
+      → afterPair found p counts format time ≡ record { known = true; spot = spot; time = time }
+  pair-found found spot e = rw e
+
+  pub pair-refused : (found : Found) (r : Refusal) → found ≡ find.Refused r → afterPair found p counts format time ≡ readSingly p counts format time
+  pair-refused found r e = rw e
+
+  pub near-found : (reference : Spot) (turn : Turn) (spot : Spot) → singly 131072 reference counts turn format ≡ find.At spot
+      → readNear reference p counts turn format time ≡ record { known = true; spot = spot; time = time }
+  unfolding readNear
+  near-found reference turn spot e = ap (λ (x : Found). settled x p time) e
+
+  pub near-refused : (reference : Spot) (turn : Turn) (r : Refusal) → singly 131072 reference counts turn format ≡ find.Refused r
+      → readNear reference p counts turn format time ≡ p
+  unfolding readNear
+  near-refused reference turn r e = ap (λ (x : Found). settled x p time) e

@@ -1,0 +1,14 @@
+-- Each public function has one answer: two that satisfy its contract both equal its definition.
+-- Assumes nothing.
+use mathlib.Core.Path.{sym, _∙_}
+use Rattle.refusals.specs.Answers.{OneAnswer}
+use Rattle.track.proofs.new_track.Kinds as new-track-kinds
+use Rattle.track.proofs.new_track.Reads as new-track
+use Rattle.track.proofs.step.Kinds as step-kinds
+use Rattle.track.proofs.step.Reads as step
+
+pub new-track-once : OneAnswer 0 new-track-kinds.ps new-track-kinds.r new-track.Post
+new-track-once κs args x y left left′ p q = p ∙ sym q
+
+pub step-once : OneAnswer 0 step-kinds.ps step-kinds.r step.Post
+step-once κs args x y left left′ p q = p ∙ sym q

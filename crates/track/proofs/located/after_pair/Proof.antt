@@ -1,0 +1,37 @@
+-- `located::after_pair` meets its contract: each arm is the definition's.
+-- Assumes nothing.
+use mathlib.Core.Path.{sym, ap, _∙_}
+use Rattle.positions.specs.declared.Found.{Found}
+use Rattle.track.specs.Located.{afterPair}
+use borrow.Author.Needs.{needs}
+use Rattle.track.proofs.located.after_pair.Statement.{statement}
+use Rattle.track.proofs.located.after_pair.Tie as tie
+
+enum-known-found : tie.Need-enum-known-found
+enum-known-found c = search needs
+
+found-at-requires : tie.Need-found-at-requires
+found-at-requires c κs = search needs
+
+enum-told : tie.Need-enum-told
+enum-told c = search needs
+
+read-singly-requires : tie.Need-read-singly-requires
+read-singly-requires c κs = search needs
+
+returns : tie.Need-returns
+returns c =
+    let a = c .before .before .before .before .args in
+    c .found-at .ensures
+    ∙ sym (ap (λ (x : Found). afterPair x (a .p) (a .counts) (a .format) (a .time)) (c .before .before .found .given .1))
+
+returns-2 : tie.Need-returns-2
+returns-2 c =
+    let a = c .before .before .before .args in
+    c .read-singly .ensures
+    ∙ sym (ap (λ (x : Found). afterPair x (a .p) (a .counts) (a .format) (a .time)) (c .before .enum-told .given .1))
+
+pub after-pair-spec : {M : Type 1} → statement M
+after-pair-spec =
+    tie.close
+    (tie.spec enum-known-found found-at-requires enum-told read-singly-requires returns returns-2)

@@ -1,0 +1,28 @@
+-- `located::settle` meets its contract: each arm is the definition's.
+-- Assumes nothing.
+use mathlib.Core.Path.{sym, ap, _∙_}
+use Rattle.positions.specs.declared.Found.{Found}
+use Rattle.track.specs.Located.{settled}
+use borrow.Author.Needs.{needs}
+use Rattle.track.proofs.located.settle.Statement.{statement}
+use Rattle.track.proofs.located.settle.Tie as tie
+
+enum-known-found : tie.Need-enum-known-found
+enum-known-found c = search needs
+
+found-at-requires : tie.Need-found-at-requires
+found-at-requires c κs = search needs
+
+enum-told : tie.Need-enum-told
+enum-told c = search needs
+
+returns : tie.Need-returns
+returns c =
+    let a = c .before .before .before .before .args in
+    c .found-at .ensures ∙ sym (ap (λ (x : Found). settled x (a .p) (a .time)) (c .before .before .found .given .1))
+
+returns-2 : tie.Need-returns-2
+returns-2 c = search needs
+
+pub settle-spec : {M : Type 1} → statement M
+settle-spec = tie.close (tie.spec enum-known-found found-at-requires enum-told returns returns-2)

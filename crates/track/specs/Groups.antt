@@ -1,0 +1,61 @@
+-- The groups of a track. A message replaces its own group whole, unknown included.
+use Prim.Native.Nat.{ℕ}
+use mathlib.Core.Bool.{cond}
+use lib.Dec.{leb}
+use Rattle.track.specs.declared.Groups.{Groups}
+
+abbrev pub noGroups : Groups
+noGroups = record { identification = 0; velocity = 0; surface = 0; pressure = 0; height = 0 }
+
+-- identification, TYPE 1-4
+abbrev pub identified : Groups → ℕ → Groups
+identified g me = record {
+  identification = me;
+  velocity = g .velocity;
+  surface = g .surface;
+  pressure = g .pressure;
+  height = g .height;
+}
+
+-- velocity, TYPE 19
+abbrev pub moving : Groups → ℕ → Groups
+moving g me = record {
+  identification = g .identification;
+  velocity = me;
+  surface = g .surface;
+  pressure = g .pressure;
+  height = g .height;
+}
+
+-- surface fields, TYPE 5-8
+abbrev pub onSurface : Groups → ℕ → Groups
+onSurface g me = record {
+  identification = g .identification;
+  velocity = g .velocity;
+  surface = me;
+  pressure = g .pressure;
+  height = g .height;
+}
+
+-- pressure altitude, TYPE 9-18
+abbrev pub atPressure : Groups → ℕ → Groups
+atPressure g altitude = record {
+  identification = g .identification;
+  velocity = g .velocity;
+  surface = g .surface;
+  pressure = altitude;
+  height = g .height;
+}
+
+-- GNSS height, TYPE 20-22
+abbrev pub atHeight : Groups → ℕ → Groups
+atHeight g altitude = record {
+  identification = g .identification;
+  velocity = g .velocity;
+  surface = g .surface;
+  pressure = g .pressure;
+  height = altitude;
+}
+
+abbrev pub high : Groups → ℕ → ℕ → Groups
+high g type altitude = cond (leb type 18) (atPressure g altitude) (atHeight g altitude)

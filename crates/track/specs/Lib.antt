@@ -1,0 +1,3 @@
+pub mod Groups
+pub mod Located
+pub mod Track

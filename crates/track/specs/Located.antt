@@ -1,0 +1,73 @@
+-- Where a message puts its aircraft: by its partner, by one reference, or nowhere new.
+use Prim.Native.Nat.{ℕ, _-_}
+use mathlib.Core.Bool.{Bool, true, false, cond, _&&_}
+use lib.Dec.{leb, eqb}
+use lib.IntN.{pos}
+use Rattle.positions.specs.declared.Counts.{Counts}
+use Rattle.positions.specs.declared.Spot.{Spot}
+use Rattle.positions.specs.declared.Turn.{Turn}
+use Rattle.positions.specs.declared.Turn.the-variants.{Airborne, Surface}
+use Rattle.positions.specs.declared.Format.{Format}
+use Rattle.positions.specs.declared.Format.the-variants.{Even, Odd}
+use Rattle.positions.specs.declared.Found.{Found}
+use Rattle.positions.specs.declared.Found.the-variants.{At, Refused}
+use Rattle.positions.specs.Positions.{paired, singly}
+use Rattle.track.specs.declared.Saved.{Saved}
+use Rattle.track.specs.declared.Position.{Position}
+use Rattle.track.specs.declared.Site.{Site}
+
+abbrev pub noPosition : Position
+noPosition = record { known = false; spot = record { latitude = pos 0; longitude = 0 }; time = 0 }
+
+-- F is 0 for even, 1 for odd
+abbrev pub formatOf : ℕ → Format
+formatOf f = cond (eqb f 0) Even Odd
+
+-- a time is at most so old; one after the clock has age 0
+abbrev pub isWithin : ℕ → ℕ → ℕ → Bool
+isWithin most clock time = leb (clock - time) most
+
+-- the track's position, if at most 120,000 old
+abbrev pub isFresh : Position → ℕ → Bool
+isFresh p clock = p .known && isWithin 120000 clock (p .time)
+
+-- a position found takes the message's time
+abbrev pub foundAt : Spot → ℕ → Position
+foundAt spot time = record { known = true; spot = spot; time = time }
+
+-- on 9 the position stays
+abbrev pub settled : Found → Position → ℕ → Position
+settled (At spot) p time = foundAt spot time
+settled (Refused r) p time = p
+
+-- read singly against a reference
+unfoldable pub readNear : Spot → Position → Counts → Turn → Format → ℕ → Position
+readNear reference p counts turn format time = settled (singly 131072 reference counts turn format) p time
+
+-- an airborne message is read singly against the track's position if at most 120,000 old; otherwise the position stays
+unfoldable pub readSingly : Position → Counts → Format → ℕ → Position
+readSingly p counts format time = cond (isFresh p time) (readNear (p .spot) p counts Airborne format time) p
+
+-- the later message is the one being processed
+unfoldable pub pairedWith : Counts → Counts → Format → Found
+pairedWith partner counts Even = paired 131072 counts partner Even
+pairedWith partner counts Odd = paired 131072 partner counts Odd
+
+-- on 9 or 10 it is read singly
+abbrev pub afterPair : Found → Position → Counts → Format → ℕ → Position
+afterPair (At spot) p counts format time = foundAt spot time
+afterPair (Refused r) p counts format time = readSingly p counts format time
+
+-- an airborne message is paired with the other one if that is at most 10,000 old; failing that it is read singly
+unfoldable pub airbornePosition : Position → Saved → Counts → Format → ℕ → Position
+airbornePosition p partner counts format time =
+    cond (partner .known && isWithin 10000 time (partner .time))
+    (afterPair (pairedWith (partner .counts) counts format) p counts format time)
+    (readSingly p counts format time)
+
+-- a surface message is read singly against the track's position within 120,000, else the site, else not at all; on 9 the position stays
+unfoldable pub surfacePosition : Position → Site → Counts → Format → ℕ → Position
+surfacePosition p site counts format time =
+    cond (isFresh p time) (readNear (p .spot) p counts Surface format time)
+    (cond (site .known) (readNear (site .spot) p counts Surface format time)
+    p)

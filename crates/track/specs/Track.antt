@@ -1,0 +1,72 @@
+-- Tracks: what one message does to its track, as document 01 has it under that name.
+use Prim.Native.Nat.{ℕ, _-_}
+use mathlib.Core.List.{[], _∷_}
+use mathlib.Core.Bool.{true, false, cond}
+use lib.ListN.{getD, set}
+use Rattle.refusals.specs.declared.Refusal.the-variants.{Field}
+use Rattle.positions.specs.declared.Counts.{Counts}
+use Rattle.layouts.specs.declared.surface.Surface.{Surface}
+use Rattle.layouts.specs.declared.airborne.Airborne.{Airborne}
+use Rattle.layouts.specs.declared.bodies.Body.{Body}
+use Rattle.layouts.specs.declared.bodies.Body.the-variants as body
+use Rattle.layouts.specs.Bodies.{bodyMe, bodyFits}
+use Rattle.messages.specs.declared.Decoded.{Decoded}
+use Rattle.messages.specs.declared.Decoded.the-variants as decode
+use Rattle.track.specs.declared.Saved.{Saved}
+use Rattle.track.specs.declared.Site.{Site}
+use Rattle.track.specs.declared.Groups.{Groups}
+use Rattle.track.specs.declared.Track.{Track}
+use Rattle.track.specs.declared.Stepped.{Stepped}
+use Rattle.track.specs.Groups.{noGroups, identified, moving, onSurface, high}
+use Rattle.track.specs.Located.{noPosition, formatOf, airbornePosition, surfacePosition}
+
+abbrev pub noSaved : Saved
+noSaved = record { known = false; counts = record { latitude = record { 0 = 0 }; longitude = record { 0 = 0 } }; time = 0 }
+
+-- a track that has heard nothing yet
+abbrev pub newTrack : Track
+newTrack = record { heard = 0; groups = noGroups; position = noPosition; saved = noSaved ∷ noSaved ∷ [] }
+
+-- a message that gives no position
+unfoldable pub groupTrack : Track → Groups → ℕ → Track
+groupTrack t g time = record { heard = time; groups = g; position = t .position; saved = t .saved }
+
+-- the encoded position of an airborne message
+abbrev pub countsIn : Airborne → Counts
+countsIn b = record { latitude = b .latitude; longitude = b .longitude }
+
+-- an airborne message is saved by its F, then paired with the other one
+unfoldable pub airborneTrack : Track → Airborne → ℕ → Track
+airborneTrack t b time =
+    record {
+      heard = time;
+      groups = high (t .groups) (b .typecode) (b .altitude);
+      position = airbornePosition (t .position) (getD (t .saved) (1 - b .f) noSaved) (countsIn b) (formatOf (b .f)) time;
+      saved = set (t .saved) (b .f) (record { known = true; counts = countsIn b; time = time });
+    }
+
+-- a surface message clears the two saved ones
+unfoldable pub surfaceTrack : Track → Surface → ℕ → Site → ℕ → Track
+surfaceTrack t b me site time =
+    record {
+      heard = time;
+      groups = onSurface (t .groups) me;
+      position = surfacePosition (t .position) site (record { latitude = b .latitude; longitude = b .longitude }) (formatOf (b .f)) time;
+      saved = noSaved ∷ noSaved ∷ [];
+    }
+
+-- by the layout of the message
+abbrev pub stepBody : Track → Body → ℕ → Site → ℕ → Track
+stepBody t (body.Identification b) me site time = groupTrack t (identified (t .groups) me) time
+stepBody t (body.Surface b) me site time = surfaceTrack t b me site time
+stepBody t (body.Airborne b) me site time = airborneTrack t b time
+stepBody t (body.Ground b) me site time = groupTrack t (moving (t .groups) me) time
+stepBody t (body.Air b) me site time = groupTrack t (moving (t .groups) me) time
+
+-- what the decoder's answer does: a message steps the track, and a refusal is passed on and leaves it; a message whose fields do not fit is 8
+abbrev pub stepped : Track → Decoded → Site → ℕ → Stepped
+stepped t (decode.Refused r) site time = record { answer = decode.Refused r; track = t }
+stepped t (decode.Message m) site time =
+    cond (bodyFits (m .body))
+    (record { answer = decode.Message m; track = stepBody t (m .body) (bodyMe (m .body)) site time })
+    (record { answer = decode.Refused Field; track = t })

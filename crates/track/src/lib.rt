@@ -1,0 +1,189 @@
+// One aircraft's track by value, and its step by one message.
+mod located;
+mod replaced;
+
+use counts::LatitudeCount;
+use counts::LongitudeCount;
+use layouts::Airborne;
+use layouts::Body;
+use layouts::Surface;
+use layouts::Written;
+use messages::Decoded;
+use positions::Counts;
+use positions::Spot;
+use refusals::Refusal;
+ghost use mathlib.Core.Path.{_≡_};
+ghost use Prim.Native.Nat.{_<_};
+ghost use mathlib.Core.Bool.{true};
+ghost use Rattle.layouts.specs.Bodies.{bodyFits};
+ghost use Rattle.track.specs.Track.{airborneTrack, surfaceTrack, groupTrack, stepBody, stepped, newTrack, noSaved};
+
+// An encoded position, airborne, with its time.
+pub struct Saved {
+    pub known: bool,
+    pub counts: Counts,
+    pub time: u64,
+}
+
+pub struct Position {
+    pub known: bool,
+    pub spot: Spot,
+    pub time: u64,
+}
+
+// Where the receiver stands, if that is known.
+pub struct Site {
+    pub known: bool,
+    pub spot: Spot,
+}
+
+// What was last heard of each group: of three the ME that gave it, 0 where none did; of two the code of 12 bits, 0 where it is unknown.
+pub struct Groups {
+    pub identification: u64,
+    pub velocity: u64,
+    pub surface: u64,
+    pub pressure: u16,
+    pub height: u16,
+}
+
+pub struct Track {
+    pub heard: u64,
+    pub groups: Groups,
+    pub position: Position,
+    // the latest even and the latest odd one, indexed by F
+    pub saved: [Saved; 2],
+}
+
+// The decoder's answer passed on, and the track after it: a refusal leaves the track.
+pub struct Stepped {
+    pub answer: Decoded,
+    pub track: Track,
+}
+
+fn no_saved() -> Saved
+    ensures { λ r. ⌜ r ≡ noSaved ⌝ }
+{
+    Saved {
+        known: false,
+        counts: Counts {
+            latitude: LatitudeCount(0),
+            longitude: LongitudeCount(0),
+        },
+        time: 0,
+    }
+}
+
+// A track that has heard nothing yet.
+pub fn new_track() -> Track
+    ensures { λ r. ⌜ r ≡ newTrack ⌝ }
+{
+    let none = no_saved();
+    Track {
+        heard: 0,
+        groups: replaced::no_groups(),
+        position: located::no_position(),
+        saved: [none, none],
+    }
+}
+
+// An airborne message is saved by its F, and paired with the other one.
+fn airborne_track(t: Track, b: Airborne, time: u64) -> Track
+    requires { ⌜ b .f < 2 ⌝ }
+    ensures { λ r. ⌜ r ≡ airborneTrack t b time ⌝ }
+{
+    let own = b.f as usize;
+    let other = (1 - b.f) as usize;
+    let mut saved = t.saved;
+    let partner = saved[other];
+    let latitude = b.latitude;
+    let longitude = b.longitude;
+    let counts = Counts {
+        latitude: latitude,
+        longitude: longitude,
+    };
+    saved[own] = Saved {
+        known: true,
+        counts: counts,
+        time: time,
+    };
+    let p = t.position;
+    let g = t.groups;
+    Track {
+        heard: time,
+        groups: replaced::with_altitude(g, b.typecode, b.altitude),
+        position: located::airborne_position(p, partner, counts, located::format_of(b.f), time),
+        saved: saved,
+    }
+}
+
+// A surface message clears the two saved ones.
+fn surface_track(t: Track, b: Surface, me: u64, site: Site, time: u64) -> Track
+    ensures { λ r. ⌜ r ≡ surfaceTrack t b me site time ⌝ }
+{
+    let none = no_saved();
+    let saved = [none, none];
+    let latitude = b.latitude;
+    let longitude = b.longitude;
+    let counts = Counts {
+        latitude: latitude,
+        longitude: longitude,
+    };
+    let p = t.position;
+    let g = t.groups;
+    Track {
+        heard: time,
+        groups: replaced::with_surface(g, me),
+        position: located::surface_position(p, site, counts, located::format_of(b.f), time),
+        saved: saved,
+    }
+}
+
+fn group_track(t: Track, g: Groups, time: u64) -> Track
+    ensures { λ r. ⌜ r ≡ groupTrack t g time ⌝ }
+{
+    let p = t.position;
+    let saved = t.saved;
+    Track {
+        heard: time,
+        groups: g,
+        position: p,
+        saved: saved,
+    }
+}
+
+fn step_body(t: Track, body: Body, me: u64, site: Site, time: u64) -> Track
+    requires { ⌜ bodyFits body ≡ true ⌝ }
+    ensures { λ r. ⌜ r ≡ stepBody t body me site time ⌝ }
+{
+    let g = t.groups;
+    match body {
+        Body::Identification(_) => group_track(t, replaced::with_identification(g, me), time),
+        Body::Surface(b) => surface_track(t, b, me, site, time),
+        Body::Airborne(b) => airborne_track(t, b, time),
+        Body::Ground(_) => group_track(t, replaced::with_velocity(g, me), time),
+        Body::Air(_) => group_track(t, replaced::with_velocity(g, me), time),
+    }
+}
+
+// What a message does to its track. A refusal is passed on; a message whose fields do not fit is refused with 8.
+pub fn step(t: Track, answer: Decoded, site: Site, time: u64) -> Stepped
+    ensures { λ r. ⌜ r ≡ stepped t answer site time ⌝ }
+{
+    let Decoded::Message(m) = answer else {
+        return Stepped {
+            answer: answer,
+            track: t,
+        };
+    };
+    let body = m.body;
+    let Written::Me(me) = layouts::me_of(body) else {
+        return Stepped {
+            answer: Decoded::Refused(Refusal::Field),
+            track: t,
+        };
+    };
+    Stepped {
+        answer: answer,
+        track: step_body(t, body, me, site, time),
+    }
+}

@@ -1,0 +1,146 @@
+// Where a message puts its aircraft: by its partner, or by one reference, or nowhere new.
+use crate::Position;
+use crate::Saved;
+use crate::Site;
+use positions::Counts;
+use positions::Format;
+use positions::Found;
+use positions::Spot;
+use positions::Turn;
+ghost use mathlib.Core.Path.{_≡_};
+ghost use Rattle.track.specs.Located.{noPosition, formatOf, isWithin, isFresh, foundAt, settled, readNear, readSingly, afterPair, pairedWith, airbornePosition, surfacePosition};
+
+pub(crate) fn no_position() -> Position
+    ensures { λ r. ⌜ r ≡ noPosition ⌝ }
+{
+    Position {
+        known: false,
+        spot: Spot {
+            latitude: 0,
+            longitude: 0,
+        },
+        time: 0,
+    }
+}
+
+pub(crate) fn format_of(f: u8) -> Format
+    ensures { λ r. ⌜ r ≡ formatOf f ⌝ }
+{
+    if f == 0 { Format::Even } else { Format::Odd }
+}
+
+fn is_within(most: u64, clock: u64, time: u64) -> bool
+    ensures { λ r. ⌜ r ≡ isWithin most clock time ⌝ }
+{
+    if clock < time {
+        true
+    } else {
+        clock - time <= most
+    }
+}
+
+fn is_fresh(p: Position, clock: u64) -> bool
+    ensures { λ r. ⌜ r ≡ isFresh p clock ⌝ }
+{
+    p.known & is_within(120000, clock, p.time)
+}
+
+// A position found takes the message's time.
+fn found_at(spot: Spot, time: u64) -> Position
+    ensures { λ r. ⌜ r ≡ foundAt spot time ⌝ }
+{
+    Position {
+        known: true,
+        spot: spot,
+        time: time,
+    }
+}
+
+fn settle(found: Found, p: Position, time: u64) -> Position
+    ensures { λ r. ⌜ r ≡ settled found p time ⌝ }
+{
+    match found {
+        Found::At(spot) => found_at(spot, time),
+        Found::Refused(_) => p,
+    }
+}
+
+fn read_near(
+    reference: Spot,
+    p: Position,
+    counts: Counts,
+    turn: Turn,
+    format: Format,
+    time: u64,
+) -> Position
+    ensures { λ r. ⌜ r ≡ readNear reference p counts turn format time ⌝ }
+{
+    settle(positions::single(reference, counts, turn, format), p, time)
+}
+
+// An airborne message without its partner.
+fn read_singly(p: Position, counts: Counts, format: Format, time: u64) -> Position
+    ensures { λ r. ⌜ r ≡ readSingly p counts format time ⌝ }
+{
+    if is_fresh(p, time) {
+        let spot = p.spot;
+        read_near(spot, p, counts, Turn::Airborne, format, time)
+    } else {
+        p
+    }
+}
+
+fn paired_with(partner: Counts, counts: Counts, format: Format) -> Found
+    ensures { λ r. ⌜ r ≡ pairedWith partner counts format ⌝ }
+{
+    match format {
+        Format::Even => positions::pair(counts, partner, Format::Even),
+        Format::Odd => positions::pair(partner, counts, Format::Odd),
+    }
+}
+
+fn after_pair(found: Found, p: Position, counts: Counts, format: Format, time: u64) -> Position
+    ensures { λ r. ⌜ r ≡ afterPair found p counts format time ⌝ }
+{
+    match found {
+        Found::At(spot) => found_at(spot, time),
+        Found::Refused(_) => read_singly(p, counts, format, time),
+    }
+}
+
+pub(crate) fn airborne_position(
+    p: Position,
+    partner: Saved,
+    counts: Counts,
+    format: Format,
+    time: u64,
+) -> Position
+    ensures { λ r. ⌜ r ≡ airbornePosition p partner counts format time ⌝ }
+{
+    if partner.known & is_within(10000, time, partner.time) {
+        let other = partner.counts;
+        after_pair(paired_with(other, counts, format), p, counts, format, time)
+    } else {
+        read_singly(p, counts, format, time)
+    }
+}
+
+pub(crate) fn surface_position(
+    p: Position,
+    site: Site,
+    counts: Counts,
+    format: Format,
+    time: u64,
+) -> Position
+    ensures { λ r. ⌜ r ≡ surfacePosition p site counts format time ⌝ }
+{
+    if is_fresh(p, time) {
+        let spot = p.spot;
+        return read_near(spot, p, counts, Turn::Surface, format, time);
+    }
+    if site.known {
+        let spot = site.spot;
+        return read_near(spot, p, counts, Turn::Surface, format, time);
+    }
+    p
+}
