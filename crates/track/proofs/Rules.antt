@@ -51,7 +51,12 @@ use Rattle.track.specs.Located.{
   airbornePosition,
   surfacePosition,
 }
-use Rattle.track.specs.Track.{countsIn, noSaved, groupTrack, airborneTrack, surfaceTrack, stepBody, stepped}
+use Rattle.track.specs.Track.{countsIn, newTrack, noSaved, groupTrack, airborneTrack, surfaceTrack, stepBody, stepped}
+
+-- ---- a new track
+
+pub new-knows-nothing : (newTrack .heard ≡ 0) × (newTrack .position .known ≡ false) × (newTrack .saved ≡ noSaved ∷ noSaved ∷ []) × (noSaved .known ≡ false)
+new-knows-nothing = (refl, refl, refl, refl)
 
 -- ---- refused or accepted
 
