@@ -41,10 +41,10 @@ def asked():
     for name, width, carried, _ in QUESTIONS:
         every = range(256) if carried == 8 else [*range(1 << width), *wide(width)]
         if name == "speed":
-            for subtype in (1, 2):
+            for subtype in (1, 2, 3, 4):
                 for direction in (0, 1):
                     yield from ((name, subtype, direction, code) for code in every)
-            for subtype in (0, 3, 4, 5, 6, 7):
+            for subtype in (0, 5, 6, 7):
                 for direction in (0, 1):
                     some = [0, 1, 2, 3, 511, 512, 513, 1022, 1023, 1024, 65535]
                     some += [chance.randrange(1024) for _ in range(40)]

@@ -1,4 +1,4 @@
-// ME, the 56 bits of a message that say something: one struct a layout with all its fields, read from the bits and written back.
+// ME, bits 33-88 of a message: one struct for each layout with all its fields, read from the bits and written back.
 mod airborne;
 mod bodies;
 mod identification;

@@ -2,11 +2,11 @@
 -- Assumes nothing.
 use mathlib.Core.Path.{_≡_, refl}
 use mathlib.Core.List.{map}
-use Rattle.readings.specs.Altitude.{altitudeOf, byHundreds, turn, straight, fiveHundreds, hundreds, grayStep}
+use Rattle.readings.specs.Altitude.{altitudeOf, byHundreds, sixLess, straight, fiveHundreds, hundreds, grayStep}
 use Rattle.readings.specs.Amounts.{speedOf, rateOf, amount, signed, times}
 use Rattle.positions.specs.Whole.{floor, modulo, nearest}
 use Rattle.positions.specs.Zones.{latitudes, first, zoneCount}
-use Rattle.positions.specs.Positions.{allRound, whole, count, spotZones, countsOf, rounded, roundedTurn, inside, pairZone, inZone, less360, pairLatitude, pairLongitude, pairCount, pairSpot, pairFound, nearZone, near, nearSpot, nearFound}
+use Rattle.positions.specs.Positions.{allRound, whole, count, spotZones, countsOf, rounded, roundedTurn, inside, pairZone, inZone, less360, pairLatitude, pairLongitude, pairNL, pairSpot, pairFound, nearZone, near, nearSpot, nearFound}
 use Rattle.division.specs.Division.{reduce, remainderFrom}
 use Rattle.parity.specs.Parity.{remainder}
 use Rattle.messages.specs.Message.{opened}
@@ -14,8 +14,8 @@ use Rattle.marked.specs.Marked.{answer, questions, answers}
 
 pub marked : map answer questions ≡ answers
 unfolding answer questions answers
-    altitudeOf byHundreds turn straight fiveHundreds hundreds grayStep speedOf rateOf amount signed times
+    altitudeOf byHundreds sixLess straight fiveHundreds hundreds grayStep speedOf rateOf amount signed times
     floor modulo nearest latitudes first zoneCount allRound whole count spotZones countsOf rounded roundedTurn inside
-    pairZone inZone less360 pairLatitude pairLongitude pairCount pairSpot pairFound nearZone near nearSpot nearFound
+    pairZone inZone less360 pairLatitude pairLongitude pairNL pairSpot pairFound nearZone near nearSpot nearFound
     reduce remainderFrom remainder opened
 marked = refl

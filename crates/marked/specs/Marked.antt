@@ -48,7 +48,7 @@ pub data Question : Type 0 where
 pub data Answer : Type 0 where
   unknown over taken : Answer
   figure : ℤ → Answer
-  place : Spot → Answer
+  located : Spot → Answer
   two : Counts → Answer
   many : ℕ → Answer
   -- the paper's number of a refusal
@@ -72,7 +72,7 @@ rateSaid rate.Over = over
 rateSaid (rate.Refused r) = number (numberOf r)
 
 abbrev pub foundSaid : Found → Answer
-foundSaid (find.At s) = place s
+foundSaid (find.At s) = located s
 foundSaid (find.Refused r) = number (numberOf r)
 
 abbrev pub encodedSaid : Encoded → Answer
@@ -133,11 +133,11 @@ questions =
 unfoldable pub answers : List Answer
 answers =
     figure (negsuc 1199) ∷ figure (negsuc 699) ∷ figure (negsuc 999) ∷ figure (pos 10000) ∷ unknown
-    ∷ place north ∷ place north
+    ∷ located north ∷ located north
     ∷ two (at 65536 65536) ∷ two (at 81920 32768)
     ∷ number 9 ∷ number 9
     ∷ many 2 ∷ many 1
-    ∷ place north
+    ∷ located north
     ∷ number 4 ∷ many 0xFFF409 ∷ number 3
     ∷ figure (pos 0) ∷ figure (pos 32576)
     ∷ []

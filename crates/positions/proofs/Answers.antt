@@ -18,7 +18,7 @@ use Rattle.positions.specs.declared.Found.the-variants.{At, Refused}
 use Rattle.positions.specs.Whole.{modulo}
 use Rattle.positions.specs.Zones.{zoneCount}
 use Rattle.positions.specs.Code.{Within, Paired}
-use Rattle.positions.specs.Positions.{units, own, latitudeZones, longitudeZones, allRound, whole, count, spotZones, countsOf, rounded, roundedTurn, inside, pairZone, inZone, pairLatitude, pairLongitude, pairCount, pairSpot, pairFound, fit, nearZone, near, nearSpot, nearFound}
+use Rattle.positions.specs.Positions.{units, own, latitudeZones, longitudeZones, allRound, whole, count, spotZones, countsOf, rounded, roundedTurn, inside, pairZone, inZone, pairLatitude, pairLongitude, pairNL, pairSpot, pairFound, fit, nearZone, near, nearSpot, nearFound}
 use Rattle.fields.proofs.Bools.{each, either, neither, and-false}
 use Rattle.positions.proofs.Shift.{sub-modulo}
 use Rattle.positions.proofs.Naturals.{inside-yes, inside-north, inside-south, near-longitude}
@@ -94,12 +94,12 @@ module _ (even odd : Counts) (r s : ℕ) (er : Paired Even (even .latitude .0) (
     odd-inside = rw (es .is) (inside-yes s 7733248 (es .south) odd-north)
 
     module _ (NL m : ℕ) (eNL : NL ≡ zoneCount 7864320 (subℕ r 7864320)) (em : m ≡ zoneCount 7733248 (subℕ s 7733248)) where
-      even-count : pairCount 131072 Even (even .latitude .0) (odd .latitude .0) ≡ NL
-      unfolding pairCount
+      even-count : pairNL 131072 Even (even .latitude .0) (odd .latitude .0) ≡ NL
+      unfolding pairNL
       even-count = rw (er .is) (sym eNL)
 
-      odd-count : pairCount 131072 Odd (even .latitude .0) (odd .latitude .0) ≡ m
-      unfolding pairCount
+      odd-count : pairNL 131072 Odd (even .latitude .0) (odd .latitude .0) ≡ m
+      unfolding pairNL
       odd-count = rw (es .is) (sym em)
 
       pub pair-apart : (later : Format) → (NL ≡ m → ⊥) → Refused Zones ≡ pairFound 131072 even odd later

@@ -28,7 +28,7 @@ module _ (P N : ℕ) (p : 0 < N * P) where
       rw (e, abs-is (R * units + k * units * (N * P)) (k * (N * P) * units + w * (N * P)))
       (omega (arith, near-low (w * (N * P)) {d = units} (lit< tt), near-high (w * (N * P)) {d = units} (lit< tt)))
 
-  -- whole / (N * P) and x / turn of 360 degrees: twice their difference, over turn * (N * P), is at most a count, turn
+  -- whole / (N * P) and x / units of 360 degrees: twice their difference, over units * (N * P), is at most a count, units
   pub half-a-count : (x : ℤ) → 2 * natAbs (whole P N x *ℤ pos units -ℤ x *ℤ pos (N * P)) ≤ units
   half-a-count x =
       subst (λ (z : ℤ). 2 * natAbs (whole P N z *ℤ pos units -ℤ z *ℤ pos (N * P)) ≤ units) (lifted-is x (natAbs x * units) (omega arith))

@@ -16,7 +16,7 @@ use Rattle.positions.specs.declared.Format.the-variants.{Even, Odd}
 use Rattle.positions.specs.Whole.{modulo}
 use Rattle.positions.specs.Code.{nearestℕ}
 use Rattle.positions.specs.Zones.{latitudes, zoneCount}
-use Rattle.positions.specs.Positions.{inside, pairZone, inZone, less360, pairLatitude, pairCount}
+use Rattle.positions.specs.Positions.{inside, pairZone, inZone, less360, pairLatitude, pairNL}
 use Rattle.fields.proofs.Bools.{not-each}
 use Rattle.positions.proofs.Shift.{order, abs-is}
 use Rattle.positions.proofs.Naturals.{pair-zone-is, less-high, less-low}
@@ -136,8 +136,8 @@ module _ (a b : ℕ) (ha : a < 131072) (hb : b < 131072) where
 
   both-one : Close (u * 131072 + a) (t * 131072 + b) →
       ((7864320 < 4 * (u * 131072 + a)) × (4 * (u * 131072 + a) < 23592960)) ⊎ ((7733248 < 4 * (t * 131072 + b)) × (4 * (t * 131072 + b) < 23199744)) →
-      pairCount 131072 Even a b ≡ pairCount 131072 Odd a b
-  unfolding pairCount pairLatitude inZone
+      pairNL 131072 Even a b ≡ pairNL 131072 Odd a b
+  unfolding pairNL pairLatitude inZone
   both-one c p =
       let ue = u-lt in
       let te = t-lt in
@@ -150,7 +150,7 @@ module _ (a b : ℕ) (ha : a < 131072) (hb : b < 131072) where
 
   -- where either latitude is outside, the two have one NL
   pub nine-is-never-ten : (inside (60 * 131072) (pairLatitude 131072 Even a b) && inside (59 * 131072) (pairLatitude 131072 Odd a b)) ≡ false →
-      pairCount 131072 Even a b ≡ pairCount 131072 Odd a b
+      pairNL 131072 Even a b ≡ pairNL 131072 Odd a b
   unfolding pairLatitude inZone
   nine-is-never-ten e =
       let ue = u-lt in

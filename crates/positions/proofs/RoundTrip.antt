@@ -19,8 +19,8 @@ use Rattle.positions.specs.declared.Found.{Found}
 use Rattle.positions.specs.declared.Found.the-variants.{At}
 use Rattle.positions.specs.Whole.{modulo}
 use Rattle.positions.specs.Zones.{zoneCount}
-use Rattle.positions.specs.Positions.{latitudeZones, longitudeZones, allRound, whole, count, spotZones, countsOf, fromPole, encoded, inside, pairLatitude, pairLongitude, pairCount, pairSpot, pairFound, fit, paired}
-use Rattle.positions.specs.Rounded.{countBy, roundedSpot, roundTrip}
+use Rattle.positions.specs.Positions.{latitudeZones, longitudeZones, allRound, whole, count, spotZones, countsOf, poleToPole, encoded, inside, pairLatitude, pairLongitude, pairNL, pairSpot, pairFound, fit, paired}
+use Rattle.positions.specs.Rounded.{roundedNL, roundedSpot, roundTrip}
 use Rattle.positions.proofs.Table.{count-range}
 use Rattle.positions.proofs.encode.Reads as encode
 use Rattle.positions.proofs.pair.Reads as pair
@@ -45,7 +45,7 @@ modulo-lt (pos a) d p = mod-lt a p
 modulo-lt (negsuc a) d p = omega arith
 
 -- counts of a size that is a multiple of 4 above 118; a spot from pole to pole, any longitude; either message later
-module _ (q : ℕ) (large : 118 < 4 * q) (s : Spot) (t : T (fromPole (s .latitude))) where
+module _ (q : ℕ) (large : 118 < 4 * q) (s : Spot) (t : T (poleToPole (s .latitude))) where
   abbrev even : Counts
   even = countsOf (4 * q) s Airborne Even
 
@@ -57,24 +57,24 @@ module _ (q : ℕ) (large : 118 < 4 * q) (s : Spot) (t : T (fromPole (s .latitud
   unfolding countsOf
   latitude-of f = rw (air 60, air 59) (latitude-again q large (s .latitude) t f)
 
-  count-of : (f : Format) → pairCount (4 * q) f (even .latitude .0) (odd .latitude .0) ≡ countBy (4 * q) f (s .latitude)
-  unfolding pairCount countBy
+  count-of : (f : Format) → pairNL (4 * q) f (even .latitude .0) (odd .latitude .0) ≡ roundedNL (4 * q) f (s .latitude)
+  unfolding pairNL roundedNL
   count-of f = ap (zoneCount (latitudeZones f * (4 * q))) (latitude-of f)
 
   inside-of : (f : Format) → inside (latitudeZones f * (4 * q)) (pairLatitude (4 * q) f (even .latitude .0) (odd .latitude .0)) ≡ true
   inside-of Even = rw (latitude-of Even) (whole-inside q large (s .latitude) t 60 (lit< tt))
   inside-of Odd = rw (latitude-of Odd) (whole-inside q large (s .latitude) t 59 (lit< tt))
 
-  zones-of : (f : Format) → spotZones (4 * q) Airborne f (s .latitude) ≡ longitudeZones f (countBy (4 * q) f (s .latitude))
-  unfolding spotZones countBy
+  zones-of : (f : Format) → spotZones (4 * q) Airborne f (s .latitude) ≡ longitudeZones f (roundedNL (4 * q) f (s .latitude))
+  unfolding spotZones roundedNL
   zones-of f = rw (air (latitudeZones f), air (longitudeZones f (zoneCount (latitudeZones f * (4 * q)) (whole (4 * q) (latitudeZones f) (s .latitude)))))
 
-  range-of : (0 < countBy (4 * q) Even (s .latitude)) × (countBy (4 * q) Even (s .latitude) ≤ 59)
-  unfolding countBy
+  range-of : (0 < roundedNL (4 * q) Even (s .latitude)) × (roundedNL (4 * q) Even (s .latitude) ≤ 59)
+  unfolding roundedNL
   range-of = range (60 * (4 * q)) (whole (4 * q) 60 (s .latitude))
 
   -- with one NL for both, the spot of either message
-  module _ (NL : ℕ) (same : (f : Format) → countBy (4 * q) f (s .latitude) ≡ NL) where
+  module _ (NL : ℕ) (same : (f : Format) → roundedNL (4 * q) f (s .latitude) ≡ NL) where
     ranged : (0 < NL) × (NL ≤ 59)
     ranged = rw (same Even) at range-of
 
@@ -98,12 +98,12 @@ module _ (q : ℕ) (large : 118 < 4 * q) (s : Spot) (t : T (fromPole (s .latitud
       (if-true (eqb n m) _ _ _ (λ (h : T (eqb n m)). ap At (spot-of n (both (eqb→eq n m h)) later)))
     where
       n : ℕ
-      n = countBy (4 * q) Even (s .latitude)
+      n = roundedNL (4 * q) Even (s .latitude)
 
       m : ℕ
-      m = countBy (4 * q) Odd (s .latitude)
+      m = roundedNL (4 * q) Odd (s .latitude)
 
-      both : n ≡ m → (f : Format) → countBy (4 * q) f (s .latitude) ≡ n
+      both : n ≡ m → (f : Format) → roundedNL (4 * q) f (s .latitude) ≡ n
       both e Even = refl
       both e Odd = sym e
 
@@ -127,10 +127,10 @@ true-of : (b : Bool) → T b → b ≡ true
 true-of true t = refl
 true-of false t = absurd t
 
-module _ (s : Spot) (t : T (fromPole (s .latitude))) where
+module _ (s : Spot) (t : T (poleToPole (s .latitude))) where
   encoded-as : (f : Format) (c : Counts) → As c ≡ encoded 131072 s Airborne f → c ≡ countsOf 131072 s Airborne f
   encoded-as f c e =
-      let g : As c ≡ As (countsOf 131072 s Airborne f) = rw (true-of (fromPole (s .latitude)) t) at e in
+      let g : As c ≡ As (countsOf 131072 s Airborne f) = rw (true-of (poleToPole (s .latitude)) t) at e in
       cc
 
   pub encode-both-and-pair : (e o : Counts) (later : Format) (r : Found) →

@@ -9,7 +9,7 @@ use lib.Dec.{leb}
 use lib.IntN.{ℤ, pos, negsuc, subℕ, _+ℤ_}
 use lib.Signed.{mag}
 use borrow.Author.Tests.{le-leb, lt-leb, leb-true}
-use Rattle.positions.specs.Positions.{fromPole}
+use Rattle.positions.specs.Positions.{poleToPole}
 use Rattle.positions.specs.Code.{raised}
 use Rattle.fields.proofs.Bools.{each}
 use Rattle.positions.proofs.Shift.{sub-pos, sub-neg, order}
@@ -30,15 +30,15 @@ lower-small w l h =
     (order w 4294967296)
 
 -- from pole to pole, one turn up
-pub from-pole-is : (z : ℤ) → fromPole z ≡ (leb 3221225472 (raised z) && leb (raised z) 5368709120)
-from-pole-is (pos a) =
+pub pole-to-pole-is : (z : ℤ) → poleToPole z ≡ (leb 3221225472 (raised z) && leb (raised z) 5368709120)
+pole-to-pole-is (pos a) =
     ⊎-elim
     (λ (h : a ≤ 1073741824).
     rw (le-leb a 1073741824 h, le-leb 3221225472 (a + 4294967296) (omega arith), le-leb (a + 4294967296) 5368709120 (omega arith)))
     (λ (h : 1073741824 < a).
     rw (lt-leb a 1073741824 h, le-leb 3221225472 (a + 4294967296) (omega arith), lt-leb (a + 4294967296) 5368709120 (omega arith)))
     (order 1073741824 a)
-from-pole-is (negsuc a) =
+pole-to-pole-is (negsuc a) =
     ⊎-elim
     (λ (h : suc a ≤ 1073741824).
     rw (le-leb (suc a) 1073741824 h, le-leb 3221225472 (4294967296 - suc a) (omega arith), le-leb (4294967296 - suc a) 5368709120 (omega arith)))
@@ -58,8 +58,8 @@ lowered (negsuc a) l h =
 
 -- what the code has tested of w, the latitude z one turn up
 module _ (z : ℤ) (w : ℕ) (e : w ≡ raised z) where
-  pub tested : (b : Bool) → (leb 3221225472 w && leb w 5368709120) ≡ b → fromPole z ≡ b
-  tested b t = from-pole-is z ∙ ap (λ (v : ℕ). leb 3221225472 v && leb v 5368709120) (sym e) ∙ t
+  pub tested : (b : Bool) → (leb 3221225472 w && leb w 5368709120) ≡ b → poleToPole z ≡ b
+  tested b t = pole-to-pole-is z ∙ ap (λ (v : ℕ). leb 3221225472 v && leb v 5368709120) (sym e) ∙ t
 
   pub back : (leb 3221225472 w && leb w 5368709120) ≡ true → subℕ w 4294967296 ≡ z
   back t = let p = poles w t in ap (λ (v : ℕ). subℕ v 4294967296) e ∙ lowered z (rw e at (p .0)) (rw e at (p .1))

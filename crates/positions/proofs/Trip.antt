@@ -14,7 +14,7 @@ use Rattle.positions.specs.declared.Format.{Format}
 use Rattle.positions.specs.declared.Format.the-variants.{Even, Odd}
 use Rattle.positions.specs.Whole.{modulo}
 use Rattle.positions.specs.Code.{nearestℕ, raised}
-use Rattle.positions.specs.Positions.{units, own, latitudeZones, longitudeZones, whole, count, fromPole, inside, pairZone, inZone, less360, pairLatitude, pairLongitude}
+use Rattle.positions.specs.Positions.{units, own, latitudeZones, longitudeZones, whole, count, poleToPole, inside, pairZone, inZone, less360, pairLatitude, pairLongitude}
 use Rattle.positions.proofs.Shift.{order, sub-modulo}
 use Rattle.positions.proofs.Naturals.{whole-is, whole-pos, whole-low, whole-high, pair-zone-is, less-high, less-low, inside-yes}
 use Rattle.positions.proofs.Pairing.{zoneOf, pair-even, pair-odd}
@@ -106,16 +106,16 @@ wrap M R l h p =
     (λ (g : R < M). ap (less360 M) (mod-eq-of-lt g) ∙ less-high M R l)
     (order R M)
 
-pole-low : (z : ℤ) → T (fromPole z) → 3221225472 ≤ raised z
+pole-low : (z : ℤ) → T (poleToPole z) → 3221225472 ≤ raised z
 pole-low (pos a) t = omega arith
 pole-low (negsuc a) t = omega (arith, leb→le (suc a) 1073741824 t)
 
-pole-high : (z : ℤ) → T (fromPole z) → raised z ≤ 5368709120
+pole-high : (z : ℤ) → T (poleToPole z) → raised z ≤ 5368709120
 pole-high (pos a) t = omega (arith, leb→le a 1073741824 t)
 pole-high (negsuc a) t = omega arith
 
 -- Latitude, from pole to pole, with counts of a size that is a multiple of 4, so that a pole is a whole number of counts
-module _ (q : ℕ) (large : 118 < 4 * q) (latitude : ℤ) (t : T (fromPole latitude)) where
+module _ (q : ℕ) (large : 118 < 4 * q) (latitude : ℤ) (t : T (poleToPole latitude)) where
   w : ℕ
   w = raised latitude
 

@@ -12,7 +12,7 @@ use Rattle.positions.specs.declared.Encoded.the-variants.{As, Refused as
 use Rattle.positions.specs.declared.Found.the-variants.{At, Refused}
 use Rattle.positions.specs.Whole.{floor, modulo, nearest}
 use Rattle.positions.specs.Zones.{latitudes, first, zoneCount}
-use Rattle.positions.specs.Positions.{units, longitudeZones, allRound, whole, count, spotZones, countsOf, encoded, rounded, roundedTurn, inside, pairZone, inZone, less360, pairLatitude, pairLongitude, pairCount, pairSpot, pairFound, paired, nearZone, near, nearSpot, nearFound, singly}
+use Rattle.positions.specs.Positions.{units, longitudeZones, allRound, whole, count, spotZones, countsOf, encoded, rounded, roundedTurn, inside, pairZone, inZone, less360, pairLatitude, pairLongitude, pairNL, pairSpot, pairFound, paired, nearZone, near, nearSpot, nearFound, singly}
 
 abbrev spot : ℤ → ℕ → Spot
 spot y x = record { latitude = y; longitude = x }
@@ -31,7 +31,7 @@ pub worked :
     × (zoneCount (60 * 131072) (pos 1900544) ≡ 2)
     × (zoneCount (60 * 131072) (pos 1900545) ≡ 1)
     × (singly 131072 (spot (pos 536870912) 1073741824) (counts 0 0) Surface Even ≡ At (spot (pos 536870912) 1073741824))
-unfolding floor modulo nearest latitudes first zoneCount allRound whole count spotZones countsOf rounded roundedTurn inside pairZone inZone less360 pairLatitude pairLongitude pairCount pairSpot pairFound nearZone near nearSpot nearFound
+unfolding floor modulo nearest latitudes first zoneCount allRound whole count spotZones countsOf rounded roundedTurn inside pairZone inZone less360 pairLatitude pairLongitude pairNL pairSpot pairFound nearZone near nearSpot nearFound
 worked = (refl, refl, refl, refl, refl, refl, refl, refl)
 
 -- a count of 131,072 and a latitude past the pole are 8, and at an edge of NL a pair is 10
@@ -40,7 +40,7 @@ pub refused :
     × (singly 131072 (spot (pos 1073741825) 0) (counts 0 0) Surface Even ≡ Refused Field)
     × (encoded 131072 (spot (negsuc 1073741824) 0) Airborne Even ≡ NotEncoded Field)
     × (paired 131072 (counts 97659 0) (counts 93846 0) Odd ≡ Refused Zones)
-unfolding floor modulo nearest latitudes first zoneCount allRound whole count spotZones countsOf rounded roundedTurn inside pairZone inZone less360 pairLatitude pairLongitude pairCount pairSpot pairFound nearZone near nearSpot nearFound
+unfolding floor modulo nearest latitudes first zoneCount allRound whole count spotZones countsOf rounded roundedTurn inside pairZone inZone less360 pairLatitude pairLongitude pairNL pairSpot pairFound nearZone near nearSpot nearFound
 refused = (refl, refl, refl, refl)
 
 -- NL of the unrounded latitude: 124917351 lies below the first edge and is rounded above it, so the longitude count is 65536, not 98304
@@ -67,7 +67,7 @@ pub not-one-addition :
     × (modulo (pairZone 131072 59 0 131071) 58 ≡ 57)
     × (pairZone 131072 59 0 131071 +ℤ pos 58 ≡ negsuc 0)
     × (paired 131072 (counts 0 0) (counts 0 131071) Odd ≡ At (spot (pos 0) 4294966731))
-unfolding floor modulo nearest latitudes first zoneCount rounded roundedTurn inside pairZone inZone less360 pairLatitude pairLongitude pairCount pairSpot pairFound
+unfolding floor modulo nearest latitudes first zoneCount rounded roundedTurn inside pairZone inZone less360 pairLatitude pairLongitude pairNL pairSpot pairFound
 not-one-addition = (refl, refl, refl, refl)
 
 -- above 270 for from 270 up: the south pole is 270 degrees exactly, and is a latitude, not 9
@@ -76,5 +76,5 @@ pub from-270 :
     × (encoded 131072 (spot (negsuc 1073741823) 0) Airborne Odd ≡ As (counts 32768 0))
     × (paired 131072 (counts 0 0) (counts 32768 0) Even ≡ At (spot (negsuc 1073741823) 0))
     × (paired 131072 (counts 0 0) (counts 32768 0) Odd ≡ At (spot (negsuc 1073741823) 0))
-unfolding floor modulo nearest latitudes first zoneCount allRound whole count spotZones countsOf rounded roundedTurn inside pairZone inZone less360 pairLatitude pairLongitude pairCount pairSpot pairFound
+unfolding floor modulo nearest latitudes first zoneCount allRound whole count spotZones countsOf rounded roundedTurn inside pairZone inZone less360 pairLatitude pairLongitude pairNL pairSpot pairFound
 from-270 = (refl, refl, refl, refl)

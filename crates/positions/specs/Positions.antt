@@ -73,12 +73,12 @@ countsOf P s k f =
     }
 
 -- whether a latitude to encode, or of a reference, is in -2^30..2^30
-abbrev pub fromPole : ℤ → Bool
-fromPole latitude = leb (natAbs latitude) 1073741824
+abbrev pub poleToPole : ℤ → Bool
+poleToPole latitude = leb (natAbs latitude) 1073741824
 
 -- the counts of a spot, or 8
 abbrev pub encoded : ℕ → Spot → Turn → Format → Encoded
-encoded P s k f = cond (fromPole (s .latitude)) (As (countsOf P s k f)) (NotEncoded Field)
+encoded P s k f = cond (poleToPole (s .latitude)) (As (countsOf P s k f)) (NotEncoded Field)
 
 -- Places handed out: the exact r / M of 360 degrees rounds to nearest, half up
 unfoldable pub rounded : ℕ → ℤ → ℤ
@@ -115,8 +115,8 @@ pairLongitude P f NL even odd =
     inZone P (longitudeZones f NL) (pairZone P NL even odd) (own f even odd)
 
 -- its NL
-unfoldable pub pairCount : ℕ → Format → ℕ → ℕ → ℕ
-pairCount P f even odd = zoneCount (latitudeZones f * P) (pairLatitude P f even odd)
+unfoldable pub pairNL : ℕ → Format → ℕ → ℕ → ℕ
+pairNL P f even odd = zoneCount (latitudeZones f * P) (pairLatitude P f even odd)
 
 -- the spot of the message of format f, with NL that of both latitudes
 unfoldable pub pairSpot : ℕ → Format → ℤ → ℕ → ℕ → ℕ → Spot
@@ -132,8 +132,8 @@ pairFound P even odd later =
     let a = even .latitude .0 in
     let b = odd .latitude .0 in
     cond (inside (60 * P) (pairLatitude P Even a b) && inside (59 * P) (pairLatitude P Odd a b))
-    (cond (eqb (pairCount P Even a b) (pairCount P Odd a b))
-    (At (pairSpot P later (pairLatitude P later a b) (pairCount P Even a b) (even .longitude .0) (odd .longitude .0)))
+    (cond (eqb (pairNL P Even a b) (pairNL P Odd a b))
+    (At (pairSpot P later (pairLatitude P later a b) (pairNL P Even a b) (even .longitude .0) (odd .longitude .0)))
     (Refused Zones))
     (Refused Latitude)
 
@@ -172,4 +172,4 @@ nearFound P N s c k f =
 -- the spot near a reference, or 8, 9 in that order
 abbrev pub singly : ℕ → Spot → Counts → Turn → Format → Found
 singly P reference c k f =
-    cond (fit P c && fromPole (reference .latitude)) (nearFound P (allRound k (latitudeZones f)) reference c k f) (Refused Field)
+    cond (fit P c && poleToPole (reference .latitude)) (nearFound P (allRound k (latitudeZones f)) reference c k f) (Refused Field)

@@ -15,13 +15,13 @@ use Rattle.positions.specs.Zones.{zoneCount}
 use Rattle.positions.specs.Positions.{units, latitudeZones, longitudeZones, whole, rounded, roundedTurn}
 
 -- NL of the rounded latitude of the airborne message of format f
-unfoldable pub countBy : ℕ → Format → ℤ → ℕ
-countBy P f latitude = zoneCount (latitudeZones f * P) (whole P (latitudeZones f) latitude)
+unfoldable pub roundedNL : ℕ → Format → ℤ → ℕ
+roundedNL P f latitude = zoneCount (latitudeZones f * P) (whole P (latitudeZones f) latitude)
 
 -- its rounded place, the longitude modulo 360 degrees, rounded to 2^-32
 unfoldable pub roundedSpot : ℕ → Format → Spot → Spot
 roundedSpot P f s =
-    let n = longitudeZones f (countBy P f (s .latitude)) in
+    let n = longitudeZones f (roundedNL P f (s .latitude)) in
     record {
       latitude = rounded (latitudeZones f * P) (whole P (latitudeZones f) (s .latitude));
       longitude = roundedTurn (n * P) (modulo (whole P n (pos (s .longitude))) (n * P));
@@ -30,13 +30,13 @@ roundedSpot P f s =
 -- the rounded place of the later message, or 10 just where the two rounded latitudes differ in NL
 unfoldable pub roundTrip : ℕ → Spot → Format → Found
 roundTrip P s later =
-    cond (eqb (countBy P Even (s .latitude)) (countBy P Odd (s .latitude))) (At (roundedSpot P later s)) (Refused Zones)
+    cond (eqb (roundedNL P Even (s .latitude)) (roundedNL P Odd (s .latitude))) (At (roundedSpot P later s)) (Refused Zones)
 
 -- how far apart two numbers are on a circle of C
 abbrev pub around : ℕ → ℕ → ℕ → ℕ
 around C a b = min ((a - b) + (b - a)) (C - ((a - b) + (b - a)))
 
--- how far the position z / (N * P) lies above the reference, both of 360 degrees, over turn * (N * P): a zone is turn * P of it
+-- how far the position z / (N * P) of 360 degrees lies above the reference, over units * (N * P): a zone is units * P of it
 abbrev pub beyond : ℕ → ℕ → ℤ → ℤ → ℤ
 beyond P N reference z = z *ℤ pos units -ℤ reference *ℤ pos (N * P)
 

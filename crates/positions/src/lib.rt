@@ -8,7 +8,7 @@ use counts::Zone;
 use refusals::Refusal;
 ghost use mathlib.Core.Path.{_≡_};
 ghost use mathlib.Core.Bool.{_&&_};
-ghost use Prim.Native.Nat.{_+_, _-_, _*_, _<_, _≤_};
+ghost use Prim.Native.Nat.{_+_, _-_, _*_, _%_, _<_, _≤_};
 ghost use lib.Dec.{leb};
 ghost use lib.IntN.{subℕ, pos};
 ghost use Rattle.positions.specs.Whole.{modulo};
@@ -133,7 +133,7 @@ pub fn encode(spot: Spot, turn: Turn, format: Format) -> Encoded
     ensures { λ r. ⌜ r ≡ encoded 131072 spot turn format ⌝ }
 {
     let up = raise(spot.latitude);
-    if from_pole(up) {
+    if pole_to_pole(up) {
         Encoded::As(encode_raised(up, spot.longitude, turn, format))
     } else {
         Encoded::Refused(Refusal::Field)
@@ -156,7 +156,7 @@ pub fn single(reference: Spot, counts: Counts, turn: Turn, format: Format) -> Fo
     ensures { λ r. ⌜ r ≡ singly 131072 reference counts turn format ⌝ }
 {
     let up = raise(reference.latitude);
-    if fits(counts) & from_pole(up) {
+    if fits(counts) & pole_to_pole(up) {
         single_raised(up, reference.longitude, counts, turn, format)
     } else {
         Found::Refused(Refusal::Field)
@@ -177,7 +177,7 @@ fn raise(latitude: i32) -> u64
     (latitude as i64 + 4294967296) as u64
 }
 
-fn from_pole(up: u64) -> bool
+fn pole_to_pole(up: u64) -> bool
     ensures { λ r. ⌜ r ≡ (leb 3221225472 up && leb up 5368709120) ⌝ }
 {
     (SOUTH <= up) & (up <= NORTH)
@@ -310,28 +310,31 @@ fn encode_raised(up: u64, longitude: u32, turn: Turn, format: Format) -> Counts
     }
 }
 
-// The zone of a pair of counts by n and n - 1 zones, modulo z. It is n * z zones up, which z does not see, so that it is never below zero.
-fn pair_zone(n: u64, z: u64, even: u32, odd: u32) -> Zone
-    requires { ⌜ ((0 < n) × (n ≤ 60)) × (((0 < z) × (z ≤ 60)) × ((even < 131072) × (odd < 131072))) ⌝ }
-    ensures { λ r. ⌜ (r .0 ≡ modulo (pairZone 131072 n even odd) z) × (r .0 < z) ⌝ }
+// The zone of a pair by its numerator, modulo z.
+fn zone_by(x: u64, z: u64) -> Zone
+    requires { ⌜ (x < 1073741824) × ((0 < z) × (z ≤ 60)) ⌝ }
+    ensures { λ r. ⌜ (r .0 ≡ nearestℕ x 131072 % z) × (r .0 < z) ⌝ }
 {
-    let x = (even as u64) * (n - 1) + n * z * SIZE - (odd as u64) * n;
     Zone((nearest(x, SIZE) % z) as u32)
 }
 
-// j, and m, each modulo the zones of one message.
+// j modulo z. The numerator is 60 z zones up, which z does not see, so that it is never below zero.
 fn pair_latitude_zone(z: u64, even: LatitudeCount, odd: LatitudeCount) -> Zone
     requires { ⌜ ((0 < z) × (z ≤ 60)) × ((even .0 < 131072) × (odd .0 < 131072)) ⌝ }
     ensures { λ r. ⌜ (r .0 ≡ modulo (pairZone 131072 60 (even .0) (odd .0)) z) × (r .0 < z) ⌝ }
 {
-    pair_zone(60, z, even.0, odd.0)
+    let x = (even.0 as u64) * 59 + 60 * z * SIZE - (odd.0 as u64) * 60;
+    zone_by(x, z)
 }
 
+// m modulo n, with the numerator NL n zones up: m may be -NL.
 fn pair_longitude_zone(nl: u32, n: u64, even: LongitudeCount, odd: LongitudeCount) -> Zone
     requires { ⌜ ((0 < nl) × (nl ≤ 59)) × (((0 < n) × (n ≤ 59)) × ((even .0 < 131072) × (odd .0 < 131072))) ⌝ }
     ensures { λ r. ⌜ (r .0 ≡ modulo (pairZone 131072 nl (even .0) (odd .0)) n) × (r .0 < n) ⌝ }
 {
-    pair_zone(nl as u64, n, even.0, odd.0)
+    let m = nl as u64;
+    let x = (even.0 as u64) * (m - 1) + m * n * SIZE - (odd.0 as u64) * m;
+    zone_by(x, n)
 }
 
 // The exact latitude of a zone of z and a count, less 360 from 270 up; and that one turn up.

@@ -7,7 +7,7 @@ use lib.IntN.{pos, negsuc}
 use Rattle.refusals.specs.declared.Refusal.the-variants.{Field}
 use Rattle.layouts.specs.Layouts.{identificationOf, surfaceOf, airborneOf, groundOf, airOf}
 use Rattle.readings.specs.Bodies.{identificationMeans, surfaceMeans, airborneMeans, groundMeans, airMeans}
-use Rattle.readings.specs.Altitude.{altitudeOf, byHundreds, turn, straight, fiveHundreds, hundreds, grayStep}
+use Rattle.readings.specs.Altitude.{altitudeOf, byHundreds, sixLess, straight, fiveHundreds, hundreds, grayStep}
 use Rattle.readings.specs.Amounts.{speedOf, rateOf, differenceOf, amount, signed, times}
 use Rattle.readings.specs.Headings.{headingOf}
 use Rattle.readings.specs.Movement.{movementOf, lowerEdge}
@@ -24,7 +24,7 @@ use Rattle.readings.specs.declared.text.Text.the-variants as text
 
 -- an H of 5 or 6 is unknown, and is no altitude of 500 F + 100 H - 1,300
 pub unknown-hundreds : (altitudeOf 2688 ≡ altitude.Unknown) × (altitudeOf 2176 ≡ altitude.Unknown)
-unfolding altitudeOf byHundreds turn straight fiveHundreds hundreds grayStep
+unfolding altitudeOf byHundreds sixLess straight fiveHundreds hundreds grayStep
 unknown-hundreds = (refl, refl)
 
 -- code 1 with either direction is zero, and no step below it; the top code is over in every subtype

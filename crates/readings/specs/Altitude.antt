@@ -39,12 +39,12 @@ unfoldable pub straight : ℕ → ℕ
 straight h = cond (eqb h 7) 5 h
 
 -- if F is odd H becomes 6 - H
-unfoldable pub turn : ℕ → ℕ → ℕ
-turn f h = cond (eqb (f % 2) 1) (6 - h) h
+unfoldable pub sixLess : ℕ → ℕ → ℕ
+sixLess f h = cond (eqb (f % 2) 1) (6 - h) h
 
 -- H of 0, 5 or 6 is unknown; else the altitude is 500 F + 100 H - 1,300
 unfoldable pub byHundreds : ℕ → ℕ → Altitude
-byHundreds f h = cond (eqb h 0 || eqb h 5 || eqb h 6) Unknown (Feet (pos (500 * f + 100 * turn f (straight h)) -ℤ pos 1300))
+byHundreds f h = cond (eqb h 0 || eqb h 5 || eqb h 6) Unknown (Feet (pos (500 * f + 100 * sixLess f (straight h)) -ℤ pos 1300))
 
 -- all zeros is unknown; with Q 1 the altitude is 25 N - 1,000 feet; with Q 0 it goes by hundreds
 unfoldable pub altitudeOf : ℕ → Altitude

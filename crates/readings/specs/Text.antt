@@ -17,12 +17,12 @@ use Rattle.readings.specs.declared.text.Text.the-variants as text
 
 -- TYPE 4, 3, 2, 1 is category set A, B, C, D
 unfoldable pub categorySetOf : ℕ → CategorySet
-categorySetOf kind =
-    cond (wider 5 kind) (set.Refused Field)
-    (cond (eqb kind 4) set.A
-    (cond (eqb kind 3) set.B
-    (cond (eqb kind 2) set.C
-    (cond (eqb kind 1) set.D
+categorySetOf type =
+    cond (wider 5 type) (set.Refused Field)
+    (cond (eqb type 4) set.A
+    (cond (eqb type 3) set.B
+    (cond (eqb type 2) set.C
+    (cond (eqb type 1) set.D
     set.NoSet))))
 
 -- codes 1-26 are A-Z, 32 space, 48-57 digits; the rest show as "?" (here in ASCII: A is 65, space 32, 0 is 48, ? is 63)

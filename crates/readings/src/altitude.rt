@@ -3,7 +3,7 @@ use crate::signed::less;
 use refusals::Refusal;
 ghost use mathlib.Core.Path.{_≡_};
 ghost use Prim.Native.Nat.{_<_, _≤_, _+_, _*_};
-ghost use Rattle.readings.specs.Altitude.{grayStep, straight, turn, byHundreds, altitudeOf};
+ghost use Rattle.readings.specs.Altitude.{grayStep, straight, sixLess, byHundreds, altitudeOf};
 ghost use Rattle.readings.specs.Altitude.{fiveHundreds, hundreds as Altitude·hundreds};
 
 pub enum Altitude {
@@ -50,7 +50,7 @@ fn straightened(h: u32) -> u32
 
 fn turned(f: u32, h: u32) -> u32
     requires { ⌜ h < 8 ⌝ }
-    ensures { λ r. ⌜ (r ≡ turn f (straight h)) × (r < 8) ⌝ }
+    ensures { λ r. ⌜ (r ≡ sixLess f (straight h)) × (r < 8) ⌝ }
 {
     let k = straightened(h);
     if f % 2 == 1 { 6 - k } else { k }

@@ -54,6 +54,7 @@ pub struct AirReadings {
     pub difference: Difference,
 }
 
+// The category set, by TYPE, and the eight characters.
 pub fn identification_readings(b: Identification) -> IdentificationReadings
     ensures { λ r. ⌜ r ≡ identificationMeans b ⌝ }
 {
@@ -63,6 +64,7 @@ pub fn identification_readings(b: Identification) -> IdentificationReadings
     }
 }
 
+// The movement, and the heading whatever its status bit says.
 pub fn surface_readings(b: Surface) -> SurfaceReadings
     ensures { λ r. ⌜ r ≡ surfaceMeans b ⌝ }
 {
@@ -72,6 +74,7 @@ pub fn surface_readings(b: Surface) -> SurfaceReadings
     }
 }
 
+// The altitude, and which of the two it is.
 pub fn airborne_readings(b: Airborne) -> AirborneReadings
     ensures { λ r. ⌜ r ≡ airborneMeans b ⌝ }
 {
@@ -81,6 +84,7 @@ pub fn airborne_readings(b: Airborne) -> AirborneReadings
     }
 }
 
+// The speeds to the east and to the north, the vertical rate and the height difference.
 pub fn ground_readings(b: Ground) -> GroundReadings
     ensures { λ r. ⌜ r ≡ groundMeans b ⌝ }
 {

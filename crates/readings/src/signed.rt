@@ -1,4 +1,4 @@
-// The one place where a number gets below zero.
+// The one function of this crate whose result can be below zero.
 ghost use mathlib.Core.Path.{_≡_};
 ghost use Prim.Native.Nat.{_<_};
 ghost use lib.IntN.{pos, _-ℤ_};

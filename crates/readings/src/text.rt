@@ -28,22 +28,22 @@ pub enum Text {
 }
 
 // The category set of a TYPE, a code of 5 bits.
-pub fn category_set_of(kind: u8) -> CategorySet
-    ensures { λ r. ⌜ r ≡ categorySetOf kind ⌝ }
+pub fn category_set_of(typecode: u8) -> CategorySet
+    ensures { λ r. ⌜ r ≡ categorySetOf typecode ⌝ }
 {
-    if 32 <= kind {
+    if 32 <= typecode {
         return CategorySet::Refused(Refusal::Field);
     }
-    if kind == 4 {
+    if typecode == 4 {
         return CategorySet::A;
     }
-    if kind == 3 {
+    if typecode == 3 {
         return CategorySet::B;
     }
-    if kind == 2 {
+    if typecode == 2 {
         return CategorySet::C;
     }
-    if kind == 1 {
+    if typecode == 1 {
         return CategorySet::D;
     }
     CategorySet::NoSet

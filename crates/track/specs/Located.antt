@@ -35,7 +35,7 @@ isFresh p clock = p .known && isWithin 120000 clock (p .time)
 abbrev pub foundAt : Spot → ℕ → Position
 foundAt spot time = record { known = true; spot = spot; time = time }
 
--- on 9 the position stays
+-- on 9 the position stays; so it does on 8, which only values out of their range earn
 abbrev pub settled : Found → Position → ℕ → Position
 settled (At spot) p time = foundAt spot time
 settled (Refused r) p time = p
@@ -53,7 +53,7 @@ unfoldable pub pairedWith : Counts → Counts → Format → Found
 pairedWith partner counts Even = paired 131072 counts partner Even
 pairedWith partner counts Odd = paired 131072 partner counts Odd
 
--- on 9 or 10 it is read singly
+-- on 9 or 10, and on 8, it is read singly
 abbrev pub afterPair : Found → Position → Counts → Format → ℕ → Position
 afterPair (At spot) p counts format time = foundAt spot time
 afterPair (Refused r) p counts format time = readSingly p counts format time

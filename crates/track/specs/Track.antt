@@ -63,7 +63,7 @@ stepBody t (body.Airborne b) me site time = airborneTrack t b time
 stepBody t (body.Ground b) me site time = groupTrack t (moving (t .groups) me) time
 stepBody t (body.Air b) me site time = groupTrack t (moving (t .groups) me) time
 
--- what the decoder's answer does: a message steps the track, and a refusal is passed on and leaves it; a message whose fields do not fit is 8
+-- what the decoder's answer does: a message steps the track, and a refusal is passed on and leaves it; a message whose ME fields do not fit is 8 (DF, CA or CF and AA are not read here)
 abbrev pub stepped : Track → Decoded → Site → ℕ → Stepped
 stepped t (decode.Refused r) site time = record { answer = decode.Refused r; track = t }
 stepped t (decode.Message m) site time =

@@ -165,7 +165,7 @@ fn step_body(t: Track, body: Body, me: u64, site: Site, time: u64) -> Track
     }
 }
 
-// What a message does to its track. A refusal is passed on; a message whose fields do not fit is refused with 8.
+// What a message does to its track. A refusal is passed on; one whose ME fields do not fit is refused with 8.
 pub fn step(t: Track, answer: Decoded, site: Site, time: u64) -> Stepped
     ensures { λ r. ⌜ r ≡ stepped t answer site time ⌝ }
 {

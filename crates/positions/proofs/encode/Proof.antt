@@ -20,24 +20,24 @@ up-is u =
 raise-requires : tie.Need-raise-requires
 raise-requires c κs = search needs
 
-from-pole-requires : tie.Need-from-pole-requires
-from-pole-requires c κs = search needs
+pole-to-pole-requires : tie.Need-pole-to-pole-requires
+pole-to-pole-requires c κs = search needs
 
 encode-raised-requires : tie.Need-encode-raised-requires
-encode-raised-requires c κs = poles (c .before .before .raise .result) (sym (c .before .from-pole .ensures) ∙ c .if1 .taken)
+encode-raised-requires c κs = poles (c .before .before .raise .result) (sym (c .before .pole-to-pole .ensures) ∙ c .if1 .taken)
 
 returns : tie.Need-returns
 returns c =
     let u = c .before .before .before in
     let s = u .before .before .args .spot in
-    let t = sym (c .before .before .from-pole .ensures) ∙ c .before .if1 .taken in
+    let t = sym (c .before .before .pole-to-pole .ensures) ∙ c .before .if1 .taken in
     ap As (c .encode-raised .ensures) ∙ rw (tested (s .latitude) (u .raise .result) (up-is u) true t, back (s .latitude) (u .raise .result) (up-is u) t)
 
 returns-2 : tie.Need-returns-2
 returns-2 c =
     let u = c .before .before in
-    rw (tested (u .before .before .args .spot .latitude) (u .raise .result) (up-is u) false (sym (c .before .from-pole .ensures) ∙ c .if1 .left))
+    rw (tested (u .before .before .args .spot .latitude) (u .raise .result) (up-is u) false (sym (c .before .pole-to-pole .ensures) ∙ c .if1 .left))
 
 pub encode-spec : {M : Type 1} → statement M
 encode-spec =
-    tie.close (tie.spec raise-requires from-pole-requires encode-raised-requires returns returns-2)
+    tie.close (tie.spec raise-requires pole-to-pole-requires encode-raised-requires returns returns-2)

@@ -6,7 +6,7 @@ use native.Mathlib.Omega.{arith}
 use lib.Dec.{leb}
 use mir.Facts.{toZ-ofZ}
 use mir.Syntax.{w32}
-use Rattle.positions.specs.Positions.{fit, fromPole}
+use Rattle.positions.specs.Positions.{fit, poleToPole}
 use Rattle.positions.specs.Code.{raised}
 use Rattle.fields.proofs.Bools.{each}
 use Rattle.positions.proofs.Signed.{poles, tested, back}
@@ -26,15 +26,15 @@ raise-requires c κs = search needs
 fits-requires : tie.Need-fits-requires
 fits-requires c κs = search needs
 
-from-pole-requires : tie.Need-from-pole-requires
-from-pole-requires c κs = search needs
+pole-to-pole-requires : tie.Need-pole-to-pole-requires
+pole-to-pole-requires c κs = search needs
 
 single-raised-requires : tie.Need-single-raised-requires
 single-raised-requires c κs =
     let u = c .before .before .before in
     let a = u .before .before .args in
     let t = each (fit 131072 (a .counts)) (leb 3221225472 (u .raise .result) && leb (u .raise .result) 5368709120)
-    (rw (c .before .before .fits2 .ensures, c .before .from-pole .ensures) at (c .if1 .taken)) in
+    (rw (c .before .before .fits2 .ensures, c .before .pole-to-pole .ensures) at (c .if1 .taken)) in
     (poles (u .raise .result) (t .1), fit-counts (a .counts) (t .0))
 
 returns : tie.Need-returns
@@ -43,7 +43,7 @@ returns c =
     let a = u .before .before .args in
     let w = u .raise .result in
     let t = each (fit 131072 (a .counts)) (leb 3221225472 w && leb w 5368709120)
-    (rw (c .before .before .before .fits2 .ensures, c .before .before .from-pole .ensures) at (c .before .if1 .taken)) in
+    (rw (c .before .before .before .fits2 .ensures, c .before .before .pole-to-pole .ensures) at (c .before .if1 .taken)) in
     rw (t .0, tested (a .reference .latitude) w (up-is u) true (t .1))
     (rw (back (a .reference .latitude) w (up-is u) (t .1)) at (c .single-raised .ensures))
 
@@ -53,8 +53,8 @@ returns-2 c =
     let a = u .before .before .args in
     let w = u .raise .result in
     let t : (fit 131072 (a .counts) && (leb 3221225472 w && leb w 5368709120)) ≡ false =
-    rw (c .before .before .fits2 .ensures, c .before .from-pole .ensures) at (c .if1 .left) in
-    let e : (fit 131072 (a .counts) && fromPole (a .reference .latitude)) ≡ false =
+    rw (c .before .before .fits2 .ensures, c .before .pole-to-pole .ensures) at (c .if1 .left) in
+    let e : (fit 131072 (a .counts) && poleToPole (a .reference .latitude)) ≡ false =
     ap (λ (b : Bool). fit 131072 (a .counts) && b) (tested (a .reference .latitude) w (up-is u) (leb 3221225472 w && leb w 5368709120) refl) ∙ t in
     rw e
 
@@ -64,7 +64,7 @@ single-spec =
     (tie.spec
     raise-requires
     fits-requires
-    from-pole-requires
+    pole-to-pole-requires
     single-raised-requires
     returns
     returns-2)

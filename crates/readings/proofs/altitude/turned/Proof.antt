@@ -5,7 +5,7 @@ use mathlib.Core.Path.{ap}
 use native.Mathlib.Omega.{arith}
 use borrow.Author.Tests.{eq-eqb, ne-eqb}
 use borrow.Author.Needs.{needs}
-use Rattle.readings.specs.Altitude.{turn}
+use Rattle.readings.specs.Altitude.{sixLess}
 use Rattle.readings.proofs.altitude.turned.Statement.{statement}
 use Rattle.readings.proofs.altitude.turned.Tie as tie
 
@@ -16,11 +16,11 @@ sub-result : tie.Need-sub-result
 sub-result c = search needs
 
 returns : tie.Need-returns
-unfolding turn
+unfolding sixLess
 returns c = (simp (eq-eqb _ _ (c .if1 .taken)) (ap (λ (k : ℕ). 6 - k) (c .before .straightened .ensures .0)), omega arith)
 
 returns-2 : tie.Need-returns-2
-unfolding turn
+unfolding sixLess
 returns-2 c = (simp (ne-eqb _ _ (c .if1 .left)) (c .before .straightened .ensures .0), omega arith)
 
 pub turned-spec : {M : Type 1} → statement M
