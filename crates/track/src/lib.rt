@@ -120,8 +120,8 @@ fn airborne_track(t: Track, b: Airborne, time: u64) -> Track
 fn surface_track(t: Track, b: Surface, me: u64, site: Site, time: u64) -> Track
     ensures { λ r. ⌜ r ≡ surfaceTrack t b me site time ⌝ }
 {
-    let none = no_saved();
-    let saved = [none, none];
+    let cleared = no_saved();
+    let saved = [cleared, cleared];
     let latitude = b.latitude;
     let longitude = b.longitude;
     let counts = Counts {

@@ -1,4 +1,4 @@
--- `track::airborne_track` meets its contract: each field is the definition's, and a list of two is its own reading.
+-- `track::airborne_track` meets its contract: each field is the definition's.
 -- Assumes nothing.
 use Rattle.track.specs.Track.{airborneTrack}
 use borrow.Author.Needs.{needs}

@@ -19,7 +19,10 @@ surface-position-requires c κs = search needs
 
 returns : tie.Need-returns
 unfolding surfaceTrack
-returns c = rw (c .surface-position .ensures, c .before .format-of .ensures, c .before .before .with-surface .ensures, c .before .before .before .before .before .before .before .no-saved .ensures)
+returns c =
+    let p = c .before .before in
+    let none = p .before .before .before .before .before .no-saved .ensures in
+    simp (c .surface-position .ensures, c .before .format-of .ensures, p .with-surface .ensures, none)
 
 pub surface-track-spec : {M : Type 1} → statement M
 surface-track-spec =
