@@ -2,3 +2,5 @@ pub mod Numbers
 pub mod Put
 pub mod Latitudes
 pub mod Sizes
+pub mod BothWays
+pub mod Unique
