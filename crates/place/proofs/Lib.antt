@@ -3,4 +3,5 @@ pub mod Put
 pub mod Latitudes
 pub mod Sizes
 pub mod BothWays
+pub mod Steps
 pub mod Unique
