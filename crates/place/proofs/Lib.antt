@@ -1,0 +1,7 @@
+pub mod Numbers
+pub mod Put
+pub mod Latitudes
+pub mod Sizes
+pub mod BothWays
+pub mod Steps
+pub mod Unique

@@ -1,0 +1,26 @@
+-- How many bytes each part of a body has: read off its parts.
+-- Assumes nothing.
+use mathlib.Core.Path.{_≡_, refl}
+use lib.ListN.{length}
+use Rattle.track.specs.declared.Groups.{Groups}
+use Rattle.track.specs.declared.Position.{Position}
+use Rattle.track.specs.declared.Saved.{Saved}
+use Rattle.track.specs.declared.Track.{Track}
+use Rattle.place.specs.Bytes.{lowBytes}
+use Rattle.place.specs.Place.{savedBytes, messageBytes, spotBytes, bodyOf}
+
+pub saved-length : (v : Saved) → length (savedBytes v) ≡ 13
+unfolding savedBytes lowBytes
+saved-length v = refl
+
+pub message-length : (g : Groups) → length (messageBytes g) ≡ 21
+unfolding messageBytes lowBytes
+message-length g = refl
+
+pub spot-length : (p : Position) → length (spotBytes p) ≡ 16
+unfolding spotBytes lowBytes
+spot-length p = refl
+
+pub body-length : (t : Track) → length (bodyOf t) ≡ 75
+unfolding bodyOf savedBytes messageBytes spotBytes lowBytes
+body-length t = refl

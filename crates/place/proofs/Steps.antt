@@ -1,0 +1,284 @@
+-- A step keeps a track that fits: each rule of the step, from the spot that is found up, gives values that fit.
+-- Assumes nothing.
+use Prim.Native.Nat.{ℕ, zero, suc, _+_, _-_, _*_, _%_, _^_, _≤_, _<_}
+use mathlib.Core.Path.{_≡_, refl, sym, ap, _∙_}
+use mathlib.Core.Bool.{Bool, true, false, cond, _&&_}
+use mathlib.Core.List.{List, [], _∷_}
+use native.Mathlib.Nat.{mod-lt}
+use native.Mathlib.Omega.{arith}
+use lib.Dec.{leb, eqb}
+use lib.IntN.{ℤ, natAbs, subℕ}
+use lib.ListN.{length, getD, set}
+use borrow.Author.Tests.{le-leb, leb-true}
+use Rattle.refusals.specs.declared.Refusal.the-variants.{Field, Latitude, Zones}
+use Rattle.fields.proofs.Bools.{each, by-test}
+use Rattle.positions.specs.declared.Counts.{Counts}
+use Rattle.positions.specs.declared.Spot.{Spot}
+use Rattle.positions.specs.declared.Turn.{Turn}
+use Rattle.positions.specs.declared.Turn.the-variants as turn
+use Rattle.positions.specs.declared.Format.{Format}
+use Rattle.positions.specs.declared.Format.the-variants.{Even, Odd}
+use Rattle.positions.specs.declared.Found.{Found}
+use Rattle.positions.specs.declared.Found.the-variants.{At, Refused}
+use Rattle.positions.specs.Zones.{zoneCount}
+use Rattle.positions.specs.Positions.{
+  units,
+  latitudeZones,
+  longitudeZones,
+  allRound,
+  fromPole,
+  rounded,
+  roundedTurn,
+  inside,
+  pairLatitude,
+  pairLongitude,
+  pairCount,
+  pairSpot,
+  pairFound,
+  fit,
+  paired,
+  near,
+  nearSpot,
+  nearFound,
+  singly,
+}
+use Rattle.positions.specs.Code.{nearestℕ}
+use Rattle.positions.proofs.Shift.{abs-is, lifted, lifted-is}
+use Rattle.positions.proofs.Naturals.{rounded-is, rounded-low, rounded-high, rounded-turn}
+use Rattle.layouts.specs.declared.surface.Surface.{Surface}
+use Rattle.layouts.specs.declared.airborne.Airborne.{Airborne}
+use Rattle.layouts.specs.declared.bodies.Body.{Body}
+use Rattle.layouts.specs.declared.bodies.Body.the-variants as body
+use Rattle.layouts.specs.Bodies.{bodyMe, bodyFits}
+use Rattle.layouts.proofs.BothWays.{fitting, me-lt}
+use Rattle.messages.specs.declared.Decoded.{Decoded}
+use Rattle.messages.specs.declared.Decoded.the-variants as decode
+use Rattle.track.specs.declared.Groups.{Groups}
+use Rattle.track.specs.declared.Position.{Position}
+use Rattle.track.specs.declared.Saved.{Saved}
+use Rattle.track.specs.declared.Site.{Site}
+use Rattle.track.specs.declared.Stepped.{Stepped}
+use Rattle.track.specs.declared.Track.{Track}
+use Rattle.track.specs.Groups.{high, atPressure, atHeight}
+use Rattle.track.specs.Located.{
+  formatOf,
+  isWithin,
+  isFresh,
+  settled,
+  readNear,
+  readSingly,
+  pairedWith,
+  afterPair,
+  airbornePosition,
+  surfacePosition,
+}
+use Rattle.track.specs.Track.{noSaved, newTrack, countsIn, groupTrack, airborneTrack, surfaceTrack, stepBody, stepped}
+use Rattle.place.specs.Place.{FitsSaved, FitsGroups, FitsPosition, Fits}
+
+-- ---- a spot that is found
+
+pole-up : (n : ℕ) → 3221225472 ≤ n → n ≤ 5368709120 → fromPole (subℕ n units) ≡ true
+pole-up n l h = le-leb (natAbs (subℕ n units)) 1073741824 (rw (abs-is n units) (omega arith))
+
+rounded-up : (w M : ℕ) → 0 < M → 4 * natAbs (subℕ w M) ≤ M → fromPole (rounded M (subℕ w M)) ≡ true
+rounded-up w M p h =
+    let a = abs-is w M in
+    let l : 3 * M ≤ 4 * w = omega (arith, a) in
+    let u : 4 * w ≤ 5 * M = omega (arith, a) in
+    rw (rounded-is w M p) (pole-up (nearestℕ (w * units) M) (rounded-low w M p l) (rounded-high w M p u))
+
+inside-le : (M : ℕ) (r : ℤ) → inside M r ≡ true → 4 * natAbs r ≤ M
+unfolding inside
+inside-le M r e = leb-true (4 * natAbs r) M e
+
+rounded-pole : (M : ℕ) (r : ℤ) → 0 < M → inside M r ≡ true → fromPole (rounded M r) ≡ true
+rounded-pole M r p e =
+    let h = inside-le M r e in
+    let is : subℕ (lifted r M) M ≡ r = lifted-is r M (omega arith) in
+    ap (λ (z : ℤ). fromPole (rounded M z)) (sym is) ∙ rounded-up (lifted r M) M p (rw is h)
+
+turn-lt : (M v : ℕ) → roundedTurn M v < 2 ^ 32
+turn-lt M v = rw (rounded-turn M v) (mod-lt (nearestℕ (v * units) M) (omega arith))
+
+record FitsSpot (s : Spot) : Type 0 where
+  latitude : fromPole (s .latitude) ≡ true
+  longitude : s .longitude < 2 ^ 32
+
+abbrev FitsFound : Found → Type 0
+FitsFound (At s) = FitsSpot s
+FitsFound (Refused r) = Unit
+
+pair-inside : (f : Format) (a b : ℕ) → (inside (60 * 131072) (pairLatitude 131072 Even a b) && inside (59 * 131072) (pairLatitude 131072 Odd a b)) ≡ true
+    → fromPole (rounded (latitudeZones f * 131072) (pairLatitude 131072 f a b)) ≡ true
+pair-inside Even a b e = rounded-pole (60 * 131072) (pairLatitude 131072 Even a b) (omega arith) (each (inside (60 * 131072) (pairLatitude 131072 Even a b)) _ e .0)
+pair-inside Odd a b e = rounded-pole (59 * 131072) (pairLatitude 131072 Odd a b) (omega arith) (each (inside (60 * 131072) (pairLatitude 131072 Even a b)) _ e .1)
+
+pair-spot-fits : (f : Format) (a b NL even odd : ℕ)
+    → (inside (60 * 131072) (pairLatitude 131072 Even a b) && inside (59 * 131072) (pairLatitude 131072 Odd a b)) ≡ true
+    → FitsSpot (pairSpot 131072 f (pairLatitude 131072 f a b) NL even odd)
+unfolding pairSpot
+pair-spot-fits f a b NL even odd e =
+    record { latitude = pair-inside f a b e; longitude = turn-lt (longitudeZones f NL * 131072) (pairLongitude 131072 f NL even odd) }
+
+pair-fits : (even odd : Counts) (later : Format) → FitsFound (pairFound 131072 even odd later)
+unfolding pairFound
+pair-fits even odd later =
+    let a = even .latitude .0 in
+    let b = odd .latitude .0 in
+    by-test FitsFound (inside (60 * 131072) (pairLatitude 131072 Even a b) && inside (59 * 131072) (pairLatitude 131072 Odd a b)) _ (Refused Latitude)
+    (λ e.
+    by-test FitsFound (eqb (pairCount 131072 Even a b) (pairCount 131072 Odd a b)) _ (Refused Zones)
+    (λ _. pair-spot-fits later a b (pairCount 131072 Even a b) (even .longitude .0) (odd .longitude .0) e)
+    (λ _. tt))
+    (λ _. tt)
+
+paired-fits : (even odd : Counts) (later : Format) → FitsFound (paired 131072 even odd later)
+paired-fits even odd later = by-test FitsFound (fit 131072 even && fit 131072 odd) _ (Refused Field) (λ _. pair-fits even odd later) (λ _. tt)
+
+zones-pos : (k : Turn) (f : Format) → 0 < allRound k (latitudeZones f) * 131072
+unfolding allRound
+zones-pos turn.Airborne Even = omega arith
+zones-pos turn.Airborne Odd = omega arith
+zones-pos turn.Surface Even = omega arith
+zones-pos turn.Surface Odd = omega arith
+
+near-fits : (N : ℕ) (s : Spot) (c : Counts) (k : Turn) (f : Format) → 0 < N * 131072 → FitsFound (nearFound 131072 N s c k f)
+unfolding nearFound nearSpot
+near-fits N s c k f p =
+    let r = near 131072 N (s .latitude) (c .latitude .0) in
+    by-test FitsFound (inside (N * 131072) r) _ (Refused Latitude)
+    (λ e. record { latitude = rounded-pole (N * 131072) r p e; longitude = turn-lt _ _ })
+    (λ _. tt)
+
+singly-fits : (s : Spot) (c : Counts) (k : Turn) (f : Format) → FitsFound (singly 131072 s c k f)
+singly-fits s c k f =
+    by-test FitsFound (fit 131072 c && fromPole (s .latitude)) _ (Refused Field)
+    (λ _. near-fits (allRound k (latitudeZones f)) s c k f (zones-pos k f))
+    (λ _. tt)
+
+-- ---- the position
+
+module _ (p : Position) (fits : FitsPosition p) (time : ℕ) (h : time < 2 ^ 64) where
+  settled-fits : (found : Found) → FitsFound found → FitsPosition (settled found p time)
+  settled-fits (At s) e = record { latitude = e .latitude; longitude = e .longitude; time = h }
+  settled-fits (Refused r) e = fits
+
+  module _ (counts : Counts) (format : Format) where
+    read-near-fits : (reference : Spot) (k : Turn) → FitsPosition (readNear reference p counts k format time)
+    unfolding readNear
+    read-near-fits reference k = settled-fits (singly 131072 reference counts k format) (singly-fits reference counts k format)
+
+    read-singly-fits : FitsPosition (readSingly p counts format time)
+    unfolding readSingly
+    read-singly-fits = by-test FitsPosition (isFresh p time) _ p (λ _. read-near-fits (p .spot) turn.Airborne) (λ _. fits)
+
+    after-pair-fits : (found : Found) → FitsFound found → FitsPosition (afterPair found p counts format time)
+    after-pair-fits (At s) e = record { latitude = e .latitude; longitude = e .longitude; time = h }
+    after-pair-fits (Refused r) e = read-singly-fits
+
+  paired-with-fits : (partner counts : Counts) (format : Format) → FitsFound (pairedWith partner counts format)
+  unfolding pairedWith
+  paired-with-fits partner counts Even = paired-fits counts partner Even
+  paired-with-fits partner counts Odd = paired-fits partner counts Odd
+
+  airborne-fits : (partner : Saved) (counts : Counts) (format : Format) → FitsPosition (airbornePosition p partner counts format time)
+  unfolding airbornePosition
+  airborne-fits partner counts format =
+      by-test FitsPosition (partner .known && isWithin 10000 time (partner .time)) _ _
+      (λ _. after-pair-fits counts format (pairedWith (partner .counts) counts format) (paired-with-fits (partner .counts) counts format))
+      (λ _. read-singly-fits counts format)
+
+  surface-fits : (site : Site) (counts : Counts) (format : Format) → FitsPosition (surfacePosition p site counts format time)
+  unfolding surfacePosition
+  surface-fits site counts format =
+      by-test FitsPosition (isFresh p time) _ _
+      (λ _. read-near-fits counts format (p .spot) turn.Surface)
+      (λ _. by-test FitsPosition (site .known) _ p (λ _. read-near-fits counts format (site .spot) turn.Surface) (λ _. fits))
+
+-- ---- the two saved ones
+
+record FitsTwo (xs : List Saved) : Type 0 where
+  two : length xs ≡ 2
+  even : FitsSaved (getD xs 0 noSaved)
+  odd : FitsSaved (getD xs 1 noSaved)
+
+none-fits : FitsSaved noSaved
+none-fits = record { latitude = omega arith; longitude = omega arith; time = omega arith }
+
+set-fits : (xs : List Saved) (i : ℕ) (v : Saved) → FitsTwo xs → i < 2 → FitsSaved v → FitsTwo (set xs i v)
+set-fits [] i v f l e = let z : ⊥ = omega (arith, f .two) in absurd z
+set-fits (x ∷ []) i v f l e = let z : ⊥ = omega (arith, f .two) in absurd z
+set-fits (x ∷ y ∷ zs) zero v f l e = record { two = f .two; even = e; odd = f .odd }
+set-fits (x ∷ y ∷ zs) (suc zero) v f l e = record { two = f .two; even = f .even; odd = e }
+set-fits (x ∷ y ∷ zs) (suc (suc i)) v f l e = let z : ⊥ = omega arith in absurd z
+
+-- ---- the track
+
+two-of : (t : Track) → Fits t → FitsTwo (t .saved)
+two-of t f = record { two = f .two; even = f .even; odd = f .odd }
+
+track-fits : (t : Track) → t .heard < 2 ^ 64 → FitsGroups (t .groups) → FitsPosition (t .position) → FitsTwo (t .saved) → Fits t
+track-fits t h g p s = record { heard = h; groups = g; position = p; two = s .two; even = s .even; odd = s .odd }
+
+pub new-fits : Fits newTrack
+new-fits =
+    record {
+      heard = omega arith;
+      groups = record { identification = omega arith; velocity = omega arith; surface = omega arith; pressure = omega arith; height = omega arith };
+      position = record { latitude = refl; longitude = omega arith; time = omega arith };
+      two = refl;
+      even = none-fits;
+      odd = none-fits;
+    }
+
+high-fits : (g : Groups) (type altitude : ℕ) → FitsGroups g → altitude < 2 ^ 12 → FitsGroups (high g type altitude)
+high-fits g type altitude f h =
+    by-test FitsGroups (leb type 18) (atPressure g altitude) (atHeight g altitude)
+    (λ _. record { identification = f .identification; velocity = f .velocity; surface = f .surface; pressure = h; height = f .height })
+    (λ _. record { identification = f .identification; velocity = f .velocity; surface = f .surface; pressure = f .pressure; height = h })
+
+module _ (t : Track) (f : Fits t) (site : Site) (time : ℕ) (h : time < 2 ^ 64) where
+  group-fits : (g : Groups) → FitsGroups g → Fits (groupTrack t g time)
+  unfolding groupTrack
+  group-fits g e = record { heard = h; groups = e; position = f .position; two = f .two; even = f .even; odd = f .odd }
+
+  surface-track-fits : (b : Surface) (me : ℕ) → me < 2 ^ 56 → Fits (surfaceTrack t b me site time)
+  unfolding surfaceTrack
+  surface-track-fits b me e =
+      let g = f .groups in
+      record {
+        heard = h;
+        groups = record { identification = g .identification; velocity = g .velocity; surface = e; pressure = g .pressure; height = g .height };
+        position = surface-fits (t .position) (f .position) time h site (record { latitude = b .latitude; longitude = b .longitude }) (formatOf (b .f));
+        two = refl;
+        even = none-fits;
+        odd = none-fits;
+      }
+
+  airborne-track-fits : (b : Airborne) → b .f < 2 → b .altitude < 2 ^ 12 → b .latitude .0 < 2 ^ 17 → b .longitude .0 < 2 ^ 17
+      → Fits (airborneTrack t b time)
+  unfolding airborneTrack
+  airborne-track-fits b l a x y =
+      track-fits _ h (high-fits (t .groups) (b .typecode) (b .altitude) (f .groups) a)
+      (airborne-fits (t .position) (f .position) time h (getD (t .saved) (1 - b .f) noSaved) (countsIn b) (formatOf (b .f)))
+      (set-fits (t .saved) (b .f) (record { known = true; counts = countsIn b; time = time }) (two-of t f) l (record { latitude = x; longitude = y; time = h }))
+
+  body-fits : (b : Body) → bodyFits b ≡ true → Fits (stepBody t b (bodyMe b) site time)
+  body-fits (body.Identification b) e =
+      let g = f .groups in
+      group-fits _ (record { identification = me-lt (body.Identification b) e; velocity = g .velocity; surface = g .surface; pressure = g .pressure; height = g .height })
+  body-fits (body.Surface b) e = surface-track-fits b (bodyMe (body.Surface b)) (me-lt (body.Surface b) e)
+  body-fits (body.Airborne b) e =
+      let w = fitting (body.Airborne b) e .1 .1 .1 in
+      airborne-track-fits b (w .1 .1 .0) (w .0) (w .1 .1 .1 .0) (w .1 .1 .1 .1 .0)
+  body-fits (body.Ground b) e =
+      let g = f .groups in
+      group-fits _ (record { identification = g .identification; velocity = me-lt (body.Ground b) e; surface = g .surface; pressure = g .pressure; height = g .height })
+  body-fits (body.Air b) e =
+      let g = f .groups in
+      group-fits _ (record { identification = g .identification; velocity = me-lt (body.Air b) e; surface = g .surface; pressure = g .pressure; height = g .height })
+
+  pub stepped-fits : (answer : Decoded) → Fits (stepped t answer site time .track)
+  stepped-fits (decode.Refused r) = f
+  stepped-fits (decode.Message m) =
+      by-test (λ (s : Stepped). Fits (s .track)) (bodyFits (m .body)) _ _ (λ e. body-fits (m .body) e) (λ _. f)

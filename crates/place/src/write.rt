@@ -1,0 +1,81 @@
+// The body of a track, part by part. What does not fit its bits is cut.
+use crate::bytes;
+use track::Groups;
+use track::Position;
+use track::Saved;
+use track::Track;
+ghost use mathlib.Core.Path.{_≡_};
+ghost use Prim.Native.Nat.{_+_, _≤_};
+ghost use lib.ListN.{length};
+ghost use Rattle.place.specs.Bytes.{lowBytes, put};
+ghost use Rattle.place.specs.Place.{bit, raised, marksOf, savedNumber, savedBytes, messageBytes, spotBytes, bodyOf};
+
+fn flag(b: bool) -> u64
+    ensures { λ r. ⌜ (r ≡ bit b) × (r ≤ 1) ⌝ }
+{
+    if b { 1 } else { 0 }
+}
+
+fn raise(latitude: i32) -> u64
+    ensures { λ r. ⌜ r ≡ raised latitude ⌝ }
+{
+    (latitude as i64 + 5368709120) as u64
+}
+
+fn marks_of(g: Groups, known: bool) -> u32
+    ensures { λ r. ⌜ r ≡ marksOf g known ⌝ }
+{
+    (g.pressure % 4096) as u32 + (g.height % 4096) as u32 * 4096 + (flag(known) as u32) * 16777216
+}
+
+fn saved_number(v: Saved) -> u64
+    ensures { λ r. ⌜ r ≡ savedNumber v ⌝ }
+{
+    (v.counts.latitude.0 % 131072) as u64
+        + (v.counts.longitude.0 % 131072) as u64 * 131072
+        + flag(v.known) * 17179869184
+}
+
+fn put_saved(s: &mut [u8], at: usize, v: Saved)
+    requires { ⌜ at + 13 ≤ length (now s) ⌝ }
+    ensures { λ _. ⌜ now (s .exit) ≡ put (now (s .entry)) at (savedBytes v) ⌝ }
+{
+    bytes::put5(s, at, saved_number(v));
+    bytes::put8(s, at + 5, v.time);
+}
+
+fn put_messages(s: &mut [u8], at: usize, g: Groups)
+    requires { ⌜ at + 21 ≤ length (now s) ⌝ }
+    ensures { λ _. ⌜ now (s .exit) ≡ put (now (s .entry)) at (messageBytes g) ⌝ }
+{
+    bytes::put7(s, at, g.identification);
+    bytes::put7(s, at + 7, g.velocity);
+    bytes::put7(s, at + 14, g.surface);
+}
+
+fn put_spot(s: &mut [u8], at: usize, p: Position)
+    requires { ⌜ at + 16 ≤ length (now s) ⌝ }
+    ensures { λ _. ⌜ now (s .exit) ≡ put (now (s .entry)) at (spotBytes p) ⌝ }
+{
+    bytes::put4(s, at, (raise(p.spot.latitude) % 4294967296) as u32);
+    bytes::put4(s, at + 4, p.spot.longitude);
+    bytes::put8(s, at + 8, p.time);
+}
+
+// A track's body at an offset.
+pub fn store(s: &mut [u8], at: usize, t: Track)
+    requires { ⌜ at + 75 ≤ length (now s) ⌝ }
+    ensures { λ _. ⌜ now (s .exit) ≡ put (now (s .entry)) at (bodyOf t) ⌝ }
+{
+    let both = t.saved;
+    let even = both[0];
+    let odd = both[1];
+    let g = t.groups;
+    let p = t.position;
+    bytes::put8(s, at, t.heard);
+    put_messages(s, at + 8, g);
+    bytes::put4(s, at + 29, marks_of(g, p.known));
+    put_spot(s, at + 33, p);
+    put_saved(s, at + 49, even);
+    put_saved(s, at + 62, odd);
+}
