@@ -12,7 +12,7 @@ use lib.IntN.{ℤ}
 use lib.ListN.{length, getD}
 use borrow.Author.Tests.{le-leb, lt-ltb}
 use Rattle.fields.specs.Bytes.{Bytes}
-use Rattle.positions.specs.Positions.{fromPole}
+use Rattle.positions.specs.Positions.{poleToPole}
 use Rattle.track.specs.declared.Groups.{Groups}
 use Rattle.track.specs.declared.Position.{Position}
 use Rattle.track.specs.declared.Saved.{Saved}

@@ -10,7 +10,7 @@ use lib.Dec.{leb}
 use lib.IntN.{ℤ, pos, negsuc, subℕ, natAbs, _+ℤ_}
 use lib.Signed.{mag}
 use borrow.Author.Tests.{le-leb, leb-true}
-use Rattle.positions.specs.Positions.{fromPole}
+use Rattle.positions.specs.Positions.{poleToPole}
 use Rattle.positions.proofs.Shift.{sub-pos, sub-neg, order}
 use Rattle.place.specs.Place.{raised, lowered}
 
@@ -31,25 +31,25 @@ lower-small n h =
     (λ (p : n < 1073741824). rw (sub-neg n 1073741824 p) (omega arith))
     (order n 1073741824)
 
-from-pole : (n : ℕ) → n ≤ 2147483648 → fromPole (subℕ n 1073741824) ≡ true
-from-pole n h =
+pole-to-pole : (n : ℕ) → n ≤ 2147483648 → poleToPole (subℕ n 1073741824) ≡ true
+pole-to-pole n h =
     ⊎-elim
     (λ (p : 1073741824 ≤ n). rw (sub-pos n 1073741824 p) (le-leb (n - 1073741824) 1073741824 (omega arith)))
     (λ (p : n < 1073741824). rw (sub-neg n 1073741824 p) (le-leb (suc (1073741824 - suc n)) 1073741824 (omega arith)))
     (order n 1073741824)
 
 -- what is read is from pole to pole
-pub lowered-fits : (n : ℕ) → fromPole (lowered n) ≡ true
+pub lowered-fits : (n : ℕ) → poleToPole (lowered n) ≡ true
 unfolding lowered
-lowered-fits n = from-pole (min n 2147483648) (min-le-right n 2147483648)
+lowered-fits n = pole-to-pole (min n 2147483648) (min-le-right n 2147483648)
 
 -- a latitude from pole to pole: its number is in range, and reads as the latitude
-pub raised-small : (z : ℤ) → fromPole z ≡ true → raised z % 4294967296 ≤ 2147483648
+pub raised-small : (z : ℤ) → poleToPole z ≡ true → raised z % 4294967296 ≤ 2147483648
 unfolding raised
 raised-small (pos a) e = omega (arith, leb-true a 1073741824 e)
 raised-small (negsuc a) e = omega (arith, leb-true (suc a) 1073741824 e)
 
-down : (z : ℤ) → fromPole z ≡ true → subℕ (raised z % 4294967296) 1073741824 ≡ z
+down : (z : ℤ) → poleToPole z ≡ true → subℕ (raised z % 4294967296) 1073741824 ≡ z
 unfolding raised
 down (pos a) e =
     let h : a ≤ 1073741824 = leb-true a 1073741824 e in
@@ -60,6 +60,6 @@ down (negsuc a) e =
     sub-neg ((5368709120 - suc a) % 4294967296) 1073741824 (omega arith)
     ∙ ap negsuc {x = 1073741824 - suc ((5368709120 - suc a) % 4294967296)} {y = a} (omega arith)
 
-pub lowered-raised : (z : ℤ) → fromPole z ≡ true → lowered (raised z % 4294967296) ≡ z
+pub lowered-raised : (z : ℤ) → poleToPole z ≡ true → lowered (raised z % 4294967296) ≡ z
 unfolding lowered
 lowered-raised z e = ap (λ (n : ℕ). subℕ n 1073741824) (min-eq-left (raised-small z e)) ∙ down z e

@@ -26,13 +26,13 @@ use Rattle.positions.specs.Positions.{
   latitudeZones,
   longitudeZones,
   allRound,
-  fromPole,
+  poleToPole,
   rounded,
   roundedTurn,
   inside,
   pairLatitude,
   pairLongitude,
-  pairCount,
+  pairNL,
   pairSpot,
   pairFound,
   fit,
@@ -77,10 +77,10 @@ use Rattle.place.specs.Place.{FitsSaved, FitsGroups, FitsPosition, Fits}
 
 -- ---- a spot that is found
 
-pole-up : (n : ℕ) → 3221225472 ≤ n → n ≤ 5368709120 → fromPole (subℕ n units) ≡ true
+pole-up : (n : ℕ) → 3221225472 ≤ n → n ≤ 5368709120 → poleToPole (subℕ n units) ≡ true
 pole-up n l h = le-leb (natAbs (subℕ n units)) 1073741824 (rw (abs-is n units) (omega arith))
 
-rounded-up : (w M : ℕ) → 0 < M → 4 * natAbs (subℕ w M) ≤ M → fromPole (rounded M (subℕ w M)) ≡ true
+rounded-up : (w M : ℕ) → 0 < M → 4 * natAbs (subℕ w M) ≤ M → poleToPole (rounded M (subℕ w M)) ≡ true
 rounded-up w M p h =
     let a = abs-is w M in
     let l : 3 * M ≤ 4 * w = omega (arith, a) in
@@ -91,17 +91,17 @@ inside-le : (M : ℕ) (r : ℤ) → inside M r ≡ true → 4 * natAbs r ≤ M
 unfolding inside
 inside-le M r e = leb-true (4 * natAbs r) M e
 
-rounded-pole : (M : ℕ) (r : ℤ) → 0 < M → inside M r ≡ true → fromPole (rounded M r) ≡ true
+rounded-pole : (M : ℕ) (r : ℤ) → 0 < M → inside M r ≡ true → poleToPole (rounded M r) ≡ true
 rounded-pole M r p e =
     let h = inside-le M r e in
     let is : subℕ (lifted r M) M ≡ r = lifted-is r M (omega arith) in
-    ap (λ (z : ℤ). fromPole (rounded M z)) (sym is) ∙ rounded-up (lifted r M) M p (rw is h)
+    ap (λ (z : ℤ). poleToPole (rounded M z)) (sym is) ∙ rounded-up (lifted r M) M p (rw is h)
 
 turn-lt : (M v : ℕ) → roundedTurn M v < 2 ^ 32
 turn-lt M v = rw (rounded-turn M v) (mod-lt (nearestℕ (v * units) M) (omega arith))
 
 record FitsSpot (s : Spot) : Type 0 where
-  latitude : fromPole (s .latitude) ≡ true
+  latitude : poleToPole (s .latitude) ≡ true
   longitude : s .longitude < 2 ^ 32
 
 abbrev FitsFound : Found → Type 0
@@ -109,7 +109,7 @@ FitsFound (At s) = FitsSpot s
 FitsFound (Refused r) = Unit
 
 pair-inside : (f : Format) (a b : ℕ) → (inside (60 * 131072) (pairLatitude 131072 Even a b) && inside (59 * 131072) (pairLatitude 131072 Odd a b)) ≡ true
-    → fromPole (rounded (latitudeZones f * 131072) (pairLatitude 131072 f a b)) ≡ true
+    → poleToPole (rounded (latitudeZones f * 131072) (pairLatitude 131072 f a b)) ≡ true
 pair-inside Even a b e = rounded-pole (60 * 131072) (pairLatitude 131072 Even a b) (omega arith) (each (inside (60 * 131072) (pairLatitude 131072 Even a b)) _ e .0)
 pair-inside Odd a b e = rounded-pole (59 * 131072) (pairLatitude 131072 Odd a b) (omega arith) (each (inside (60 * 131072) (pairLatitude 131072 Even a b)) _ e .1)
 
@@ -127,8 +127,8 @@ pair-fits even odd later =
     let b = odd .latitude .0 in
     by-test FitsFound (inside (60 * 131072) (pairLatitude 131072 Even a b) && inside (59 * 131072) (pairLatitude 131072 Odd a b)) _ (Refused Latitude)
     (λ e.
-    by-test FitsFound (eqb (pairCount 131072 Even a b) (pairCount 131072 Odd a b)) _ (Refused Zones)
-    (λ _. pair-spot-fits later a b (pairCount 131072 Even a b) (even .longitude .0) (odd .longitude .0) e)
+    by-test FitsFound (eqb (pairNL 131072 Even a b) (pairNL 131072 Odd a b)) _ (Refused Zones)
+    (λ _. pair-spot-fits later a b (pairNL 131072 Even a b) (even .longitude .0) (odd .longitude .0) e)
     (λ _. tt))
     (λ _. tt)
 
@@ -152,7 +152,7 @@ near-fits N s c k f p =
 
 singly-fits : (s : Spot) (c : Counts) (k : Turn) (f : Format) → FitsFound (singly 131072 s c k f)
 singly-fits s c k f =
-    by-test FitsFound (fit 131072 c && fromPole (s .latitude)) _ (Refused Field)
+    by-test FitsFound (fit 131072 c && poleToPole (s .latitude)) _ (Refused Field)
     (λ _. near-fits (allRound k (latitudeZones f)) s c k f (zones-pos k f))
     (λ _. tt)
 

@@ -6,7 +6,7 @@ use mathlib.Core.List.{List, [], _∷_, _++_}
 use lib.Dec.{eqb, leb, ltb}
 use lib.IntN.{ℤ, pos, negsuc, subℕ}
 use lib.ListN.{length, getD}
-use Rattle.positions.specs.Positions.{fromPole}
+use Rattle.positions.specs.Positions.{poleToPole}
 use Rattle.track.specs.declared.Groups.{Groups}
 use Rattle.track.specs.declared.Position.{Position}
 use Rattle.track.specs.declared.Saved.{Saved}
@@ -122,7 +122,7 @@ pub record FitsGroups (g : Groups) : Type 0 where
   pub height : g .height < 2 ^ 12
 
 pub record FitsPosition (p : Position) : Type 0 where
-  pub latitude : fromPole (p .spot .latitude) ≡ true
+  pub latitude : poleToPole (p .spot .latitude) ≡ true
   pub longitude : p .spot .longitude < 2 ^ 32
   pub time : p .time < 2 ^ 64
 
