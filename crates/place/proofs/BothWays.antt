@@ -1,46 +1,21 @@
 -- A body and its track: what was written is read back, what is read fits, and what fits is written in range.
 -- Each number of a body is read off its bytes by the one law of the width, and the values off their number by their bits.
 -- Assumes nothing.
-use Prim.Native.Nat.{ℕ, zero, suc, _+_, _*_, _-_, _/_, _%_, _^_, _<_, _≤_}
-use mathlib.Core.Path.{_≡_, refl, sym, ap, ap₂, _∙_}
-use mathlib.Core.Bool.{Bool, true, false, _&&_}
+use Prim.Native.Nat.{ℕ, _+_, _*_, _-_, _/_, _%_, _^_, _<_, _≤_}
+use mathlib.Core.Path.{_≡_, refl, ap₂, _∙_}
+use mathlib.Core.Bool.{Bool, true, false}
 use mathlib.Core.List.{List, [], _∷_}
-use native.Mathlib.Nat.{mod-eq-of-lt, mod-lt}
+use native.Mathlib.Nat.{mod-eq-of-lt}
 use native.Mathlib.Omega.{arith}
-use lib.Dec.{eqb, leb, ltb}
-use lib.IntN.{ℤ}
+use lib.Dec.{eqb}
 use lib.ListN.{length, getD}
 use borrow.Author.Tests.{le-leb, lt-ltb}
 use Rattle.fields.specs.Bytes.{Bytes}
-use Rattle.positions.specs.Positions.{fromPole}
-use Rattle.track.specs.declared.Groups.{Groups}
-use Rattle.track.specs.declared.Position.{Position}
 use Rattle.track.specs.declared.Saved.{Saved}
 use Rattle.track.specs.declared.Track.{Track}
 use Rattle.track.specs.Track.{noSaved}
 use Rattle.place.specs.Bytes.{numberAt, lowBytes}
-use Rattle.place.specs.Place.{
-  savedFrom,
-  savedAt,
-  groupsIn,
-  lowered,
-  positionIn,
-  trackOf,
-  bit,
-  raised,
-  marksOf,
-  savedNumber,
-  savedBytes,
-  messageBytes,
-  spotBytes,
-  bodyOf,
-  inRange,
-  held,
-  FitsSaved,
-  FitsGroups,
-  FitsPosition,
-  Fits,
-}
+use Rattle.place.specs.Place.{savedFrom, groupsIn, positionIn, trackOf, bit, raised, marksOf, savedNumber, savedBytes, messageBytes, spotBytes, bodyOf, inRange, held, FitsSaved, FitsGroups, FitsPosition, Fits}
 use Rattle.place.proofs.Numbers.{read-back, number-lt}
 use Rattle.place.proofs.Latitudes.{lowered-fits, raised-small, lowered-raised}
 
