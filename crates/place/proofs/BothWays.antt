@@ -1,46 +1,22 @@
 -- A body and its track: what was written is read back, what is read fits, and what fits is written in range.
 -- Each number of a body is read off its bytes by the one law of the width, and the values off their number by their bits.
 -- Assumes nothing.
-use Prim.Native.Nat.{ℕ, zero, suc, _+_, _*_, _-_, _/_, _%_, _^_, _<_, _≤_}
-use mathlib.Core.Path.{_≡_, refl, sym, ap, ap₂, _∙_}
+use Prim.Native.Nat.{ℕ, _+_, _*_, _-_, _/_, _%_, _^_, _<_, _≤_}
+use mathlib.Core.Path.{_≡_, refl, sym, ap₂, _∙_}
 use mathlib.Core.Bool.{Bool, true, false, _&&_}
 use mathlib.Core.List.{List, [], _∷_}
-use native.Mathlib.Nat.{mod-eq-of-lt, mod-lt}
+use native.Mathlib.Nat.{mod-eq-of-lt}
 use native.Mathlib.Omega.{arith}
-use lib.Dec.{eqb, leb, ltb}
-use lib.IntN.{ℤ}
+use lib.Dec.{eqb, ltb}
 use lib.ListN.{length, getD}
-use borrow.Author.Tests.{le-leb, lt-ltb}
+use borrow.Author.Tests.{le-leb, lt-ltb, ltb-true}
 use Rattle.fields.specs.Bytes.{Bytes}
-use Rattle.positions.specs.Positions.{poleToPole}
-use Rattle.track.specs.declared.Groups.{Groups}
-use Rattle.track.specs.declared.Position.{Position}
+use Rattle.fields.proofs.Bools.{and-false}
 use Rattle.track.specs.declared.Saved.{Saved}
 use Rattle.track.specs.declared.Track.{Track}
 use Rattle.track.specs.Track.{noSaved}
 use Rattle.place.specs.Bytes.{numberAt, lowBytes}
-use Rattle.place.specs.Place.{
-  savedFrom,
-  savedAt,
-  groupsIn,
-  lowered,
-  positionIn,
-  trackOf,
-  bit,
-  raised,
-  marksOf,
-  savedNumber,
-  savedBytes,
-  messageBytes,
-  spotBytes,
-  bodyOf,
-  inRange,
-  held,
-  FitsSaved,
-  FitsGroups,
-  FitsPosition,
-  Fits,
-}
+use Rattle.place.specs.Place.{savedFrom, groupsIn, positionIn, trackOf, bit, raised, marksOf, savedNumber, savedBytes, messageBytes, spotBytes, bodyOf, inRange, held, FitsSaved, FitsGroups, FitsPosition, Fits}
 use Rattle.place.proofs.Numbers.{read-back, number-lt}
 use Rattle.place.proofs.Latitudes.{lowered-fits, raised-small, lowered-raised}
 
@@ -194,3 +170,16 @@ module _ (p : List ℕ) (h : Bytes p) where
         even = saved-fits (numberAt 5 p 49) (numberAt 8 p 54) (number-lt 8 p 54 h);
         odd = saved-fits (numberAt 5 p 62) (numberAt 8 p 67) (number-lt 8 p 67 h);
       }
+
+-- ---- at a later clock a place is held if it was, and if it is still young enough
+
+narrowed : (a x y : Bool) → (y ≡ true → x ≡ true) → a && y ≡ (a && x) && y
+narrowed false x y h = refl
+narrowed true x true h = rw (h refl)
+narrowed true x false h = sym (and-false x)
+
+pub held-later : (c t key : ℕ) (p : List ℕ) → c ≤ t → held t key p ≡ held c key p && ltb (t - numberAt 8 p 0) 125000
+unfolding held
+held-later c t key p h =
+    narrowed (inRange key p) (ltb (c - numberAt 8 p 0) 125000) (ltb (t - numberAt 8 p 0) 125000)
+    (λ e. lt-ltb (c - numberAt 8 p 0) 125000 (omega (arith, ltb-true (t - numberAt 8 p 0) 125000 e)))

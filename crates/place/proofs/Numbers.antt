@@ -1,14 +1,12 @@
 -- Reading back what was written, over the width: by induction, a byte at a time.
 -- Assumes nothing.
-use Prim.Native.Nat.{ℕ, zero, suc, _+_, _*_, _/_, _%_, _^_, _<_, _≤_}
+use Prim.Native.Nat.{ℕ, zero, suc, _+_, _*_, _/_, _%_, _^_, _<_}
 use mathlib.Core.Path.{_≡_, refl, sym, ap, ap₂, _∙_}
 use mathlib.Core.List.{List, [], _∷_, _++_}
-use native.Mathlib.Nat.{add-zero, mod-lt}
 use native.Mathlib.Omega.{arith}
 use lib.ListN.{length, getD}
 use lib.Pow.{pow-add, mod-pow-add}
 use Rattle.fields.specs.Bytes.{Bytes}
-use Rattle.fields.proofs.Bytes.{pow-byte}
 use Rattle.place.specs.Bytes.{numberAt, lowBytes}
 
 pub low-length : (k n : ℕ) → length (lowBytes k n) ≡ k

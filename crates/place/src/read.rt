@@ -12,7 +12,6 @@ ghost use mathlib.Core.Path.{_≡_};
 ghost use Prim.Native.Nat.{_+_, _≤_, min};
 ghost use lib.ListN.{length};
 ghost use lib.IntN.{subℕ};
-ghost use Rattle.place.specs.Bytes.{numberAt};
 ghost use Rattle.place.specs.Place.{savedFrom, savedAt, groupsIn, positionIn, trackOf};
 
 // A latitude's number, at most that of the north pole.

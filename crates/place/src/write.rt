@@ -7,7 +7,7 @@ use track::Track;
 ghost use mathlib.Core.Path.{_≡_};
 ghost use Prim.Native.Nat.{_+_, _≤_};
 ghost use lib.ListN.{length};
-ghost use Rattle.place.specs.Bytes.{lowBytes, put};
+ghost use Rattle.place.specs.Bytes.{put};
 ghost use Rattle.place.specs.Place.{bit, raised, marksOf, savedNumber, savedBytes, messageBytes, spotBytes, bodyOf};
 
 fn flag(b: bool) -> u64
