@@ -12,8 +12,12 @@ use Rattle.place.proofs.bytes.put4.Kinds as put4-kinds
 use Rattle.place.proofs.bytes.put4.Reads as put4
 use Rattle.place.proofs.bytes.put8.Kinds as put8-kinds
 use Rattle.place.proofs.bytes.put8.Reads as put8
+use Rattle.place.proofs.read.latitude_of.Kinds as latitude-of-kinds
+use Rattle.place.proofs.read.latitude_of.Reads as latitude-of
 use Rattle.place.proofs.read.load.Kinds as load-kinds
 use Rattle.place.proofs.read.load.Reads as load
+use Rattle.place.proofs.write.raise.Kinds as raise-kinds
+use Rattle.place.proofs.write.raise.Reads as raise
 use Rattle.place.proofs.write.store.Kinds as store-kinds
 use Rattle.place.proofs.write.store.Reads as store
 use Rattle.place.proofs.in_range.Kinds as in-range-kinds
@@ -33,8 +37,14 @@ put4-once κs args x y left left′ p q = p ∙ sym q
 pub put8-once : OneOutcome 1 put8-kinds.ps put8-kinds.r (List ℕ) (λ κs x left. left .0 .now) put8.Post
 put8-once κs args x y left left′ p q = p ∙ sym q
 
+pub latitude-of-once : OneAnswer 0 latitude-of-kinds.ps latitude-of-kinds.r latitude-of.Post
+latitude-of-once κs args x y left left′ p q = p ∙ sym q
+
 pub load-once : OneAnswer 1 load-kinds.ps load-kinds.r load.Post
 load-once κs args x y left left′ p q = p ∙ sym q
+
+pub raise-once : OneAnswer 0 raise-kinds.ps raise-kinds.r raise.Post
+raise-once κs args x y left left′ p q = p ∙ sym q
 
 pub store-once : OneOutcome 1 store-kinds.ps store-kinds.r (List ℕ) (λ κs x left. left .0 .now) store.Post
 store-once κs args x y left left′ p q = p ∙ sym q

@@ -23,7 +23,9 @@ pub use bytes::get4;
 pub use bytes::get8;
 pub use bytes::put4;
 pub use bytes::put8;
+pub use read::latitude_of;
 pub use read::load;
+pub use write::raise;
 pub use write::store;
 ghost use mathlib.Core.Path.{_≡_};
 ghost use Prim.Native.Nat.{_-_};
@@ -38,11 +40,11 @@ pub fn in_range(key: u32, p: &[u8]) -> bool
     (16777216 <= key) & (key < 50331648) & (bytes::get4(p, 33) <= 2147483648)
 }
 
-// How old a time is; one after the clock has age 0.
-fn age(clock: u64, time: u64) -> u64
-    ensures { λ r. ⌜ r ≡ clock - time ⌝ }
+// The earliest time that is less than 125,000 ago.
+fn earliest(clock: u64) -> u64
+    ensures { λ r. ⌜ r ≡ clock - 124999 ⌝ }
 {
-    if clock < time { 0 } else { clock - time }
+    if clock < 124999 { 0 } else { clock - 124999 }
 }
 
 // Whether the place is held at the clock: in range, and heard less than 125,000 ago.
@@ -50,5 +52,5 @@ pub fn is_held(clock: u64, key: u32, p: &[u8]) -> bool
     requires { ⌜ length (now p) ≡ 75 ⌝ }
     ensures { λ r. ⌜ r ≡ held clock key (now (p .entry)) ⌝ }
 {
-    in_range(key, p) & (age(clock, bytes::get8(p, 0)) < 125000)
+    in_range(key, p) & (earliest(clock) <= bytes::get8(p, 0))
 }

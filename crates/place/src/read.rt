@@ -12,7 +12,7 @@ ghost use mathlib.Core.Path.{_≡_};
 ghost use Prim.Native.Nat.{_+_, _≤_, min};
 ghost use lib.ListN.{length};
 ghost use lib.IntN.{subℕ};
-ghost use Rattle.place.specs.Place.{savedFrom, savedAt, groupsIn, positionIn, trackOf};
+ghost use Rattle.place.specs.Place.{lowered, savedFrom, savedAt, groupsIn, positionIn, trackOf};
 
 // A latitude's number, at most that of the north pole.
 fn capped(n: u32) -> u32
@@ -26,6 +26,13 @@ fn lower(n: u32) -> i32
     ensures { λ r. ⌜ r ≡ subℕ n 1073741824 ⌝ }
 {
     (n as i64 - 1073741824) as i32
+}
+
+// The latitude of its number; one above its range is read as the pole.
+pub fn latitude_of(n: u32) -> i32
+    ensures { λ r. ⌜ r ≡ lowered n ⌝ }
+{
+    lower(capped(n))
 }
 
 fn saved_from(n: u64, time: u64) -> Saved
@@ -67,7 +74,7 @@ fn position_in(p: &[u8]) -> Position
     ensures { λ r. ⌜ r ≡ positionIn (now (p .entry)) ⌝ }
 {
     let marks = bytes::get4(p, 29);
-    let latitude = lower(capped(bytes::get4(p, 33)));
+    let latitude = latitude_of(bytes::get4(p, 33));
     Position {
         known: marks / 16777216 % 2 == 1,
         spot: Spot {

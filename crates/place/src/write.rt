@@ -16,7 +16,8 @@ fn flag(b: bool) -> u64
     if b { 1 } else { 0 }
 }
 
-fn raise(latitude: i32) -> u64
+// A latitude, 2^32 + 2^30 up, so that none is below 0.
+pub fn raise(latitude: i32) -> u64
     ensures { λ r. ⌜ r ≡ raised latitude ⌝ }
 {
     (latitude as i64 + 5368709120) as u64
