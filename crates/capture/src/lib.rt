@@ -3,6 +3,7 @@ use refusals::Refusal;
 ghost use mathlib.Core.Path.{_≡_};
 ghost use Prim.Native.Nat.{_<_};
 ghost use Rattle.capture.specs.Block.{zeros, blockOf, recordOf, messageOf};
+ghost use Rattle.capture.specs.Reader.{begun, afterOf, gives, turned};
 
 pub enum Block {
     // how many records it has
@@ -90,4 +91,32 @@ pub fn message_of(b: &[u8], i: usize) -> &[u8]
         }
         Record::Ended => &b[0..0],
     }
+}
+
+// A reader of the block that it was lent: it gives one record at a time.
+pub struct Reader<'a> {
+    block: &'a [u8],
+    // the record that it stands at
+    at: usize,
+}
+
+pub fn reader_of<'a>(block: &'a [u8]) -> Reader<'a>
+    ensures { λ r. ⌜ r ≡ begun (block .entry) ⌝ }
+{
+    Reader { block, at: 0 }
+}
+
+fn after(i: usize) -> usize
+    ensures { λ r. ⌜ r ≡ afterOf i ⌝ }
+{
+    if i < 23 { i + 1 } else { i }
+}
+
+// Gives the record that the reader stands at, and moves on.
+pub fn advance<'s, 'a>(r: &'s mut Reader<'a>) -> Record
+    ensures { λ s. ⌜ (s ≡ gives (now (r .entry))) × (now (r .exit) ≡ turned (now (r .entry))) ⌝ }
+{
+    let i = r.at;
+    r.at = after(i);
+    record_of(r.block, i)
 }
