@@ -1,3 +1,4 @@
 pub mod Parts
 pub mod Ways
 pub mod Rules
+pub mod Turns

@@ -23,3 +23,8 @@ afterOf i = cond (ltb i 23) (i + 1) i
 -- one turn: the block stays, and the number moves on
 abbrev pub turned : Reader → Reader
 turned r = record { block = r .block; at = afterOf (r .at) }
+
+-- so many turns
+abbrev pub turns : ℕ → Reader → Reader
+turns zero r = r
+turns (suc k) r = turned (turns k r)

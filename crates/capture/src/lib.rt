@@ -3,7 +3,7 @@ use refusals::Refusal;
 ghost use mathlib.Core.Path.{_≡_};
 ghost use Prim.Native.Nat.{_<_};
 ghost use Rattle.capture.specs.Block.{zeros, blockOf, recordOf, messageOf};
-ghost use Rattle.capture.specs.Reader.{begun, afterOf, gives, turned};
+ghost use Rattle.capture.specs.Reader.{begun, afterOf, gives, turned, turns};
 
 pub enum Block {
     // how many records it has
@@ -119,4 +119,12 @@ pub fn advance<'s, 'a>(r: &'s mut Reader<'a>) -> Record
     let i = r.at;
     r.at = after(i);
     record_of(r.block, i)
+}
+
+// What a reader of the block gives after i turns: who calls this needs no reader of its own.
+pub fn nth(block: &[u8], i: usize) -> Record
+    ensures { λ r. ⌜ r ≡ gives (turns i (begun (block .entry))) ⌝ }
+{
+    let mut r = Reader { block, at: i };
+    advance(&mut r)
 }
