@@ -2,7 +2,7 @@
 -- Assumes nothing.
 use mathlib.Core.Path.{sym, _∙_}
 use native.Mathlib.Omega.{arith}
-use Rattle.capture.proofs.Rules.{inside, message-at, message-ended}
+use Rattle.capture.proofs.Records.{inside, message-at, message-ended}
 use borrow.Author.Needs.{needs}
 use Rattle.capture.proofs.message_of.Statement.{statement}
 use Rattle.capture.proofs.message_of.Tie as tie
