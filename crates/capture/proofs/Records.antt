@@ -1,6 +1,6 @@
--- Which records a block has, and what each is: by the cases of the test that there is one.
+-- Which records a block has, and what each is: by the cases of the test whether there is one.
 -- Assumes nothing.
-use Prim.Native.Nat.{ℕ, _+_, _*_, _<_, _≤_}
+use Prim.Native.Nat.{ℕ, _+_, _-_, _*_, _%_, _^_, _<_, _≤_}
 use mathlib.Core.Path.{_≡_, refl, sym, ap₂, subst, _∙_}
 use mathlib.Core.Logic.{_⊎_, inl, inr}
 use mathlib.Core.Bool.{true, false, _&&_}
@@ -8,7 +8,9 @@ use mathlib.Core.List.{List, []}
 use native.Mathlib.Omega.{arith}
 use borrow.Author.Tests.{eqb-true, ltb-true, ltb-false, eq-eqb, lt-ltb, le-ltb}
 use lib.Dec.{eqb, ltb}
-use lib.ListN.{length}
+use lib.ListN.{length, drop}
+use Rattle.fields.specs.Bytes.{Bytes}
+use Rattle.fields.proofs.Bytes.{bytes-take, bytes-drop, number-whole}
 use Rattle.fields.proofs.Bools.{not-each, and-false, by-test}
 use Rattle.capture.specs.Block.{part, countOf, startOf, timeOf, good, hasRecord, recordOf, messageOf}
 use Rattle.capture.specs.declared.Record.{Record}
@@ -22,42 +24,51 @@ has-record b i e =
     let p = all-three (eqb (length b) 512) (ltb i (countOf b)) (ltb i 23) e in
     (eqb-true _ _ (p .0), ltb-true _ _ (p .1), ltb-true _ _ (p .2))
 
--- ---- a good block's records are as many as its count says, and then it has ended
+-- ---- where there is a record, and where there is none
 
-pub good-at : (b : List ℕ) (i : ℕ) → good b ≡ true → i < countOf b → recordOf b i ≡ At (timeOf b i) (3 + 22 * i + 8)
+pub there : (b : List ℕ) (i : ℕ) → length b ≡ 512 → i < countOf b → i < 23 → recordOf b i ≡ At (timeOf b i) (startOf i + 8)
 unfolding recordOf
-good-at b i e h =
-    let k = good-keeps b e in
-    rw (eq-eqb (length b) 512 (k .size), lt-ltb i (countOf b) h, lt-ltb i 23 (omega (arith, k .most)))
+there b i e h l = rw (eq-eqb (length b) 512 e, lt-ltb i (countOf b) h, lt-ltb i 23 l)
+
+pub no-block : (b : List ℕ) (i : ℕ) → eqb (length b) 512 ≡ false → recordOf b i ≡ Ended
+unfolding recordOf
+no-block b i e = rw e
 
 pub count-ended : (b : List ℕ) (i : ℕ) → countOf b ≤ i → recordOf b i ≡ Ended
 unfolding recordOf
 count-ended b i h = rw (le-ltb i (countOf b) h, and-false (eqb (length b) 512))
 
--- from 23 on no block has a record
 pub past-ended : (b : List ℕ) (i : ℕ) → 23 ≤ i → recordOf b i ≡ Ended
 unfolding recordOf
 past-ended b i h = rw (le-ltb i 23 h, and-false (eqb (length b) 512 && ltb i (countOf b)))
 
+-- so a good block's records are as many as its count says, and then it has ended (`count-ended`)
+pub good-at : (b : List ℕ) (i : ℕ) → good b ≡ true → i < countOf b → recordOf b i ≡ At (timeOf b i) (3 + 22 * i + 8)
+good-at b i e h =
+    let k = good-keeps b e in
+    there b i (k .size) h (omega (arith, k .most))
+
+-- a time has 64 bits
+pub time-whole : (b : List ℕ) (i : ℕ) → Bytes b → startOf i + 8 ≤ length b → timeOf b i % 2 ^ 64 ≡ timeOf b i
+time-whole b i y h =
+    let k : length (part (startOf i) (startOf i + 8) b) ≡ 8 = length-part (startOf i) (startOf i + 8) b h ∙ omega arith in
+    number-whole (part (startOf i) (startOf i + 8) b) (bytes-take (startOf i + 8 - startOf i) (drop (startOf i) b) (bytes-drop (startOf i) b y)) (omega (arith, k))
+
 -- ---- what an answer tells
 
-abbrev Given : List ℕ → ℕ → Record → Type 0
-Given b i (At t a) = (hasRecord b i ≡ true) × (t ≡ timeOf b i) × (a ≡ startOf i + 8)
-Given b i Ended = hasRecord b i ≡ false
+abbrev Told : List ℕ → ℕ → Record → Type 0
+Told b i (At t a) = (hasRecord b i ≡ true) × (t ≡ timeOf b i) × (a ≡ startOf i + 8)
+Told b i Ended = hasRecord b i ≡ false
 
-given : (b : List ℕ) (i : ℕ) → Given b i (recordOf b i)
+told : (b : List ℕ) (i : ℕ) → Told b i (recordOf b i)
 unfolding recordOf
-given b i = by-test (Given b i) (hasRecord b i) _ _ (λ h. (h, refl, refl)) (λ h. h)
+told b i = by-test (Told b i) (hasRecord b i) _ _ (λ h. (h, refl, refl)) (λ h. h)
 
 pub record-at : (b : List ℕ) (i t a : ℕ) → recordOf b i ≡ At t a → (hasRecord b i ≡ true) × (t ≡ timeOf b i) × (a ≡ startOf i + 8)
-record-at b i t a e = subst (Given b i) e (given b i)
+record-at b i t a e = subst (Told b i) e (told b i)
 
 pub record-ended : (b : List ℕ) (i : ℕ) → recordOf b i ≡ Ended → hasRecord b i ≡ false
-record-ended b i e = subst (Given b i) e (given b i)
-
-no-block : (b : List ℕ) (i : ℕ) → eqb (length b) 512 ≡ false → recordOf b i ≡ Ended
-unfolding recordOf
-no-block b i e = rw e
+record-ended b i e = subst (Told b i) e (told b i)
 
 later : (b : List ℕ) (i j : ℕ) → i ≤ j → (eqb (length b) 512 ≡ false) ⊎ (ltb i (countOf b) ≡ false) → recordOf b j ≡ Ended
 later b i j l (inl e) = no-block b j e

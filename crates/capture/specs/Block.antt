@@ -13,10 +13,11 @@ use Rattle.capture.specs.declared.Block.the-variants.{Good, Refused}
 use Rattle.capture.specs.declared.Record.{Record}
 use Rattle.capture.specs.declared.Record.the-variants.{At, Ended}
 
--- the bytes from one place up to another
+-- the bytes from one number up to another, counted from 0, the last not included
 abbrev pub part : ℕ → ℕ → List ℕ → List ℕ
 part from to s = take (to - from) (drop from s)
 
+-- count: byte 0
 abbrev pub countOf : List ℕ → ℕ
 countOf b = getD b 0 0
 

@@ -36,7 +36,7 @@ fn all_zero(s: &[u8]) -> bool
     true
 }
 
-// Whether a block keeps its rules.
+// Whether a block keeps its rules, and how many records it has.
 pub fn block_of(b: &[u8]) -> Block
     ensures { λ r. ⌜ r ≡ blockOf (now (b .entry)) ⌝ }
 {
@@ -100,12 +100,14 @@ pub struct Reader<'a> {
     at: usize,
 }
 
+// A reader before its first turn.
 pub fn reader_of<'a>(block: &'a [u8]) -> Reader<'a>
     ensures { λ r. ⌜ r ≡ begun (block .entry) ⌝ }
 {
     Reader { block, at: 0 }
 }
 
+// Where a reader stands after a turn. No block has a record 23, so it may stay there, and the number never runs over.
 fn after(i: usize) -> usize
     ensures { λ r. ⌜ r ≡ afterOf i ⌝ }
 {
@@ -121,7 +123,7 @@ pub fn advance<'s, 'a>(r: &'s mut Reader<'a>) -> Record
     record_of(r.block, i)
 }
 
-// What a reader of the block gives after i turns: who calls this needs no reader of its own.
+// What a reader of the block gives after i turns. Who calls this needs no reader of its own; one that is made at i spares the turns.
 pub fn nth(block: &[u8], i: usize) -> Record
     ensures { λ r. ⌜ r ≡ gives (turns i (begun (block .entry))) ⌝ }
 {
