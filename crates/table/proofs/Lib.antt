@@ -1,2 +1,3 @@
 pub mod Parts
 pub mod Search
+pub mod Ways
