@@ -1,5 +1,5 @@
 pub mod Parts
-pub mod Search
-pub mod Ways
+pub mod Scanned
+pub mod Answers
 pub mod Unique
 pub mod KeyOrder

@@ -14,7 +14,7 @@ use Rattle.fields.proofs.Bools.{and-left, and-right}
 use Rattle.place.specs.Bytes.{numberAt}
 use Rattle.place.specs.Place.{held}
 use Rattle.table.specs.Layout.{Place, keyAt, bodyAt, placeAt, isHeld, holds}
-use Rattle.table.specs.Scan.{noneOf}
+use Rattle.table.specs.Scan.{noneOf, allHeld}
 use Rattle.table.specs.Table.{lowest, better, smallest}
 
 -- none below i, and then one at i, whose test was h
@@ -29,6 +29,11 @@ module _ (p : ℕ → Bool) (i : ℕ) (e : lowest p i ≡ i) {h : Bool} (h-is : 
       (λ (k : i ≡ n). rw (← k, e, le-ltb i i (omega arith), ← h-is, f))
       (λ (k : i < n). let r : lowest p n ≡ i = lowest-found f n k in rw (r, lt-ltb i n k))
       (eq-or-lt-of-le (omega arith))
+
+-- of r that fail the test none is the lowest
+pub all-fail : (p : ℕ → Bool) (r : ℕ) → ((j : ℕ) → j < r → p j ≡ false) → lowest p r ≡ r
+all-fail p zero h = refl
+all-fail p (suc r) h = rw (add-one r) at (lowest-none p r (all-fail p r (λ j g. h j (omega arith))) refl (h r (omega arith)))
 
 -- ---- the keys, 8 and 16 at a time
 
@@ -66,9 +71,36 @@ skip-more s key i {x} {y} below p q h j g = by-cases (ltb j i) (ltb j (i + 8)) r
 -- what was skipped is not held with the key
 pub skipped : (s : List ℕ) (n clock key r : ℕ) → ((j : ℕ) → j < r → eqb (numberAt 4 s (16 + 4 * j)) key ≡ false) → lowest (λ j. holds clock key (placeAt s n j)) r ≡ r
 unfolding holds keyAt
-skipped s n clock key zero h = refl
-skipped s n clock key (suc r) h =
-    rw (add-one r) at (lowest-none (λ j. holds clock key (placeAt s n j)) r (skipped s n clock key r (λ j g. h j (omega arith))) refl (rw (h r (omega arith))))
+skipped s n clock key r h = all-fail (λ j. holds clock key (placeAt s n j)) r (λ j g. rw (h j g))
+
+-- ---- the places, 4 at a time
+
+module _ (f : ℕ → Place) (clock : ℕ) where
+  pub held-4 : (i : ℕ) {h₀ h₁ h₂ h₃ : Bool} → h₀ ≡ isHeld clock (f i) → h₁ ≡ isHeld clock (f (i + 1)) → h₂ ≡ isHeld clock (f (i + 2)) → h₃ ≡ isHeld clock (f (i + 3))
+      → h₀ && h₁ && h₂ && h₃ ≡ allHeld 4 f i clock
+  held-4 i e₀ e₁ e₂ e₃ = rw (add-zero i, e₀, e₁, e₂, e₃) refl
+
+  held-each : (m i : ℕ) → allHeld m f i clock ≡ true → (k : ℕ) → k < m → isHeld clock (f (i + k)) ≡ true
+  held-each zero i h k g = absurd (omega arith)
+  held-each (suc m) i h k g =
+      ⊎-elim
+      (λ (e : k ≡ m). rw e (and-right (allHeld m f i clock) _ h))
+      (λ (e : k < m). held-each m i (and-left (allHeld m f i clock) _ h) k e)
+      (eq-or-lt-of-le {n = k} {m = m} (omega arith))
+
+  pub held-more : (i : ℕ) {x : Bool} → ((j : ℕ) → j < i → isHeld clock (f j) ≡ true) → x ≡ allHeld 4 f i clock → not x ≡ false
+      → (j : ℕ) → j < i + 4 → isHeld clock (f j) ≡ true
+  held-more i {x} below e h j g = by-cases (ltb j i) refl
+    where
+      by-cases : (b : Bool) → ltb j i ≡ b → isHeld clock (f j) ≡ true
+      by-cases true l = below j (ltb-true _ _ l)
+      by-cases false l =
+          let o : i + (j - i) ≡ j = omega (arith, ltb-false j i l) in
+          rw o at (held-each 4 i (sym e ∙ not-false x h) (j - i) (omega (arith, ltb-false j i l)))
+
+  -- what was skipped is not free
+  pub none-free : (r : ℕ) → ((j : ℕ) → j < r → isHeld clock (f j) ≡ true) → lowest (λ j. not (isHeld clock (f j))) r ≡ r
+  none-free r h = all-fail (λ j. not (isHeld clock (f j))) r (λ j g. rw (h j g))
 
 -- ---- one place: its key as it was read, and its body
 

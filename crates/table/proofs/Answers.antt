@@ -1,11 +1,13 @@
 -- What each way through the functions that answer gives: the tests on the way are those of the definition.
 -- Assumes nothing.
 use Prim.Native.Nat.{ℕ, _+_, _%_, _≤_, _<_}
-use mathlib.Core.Bool.{Bool, true, false, not}
-use mathlib.Core.Path.{_≡_, ap, _∙_}
+use native.Mathlib.Omega.{arith}
+use mathlib.Core.Bool.{Bool, true, false, cond, not}
+use mathlib.Core.Path.{_≡_, refl, ap, sym, _∙_, subst}
 use mathlib.Core.List.{List, _++_}
+use lib.Dec.{ltb}
 use lib.ListN.{length}
-use borrow.Author.Tests.{lt-ltb, le-ltb, eq-eqb, ne-eqb, not-true, not-false}
+use borrow.Author.Tests.{lt-ltb, le-ltb, ltb-true, eq-eqb, ne-eqb, not-true, not-false}
 use Rattle.refusals.specs.declared.Refusal.{Refusal}
 use Rattle.refusals.specs.declared.Refusal.the-variants.{Length, Late, Full, Places, Field}
 use Rattle.positions.specs.declared.Spot.{Spot}
@@ -20,14 +22,25 @@ use Rattle.track.specs.declared.Stepped.{Stepped}
 use Rattle.track.specs.Track.{newTrack, stepped}
 use Rattle.place.specs.Bytes.{lowBytes, put}
 use Rattle.place.specs.Place.{raised, trackOf}
+use Rattle.table.specs.declared.scan.Target.{Target}
 use Rattle.table.specs.declared.SetUp.the-variants as setting
 use Rattle.table.specs.declared.Holding.the-variants as holding
 use Rattle.table.specs.declared.NextKey.{NextKey}
 use Rattle.table.specs.declared.NextKey.the-variants as next
 use Rattle.table.specs.declared.Clock.the-variants as clock
 use Rattle.table.specs.declared.Sited.the-variants as sited
-use Rattle.table.specs.Layout.{wholePlaces, placesIn, clockOf, siteOf, bodyAt, placeAt, isHeld, holds, moved, stored, emptied, emptiedAt}
-use Rattle.table.specs.Table.{after, setUp, setUpAt, lowest, placeOf, freePlace, placed, delivered, received, lookedUp, smallest, keyOrEnd, nextAbove, clockIn, siteIn}
+use Rattle.table.specs.Layout.{Place, wholePlaces, placesIn, clockOf, siteOf, bodyAt, placeAt, isHeld, holds, moved, stored, emptied, emptiedAt}
+use Rattle.table.specs.Scan.{targetOf}
+use Rattle.table.specs.Table.{After, after, setUp, setUpAt, lowest, placeOf, freePlace, placed, delivered, received, lookedUp, smallest, keyOrEnd, nextAbove, clockIn, siteIn}
+
+-- ---- where a message goes
+
+module _ (f : ℕ → Place) (n clock key : ℕ) {i : ℕ} (i-is : i ≡ lowest (λ j. holds clock key (f j)) n) where
+  pub target-held : i < n → record { held = true; at = i } ≡ targetOf f n clock key
+  target-held h = rw (← i-is, lt-ltb i n h)
+
+  pub target-free : n ≤ i → {j : ℕ} → j ≡ lowest (λ j. not (isHeld clock (f j))) n → record { held = false; at = j } ≡ targetOf f n clock key
+  target-free h e = rw (← i-is, le-ltb i n h, ← e)
 
 -- ---- a message reaches the table
 
@@ -40,27 +53,46 @@ module _ (s : List ℕ) (time : ℕ) where
   unfolding delivered
   deliver-refused r e = rw e
 
-  module _ {a : Decoded} {m : Message} (a-is : a ≡ decode.Message m) {k n i : ℕ} (k-is : k ≡ keyOf m) (n-is : n ≡ placesIn s) (i-is : i ≡ lowest (λ j. holds time k (placeAt s n j)) n) where
-    pub deliver-held : {x : Decoded} {p l : List ℕ} {t : Track} → i < n → p ≡ bodyAt s n i → t ≡ trackOf p
-        → after x l ≡ placed s n i k (stepped t (decode.Message m) (siteOf s) time) → after x l ≡ delivered s a time
-    unfolding delivered placeOf
-    deliver-held h p-is t-is d =
+  module _ {a : Decoded} {m : Message} (a-is : a ≡ decode.Message m) {k n : ℕ} (k-is : k ≡ keyOf m) (n-is : n ≡ placesIn s) {g : Target} (g-is : g ≡ targetOf (placeAt s n) n time k) where
+    abbrev step-from : Track → ℕ → After Decoded
+    step-from t i = placed s n i k (stepped t (decode.Message m) (siteOf s) time)
+
+    abbrev aim : ℕ → ℕ → Bool → Target
+    aim i j b = cond b (record { held = true; at = i }) (record { held = false; at = j })
+
+    abbrev outcome : ℕ → ℕ → Bool → After Decoded
+    outcome i j b = cond b (step-from (trackOf (bodyAt s n i)) i) (cond (ltb j n) (step-from newTrack j) (after (decode.Refused Full) s))
+
+    abbrev start : Target → Track
+    start g = cond (g .held) (trackOf (bodyAt s n (g .at))) newTrack
+
+    on-by : (i j : ℕ) (b : Bool) → ltb i n ≡ b → g ≡ aim i j b → g .at < n → step-from (start g) (g .at) ≡ outcome i j b
+    on-by i j true e f h = ap (λ (w : Target). step-from (start w) (w .at)) f
+    on-by i j false e f h =
+        let l : j < n = subst (λ (w : Target). w .at < n) f h in
+        ap (λ (w : Target). step-from (start w) (w .at)) f
+        ∙ sym (ap (λ (c : Bool). cond c (step-from newTrack j) (after (decode.Refused Full) s)) (lt-ltb j n l))
+
+    pub deliver-on : {x : Decoded} {l : List ℕ} {t : Track} → g .at < n → t ≡ start g → after x l ≡ step-from t (g .at) → after x l ≡ delivered s a time
+    unfolding delivered placeOf freePlace
+    deliver-on h t-is d =
         d
-        ∙ ap (λ (t : Track). placed s n i k (stepped t (decode.Message m) (siteOf s) time)) (t-is ∙ ap trackOf p-is)
-        ∙ rw (a-is, ← k-is, ← n-is, ← i-is, lt-ltb i n h)
+        ∙ ap (λ (u : Track). step-from u (g .at)) t-is
+        ∙ on-by (lowest (λ j. holds time k (placeAt s n j)) n) (lowest (λ j. not (isHeld time (placeAt s n j))) n) _ refl g-is h
+        ∙ rw (a-is, ← k-is, ← n-is)
 
-    module _ (h : n ≤ i) {j : ℕ} (j-is : j ≡ lowest (λ j. not (isHeld time (placeAt s n j))) n) where
-      pub deliver-new : {x : Decoded} {l : List ℕ} {t : Track} → j < n → t ≡ newTrack
-          → after x l ≡ placed s n j k (stepped t (decode.Message m) (siteOf s) time) → after x l ≡ delivered s a time
-      unfolding delivered placeOf freePlace
-      deliver-new g t-is d =
-          d
-          ∙ ap (λ (t : Track). placed s n j k (stepped t (decode.Message m) (siteOf s) time)) t-is
-          ∙ rw (a-is, ← k-is, ← n-is, ← i-is, le-ltb i n h, ← j-is, lt-ltb j n g)
+    full-by : (i j : ℕ) (b : Bool) → ltb i n ≡ b → g ≡ aim i j b → n ≤ g .at → after (decode.Refused Full) s ≡ outcome i j b
+    full-by i j true e f h =
+        let l : n ≤ i = subst (λ (w : Target). n ≤ w .at) f h in
+        absurd (omega (arith, ltb-true i n e))
+    full-by i j false e f h =
+        let l : n ≤ j = subst (λ (w : Target). n ≤ w .at) f h in
+        sym (ap (λ (c : Bool). cond c (step-from newTrack j) (after (decode.Refused Full) s)) (le-ltb j n l))
 
-      pub deliver-full : n ≤ j → after (decode.Refused Full) s ≡ delivered s a time
-      unfolding delivered placeOf freePlace
-      deliver-full g = rw (a-is, ← k-is, ← n-is, ← i-is, le-ltb i n h, ← j-is, le-ltb j n g)
+    pub deliver-full : n ≤ g .at → after (decode.Refused Full) s ≡ delivered s a time
+    unfolding delivered placeOf freePlace
+    deliver-full h =
+        full-by (lowest (λ j. holds time k (placeAt s n j)) n) (lowest (λ j. not (isHeld time (placeAt s n j))) n) _ refl g-is h ∙ rw (a-is, ← k-is, ← n-is)
 
 -- ---- a message is received
 
