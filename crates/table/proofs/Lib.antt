@@ -1,0 +1,5 @@
+pub mod Parts
+pub mod Scanned
+pub mod Answers
+pub mod Unique
+pub mod KeyOrder
