@@ -1,3 +1,5 @@
 pub mod Search
 pub mod Stores
 pub mod Places
+pub mod Steps
+pub mod Delivered
