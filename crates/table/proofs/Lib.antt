@@ -3,3 +3,4 @@ pub mod Stores
 pub mod Places
 pub mod Steps
 pub mod Delivered
+pub mod Ways

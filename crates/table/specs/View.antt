@@ -7,10 +7,13 @@ use mathlib.Core.List.{List}
 use lib.Dec.{ltb}
 use lib.ListN.{length}
 use Rattle.fields.specs.Bytes.{Bytes}
+use Rattle.track.specs.declared.Site.{Site}
 use Rattle.track.specs.declared.Track.{Track}
 use Rattle.track.specs.Track.{newTrack}
 use Rattle.place.specs.Place.{trackOf}
-use Rattle.table.specs.Layout.{Place, wholePlaces, placesIn, clockOf, placeAt, isHeld, holds}
+use Rattle.table.specs.declared.Holding.the-variants as holding
+use Rattle.table.specs.declared.Looked.{Looked}
+use Rattle.table.specs.Layout.{Place, wholePlaces, placesIn, clockOf, siteOf, placeAt, isHeld, holds}
 use Rattle.table.specs.Table.{lowest}
 
 -- the places of a table
@@ -31,6 +34,11 @@ viewAt clock s key = trackIn (look (holds clock key) (places s) (placesIn s))
 
 abbrev pub view : List ℕ → ℕ → Option Track
 view s key = viewAt (clockOf s) s key
+
+-- what a look at a view answers
+abbrev pub lookedAs : Option Track → Looked
+lookedAs none = record { answer = holding.Unheld; track = newTrack }
+lookedAs (some t) = record { answer = holding.Held; track = t }
 
 -- a track goes when clock minus last heard is 125,000 or more
 abbrev pub inDate : ℕ → Track → Bool
@@ -55,6 +63,13 @@ pub record Table (s : List ℕ) : Type 0 where
   pub bytes : Bytes s
   pub size : wholePlaces (length s) ≡ true
   pub once : (key : ℕ) → Once (holds (clockOf s) key) (places s) (placesIn s)
+
+-- a table as set-up leaves it: at clock 0, with the site, and no key held
+pub record Fresh (site : Site) (s : List ℕ) : Type 0 where
+  pub table : Table s
+  pub clock : clockOf s ≡ 0
+  pub sited : siteOf s ≡ site
+  pub unheld : (key : ℕ) → view s key ≡ none
 
 -- no place holds the key at the clock, and each holds a track in date
 pub record AllTaken (clock key : ℕ) (s : List ℕ) : Type 0 where
