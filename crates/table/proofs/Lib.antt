@@ -4,3 +4,5 @@ pub mod Places
 pub mod Steps
 pub mod Delivered
 pub mod Ways
+pub mod Emptied
+pub mod Laws
