@@ -72,7 +72,7 @@ module _ (s message : List ℕ) (t : ℕ) where
     clock-by l (late _ _ h) = rw (lt-ltb t (clockOf s) h)
     clock-by l (timely _ _ h) = clock-delivered (decoded message) ∙ sym (ap (λ (b : Bool). cond b (clockOf s) t) (le-ltb t (clockOf s) h))
 
-    -- the clock is the greatest time of any call of 14 bytes
+    -- a call of 14 bytes leaves the greater of the clock and its time
     pub clock-after : length message ≡ 14 → clockOf (call .table) ≡ cond (ltb t (clockOf s)) (clockOf s) t
     clock-after l = clock-by l (way s message t)
 
@@ -190,9 +190,11 @@ module _ (s message : List ℕ) (t : ℕ) where
         → (Early r × (call .table ≡ s)) ⊎ ((Undecoded r ⊎ (r ≡ Full)) × (call .table ≡ moved s t))
     refused-leaves r a = refused-by r a (way s message t)
 
+    -- 1, 7 and 2 change nothing
     pub unchanged : (r : Refusal) → Early r → call .answer ≡ decode.Refused r → call .table ≡ s
     unchanged r h a = ⊎-elim (λ x. x .1) (λ x. absurd (not-both r h (x .0))) (refused-leaves r a)
 
+    -- 3, 4, 5 and 6 move the clock, and nothing else
     pub only-the-clock : (r : Refusal) → Undecoded r ⊎ (r ≡ Full) → call .answer ≡ decode.Refused r → call .table ≡ moved s t
     only-the-clock r h a = ⊎-elim (λ x. absurd (not-both r (x .0) h)) (λ x. x .1) (refused-leaves r a)
 
@@ -232,7 +234,8 @@ module _ (s message : List ℕ) (t : ℕ) where
     pub late-exactly : call .answer ≡ decode.Refused Late ↔ (length message ≡ 14) × ((wholePlaces (length s) ≡ true) × (t < clockOf s))
     late-exactly = late-by (way s message t)
 
-    -- ---- of whole places and in time, from here on
+    -- ---- the others, where the places are whole and the call is in time
+
     module _ (w : wholePlaces (length s) ≡ true) (h : clockOf s ≤ t) where
       decoder-by : (d : Decoded) → decoded message ≡ d → (r : Refusal) → (r ≡ Full → ⊥) → delivered (moved s t) d t .answer ≡ decode.Refused r ↔ d ≡ decode.Refused r
       unfolding delivered
@@ -245,7 +248,7 @@ module _ (s message : List ℕ) (t : ℕ) where
         λ a. absurd (not-refused a),
       )
 
-      -- then all numbers but 6 are the decoder's, and those are 3, 4 and 5
+      -- then each number but 6 is answered exactly when the decoder answers it, so these are 3, 4 and 5
       pub decoder-exactly : length message ≡ 14 → (r : Refusal) → (r ≡ Full → ⊥) → call .answer ≡ decode.Refused r ↔ decoded message ≡ decode.Refused r
       decoder-exactly l r un =
           subst (λ (x : After Decoded). x .answer ≡ decode.Refused r ↔ decoded message ≡ decode.Refused r) (sym (received-in-time s message t l w h))

@@ -86,7 +86,8 @@ module _ (s : List ℕ) (t : ℕ) where
 
 -- ---- a track is stored at a place
 
-module _ (t : ℕ) (s : List ℕ) (size : 16 ≤ length s) (single : Single t s) (i : ℕ) (h : i < placesIn s) (key : ℕ) (low : 16777216 ≤ key) (high : key < 50331648) (x : Track) (fits : Fits x) (heard : x .heard ≡ t) where
+module _ (t : ℕ) (s : List ℕ) (size : 16 ≤ length s) (single : Single t s) (i : ℕ) (h : i < placesIn s)
+    (key : ℕ) (low : 16777216 ≤ key) (high : key < 50331648) (x : Track) (fits : Fits x) (heard : x .heard ≡ t) where
   abbrev r : List ℕ
   r = stored s (placesIn s) i key x
 

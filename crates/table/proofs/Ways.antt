@@ -83,8 +83,9 @@ module _ (message : List ℕ) where
   opened-refuses : ByDecoder (opened (bits 1 5 message) (bits 6 8 message) (bits 9 32 message) (bits 33 88 message))
   unfolding opened
   opened-refuses =
+      let n : ℕ = bits 33 88 message in
       by-test ByDecoder (not (formatTaken (bits 1 5 message) (bits 6 8 message))) _ _ (λ _. inr (inl refl))
-      (λ _. with-body (bits 1 5 message) (bits 6 8 message) (bits 9 32 message) (taken (bits 33 88 message)) (body-refuses (me 1 5 (bits 33 88 message)) (me 6 8 (bits 33 88 message)) (bits 33 88 message)))
+      (λ _. with-body (bits 1 5 message) (bits 6 8 message) (bits 9 32 message) (taken n) (body-refuses (me 1 5 n) (me 6 8 n) n))
 
   pub decoder-refuses : (r : Refusal) → length message ≡ 14 → decoded message ≡ decode.Refused r → Undecoded r
   decoder-refuses r l d =
