@@ -137,7 +137,7 @@ module _ (rule : Rule) (n : ℕ) (is-done : begun none (empty n) .answer ≡ Don
       differ
       (sym p
       ∙ ap (λ (x : List Seen). heardIn (lastOf x))
-      (h key none (empty n) (empty n) is-done is-done (first ∷ c ∷ []) (first ∷ refused ∷ []) (alike c o t) (never-full c o) (never-full refused not-refused))
+      (h key none tt (empty n) (empty n) is-done is-done (first ∷ c ∷ []) (first ∷ refused ∷ []) (alike c o t) (never-full c o) (never-full refused not-refused))
       ∙ q)
 
 -- ---- two alike runs that differ in a stranger's call, and hold a track at the end
@@ -150,15 +150,14 @@ pub not-empty : Alike key (first ∷ stranger ∷ []) (first ∷ refused ∷ [])
     × NeverFull received key (ready 2) (first ∷ stranger ∷ []) × NeverFull received key (ready 2) (first ∷ refused ∷ [])
     × (stranger .message ≡ refused .message → ⊥)
     × (end-of received 2 (first ∷ stranger ∷ []) ≡ 1001) × (end-of received 2 (first ∷ refused ∷ []) ≡ 1001)
-not-empty =
-    (
-      alike stranger (own-calls .3) refl,
-      never-full received 2 (done .1) (held-in-both .0) stranger (own-calls .3),
-      never-full received 2 (done .1) (held-in-both .0) refused not-refused,
-      (λ e. let z : _≡_ {A = ℕ} 141 0 = ap (λ (m : List ℕ). getD m 0 0) e in omega arith),
-      held-in-both .1,
-      held-in-both .2,
-    )
+not-empty = (
+  alike stranger (own-calls .3) refl,
+  never-full received 2 (done .1) (held-in-both .0) stranger (own-calls .3),
+  never-full received 2 (done .1) (held-in-both .0) refused not-refused,
+  (λ e. let z : _≡_ {A = ℕ} 141 0 = ap (λ (m : List ℕ). getD m 0 0) e in omega arith),
+  held-in-both .1,
+  held-in-both .2,
+)
 
 -- ---- why 'table full' is excepted: of two newcomers to one place the second is refused
 

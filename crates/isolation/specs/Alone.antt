@@ -42,16 +42,13 @@ abbrev pub ownOf : List ℕ → ℕ → Own
 ownOf s key = record { clock = clockOf s; track = view s key }
 
 -- its message steps its track, another's leaves it but for its age
-abbrev pub trackAfter : Site → Option Track → Heard → Option Track
-trackAfter site t h = by (h .message)
-  where
-    by : Option Message → Option Track
-    by none = laterAt (h .time) t
-    by (some m) = some (stepBody (orNew (laterAt (h .time) t)) (m .body) (bodyMe (m .body)) site (h .time))
+abbrev pub trackAfter : Site → Option Track → ℕ → Option Message → Option Track
+trackAfter site t time none = laterAt time t
+trackAfter site t time (some m) = some (stepBody (orNew (laterAt time t)) (m .body) (bodyMe (m .body)) site time)
 
 -- a late call changes nothing
 unfoldable pub ownAfter : Site → Own → Heard → Own
-ownAfter site o h = cond (ltb (h .time) (o .clock)) o (record { clock = h .time; track = trackAfter site (o .track) h })
+ownAfter site o h = cond (ltb (h .time) (o .clock)) o (record { clock = h .time; track = trackAfter site (o .track) (h .time) (h .message) })
 
 abbrev pub answerTo : Bool → Option Message → Option Decoded
 answerTo late none = none

@@ -73,10 +73,15 @@ abbrev pub begun : Option Spot → List ℕ → After SetUp
 begun none s = setUp s
 begun (some site) s = setUpAt s site
 
+-- a longitude has 32 bits, as `set_up_at` takes it
+abbrev pub Fits : Option Spot → Type 0
+Fits none = Unit {0}
+Fits (some site) = site .longitude < 2 ^ 32
+
 -- two alike runs show an aircraft the same. One set-up is s and t the same; whatever they held before, and however many places each has, it holds too
 abbrev pub Isolation : Rule → Type 0
 Isolation rule =
-    (key : ℕ) (site : Option Spot) (s t : List ℕ) → begun site s .answer ≡ Done → begun site t .answer ≡ Done
+    (key : ℕ) (site : Option Spot) → Fits site → (s t : List ℕ) → begun site s .answer ≡ Done → begun site t .answer ≡ Done
     → (xs ys : List Call) → Alike key xs ys
     → NeverFull rule key (begun site s .table) xs → NeverFull rule key (begun site t .table) ys
     → seen rule key (begun site s .table) xs ≡ seen rule key (begun site t .table) ys
