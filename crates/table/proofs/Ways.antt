@@ -2,7 +2,7 @@
 -- Assumes nothing.
 use Prim.Native.Nat.{ℕ, _+_, _%_, _≤_, _<_}
 use mathlib.Core.Bool.{Bool, true, false, not}
-use mathlib.Core.Path.{_≡_, ap, sym, _∙_}
+use mathlib.Core.Path.{_≡_, ap, _∙_}
 use mathlib.Core.List.{List, _++_}
 use lib.ListN.{length}
 use borrow.Author.Tests.{lt-ltb, le-ltb, eq-eqb, ne-eqb, not-true, not-false}
@@ -18,7 +18,7 @@ use Rattle.track.specs.declared.Site.{Site}
 use Rattle.track.specs.declared.Track.{Track}
 use Rattle.track.specs.declared.Stepped.{Stepped}
 use Rattle.track.specs.Track.{newTrack, stepped}
-use Rattle.place.specs.Bytes.{numberAt, lowBytes, put}
+use Rattle.place.specs.Bytes.{lowBytes, put}
 use Rattle.place.specs.Place.{raised, trackOf}
 use Rattle.table.specs.declared.SetUp.the-variants as setting
 use Rattle.table.specs.declared.Holding.the-variants as holding
@@ -27,7 +27,7 @@ use Rattle.table.specs.declared.NextKey.the-variants as next
 use Rattle.table.specs.declared.Clock.the-variants as clock
 use Rattle.table.specs.declared.Sited.the-variants as sited
 use Rattle.table.specs.Layout.{wholePlaces, placesIn, clockOf, siteOf, bodyAt, placeAt, isHeld, holds, moved, stored, emptied, emptiedAt}
-use Rattle.table.specs.Table.{After, after, setUp, setUpAt, lowest, placeOf, freePlace, placed, delivered, received, lookedUp, smallest, keyOrEnd, nextAbove, clockIn, siteIn}
+use Rattle.table.specs.Table.{after, setUp, setUpAt, lowest, placeOf, freePlace, placed, delivered, received, lookedUp, smallest, keyOrEnd, nextAbove, clockIn, siteIn}
 
 -- ---- a message reaches the table
 

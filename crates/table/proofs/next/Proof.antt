@@ -1,7 +1,6 @@
 -- `table::next` meets its contract: its two ways out are the definition's.
 -- Assumes nothing.
-use native.Mathlib.Omega.{arith}
-use Rattle.table.proofs.Parts.{sized, whole}
+use Rattle.table.proofs.Parts.{whole}
 use Rattle.table.proofs.Ways.{next-size, next-on}
 use borrow.Author.Needs.{needs}
 use Rattle.table.proofs.next.Statement.{statement}

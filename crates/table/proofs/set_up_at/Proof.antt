@@ -4,7 +4,6 @@ use native.Mathlib.Omega.{arith}
 use mir.Facts.{toZ-ofZ}
 use mir.Syntax.{w32}
 use mathlib.Core.Path.{ap, sym, _∙_}
-use lib.IntN.{ℤ}
 use borrow.Author.Tests.{not-false}
 use Rattle.positions.specs.Positions.{poleToPole}
 use Rattle.table.proofs.Parts.{sized, whole}
