@@ -7,10 +7,10 @@ use mathlib.Core.List.{List, _++_}
 use native.Mathlib.Omega.{arith}
 use lib.IntN.{ℤ, pos, natAbs}
 use lib.Signed.{ltZ}
-use lib.ListN.{length, take, drop, replicate, length-append, length-replicate, replicate-append-replicate}
+use lib.ListN.{length, drop, replicate, length-append, length-replicate, replicate-append-replicate}
 use lib.Seq.{take-append-seam, drop-at}
 use Rattle.text.specs.Numbers.{decimal, minus, signed}
-use Rattle.text.specs.Lines.{space, newline, field, figure, clockLabel, tracksLabel, badLabel, headerText, keyText, rowText, lineOf}
+use Rattle.text.specs.Lines.{space, newline, field, figure, clockLabel, tracksLabel, badLabel, headerText, keyText, rowText, lineOf, textIn}
 use Rattle.text.specs.Wrote.{Wrote}
 use Rattle.text.specs.declared.Figure.{Figure}
 use Rattle.text.specs.declared.Figure.the-variants.{Unknown, Known}
@@ -96,6 +96,6 @@ line-made {text} {n} {l} h w =
     (let e : n ≡ length text = omega (arith, w .next) in e)
 
 -- no text is cut off
-pub line-text : (text : List ℕ) → take (lineOf text .len) (lineOf text .bytes) ≡ text
+pub line-text : (text : List ℕ) → textIn (lineOf text) ≡ text
 unfolding lineOf
 line-text text = take-append-seam text (replicate (96 - length text) 0)

@@ -3,7 +3,7 @@ use Prim.Native.Nat.{ℕ, _-_, _%_, _^_}
 use mathlib.Core.Bool.{cond}
 use mathlib.Core.List.{List, [], _∷_, _++_}
 use lib.Dec.{leb}
-use lib.ListN.{length, replicate}
+use lib.ListN.{length, take, replicate}
 use Rattle.text.specs.Numbers.{decimal, hex, minus, signed}
 use Rattle.text.specs.declared.Figure.{Figure}
 use Rattle.text.specs.declared.Figure.the-variants.{Unknown, Known}
@@ -56,3 +56,7 @@ rowText r = keyText (r .key) ++ field space (r .heard) ++ figure (r .latitude) +
 -- a text as a line: the text, then zeros
 unfoldable pub lineOf : List ℕ → Line
 lineOf text = record { bytes = text ++ replicate (96 - length text) 0; len = length text }
+
+-- .. and back
+abbrev pub textIn : Line → List ℕ
+textIn l = take (l .len) (l .bytes)
