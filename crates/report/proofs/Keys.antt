@@ -16,7 +16,8 @@ use Rattle.table.specs.Layout.{wholePlaces}
 use Rattle.table.specs.Table.{nextAbove}
 use Rattle.table.specs.View.{view}
 use Rattle.table.proofs.KeyOrder.{Follows, next-follows}
-use Rattle.report.specs.Listing.{rowOf, lineFor, listed, one, counted, keyOrLimit}
+use Rattle.report.specs.Listing.{rowOf, lineFor, listed, one, counted}
+use Rattle.report.specs.Walked.{keyOrLimit}
 use Rattle.report.proofs.Held.{held-seen, unheld-unseen, held-range}
 
 -- the table holds the key

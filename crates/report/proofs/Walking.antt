@@ -13,8 +13,8 @@ use Rattle.table.specs.declared.NextKey.the-variants as next
 use Rattle.table.specs.Layout.{wholePlaces}
 use Rattle.table.specs.Table.{nextAbove}
 use Rattle.table.proofs.KeyOrder.{Follows, next-follows}
-use Rattle.report.specs.Listing.{rowOf, listed, counted, headerFor, listing, headerIn, reported, lineIn, keyOrLimit}
-use Rattle.report.specs.Walked.{Walked, ended, then}
+use Rattle.report.specs.Listing.{rowOf, listed, counted, headerFor, listing, headerIn, reported, lineIn}
+use Rattle.report.specs.Walked.{Walked, ended, then, keyOrLimit}
 use Rattle.report.proofs.Held.{held-range}
 use Rattle.report.proofs.Keys.{Seen, Least, least, skipped, none-zero, counted-none, counted-keeps, counted-more, listed-keeps, listed-more}
 

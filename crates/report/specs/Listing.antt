@@ -15,8 +15,6 @@ use Rattle.text.specs.declared.Figure.{Figure}
 use Rattle.text.specs.declared.Figure.the-variants.{Unknown, Known}
 use Rattle.text.specs.declared.Row.{Row}
 use Rattle.text.specs.Lines.{headerText, rowText, lineOf}
-use Rattle.table.specs.declared.NextKey.{NextKey}
-use Rattle.table.specs.declared.NextKey.the-variants as next
 use Rattle.table.specs.Layout.{wholePlaces, clockOf}
 use Rattle.table.specs.View.{view}
 use Rattle.report.specs.declared.Printed.{Printed}
@@ -32,7 +30,7 @@ latitudeIn p = cond (p .known) (Known (p .spot .latitude)) Unknown
 unfoldable pub longitudeIn : Position → Figure
 longitudeIn p = cond (p .known) (Known (pos (p .spot .longitude))) Unknown
 
--- in feet; a code of 12 bits is never refused
+-- in feet; a code wider than 12 bits, which no body of a table has, is unknown
 unfoldable pub feet : Altitude → Figure
 feet (altitude.Feet z) = Known z
 feet altitude.Unknown = Unknown
@@ -95,9 +93,3 @@ reported key (some t) = with (rowText (rowOf key t))
 
 unfoldable pub lineIn : List ℕ → ℕ → Report
 lineIn s key = cond (not (wholePlaces (length s))) (without (Refused Places)) (reported key (view s key))
-
--- the key that a walk has come to; at its end 3 x 2^24, which is above every key
-unfoldable pub keyOrLimit : NextKey → ℕ
-keyOrLimit (next.Key key) = key
-keyOrLimit next.End = 50331648
-keyOrLimit (next.Refused r) = 50331648

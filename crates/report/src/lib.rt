@@ -14,8 +14,9 @@ ghost use lib.ListN.{length};
 ghost use Rattle.text.specs.Lines.{lineOf};
 ghost use Rattle.table.specs.Layout.{wholePlaces};
 ghost use Rattle.table.specs.Table.{nextAbove};
-ghost use Rattle.report.specs.Listing.{counted, headerIn, lineIn, keyOrLimit};
+ghost use Rattle.report.specs.Listing.{counted, headerIn, lineIn};
 ghost use Rattle.report.specs.Listing.{without as withoutLine};
+ghost use Rattle.report.specs.Walked.{keyOrLimit};
 
 pub enum Printed {
     Text,

@@ -1,7 +1,7 @@
 -- `report::key_above` meets its contract: by the cases of the table's answer.
 -- Assumes nothing.
 use mathlib.Core.Path.{sym, ap, _∙_}
-use Rattle.report.specs.Listing.{keyOrLimit}
+use Rattle.report.specs.Walked.{keyOrLimit}
 use borrow.Author.Needs.{needs}
 use Rattle.report.proofs.key_above.Statement.{statement}
 use Rattle.report.proofs.key_above.Tie as tie
