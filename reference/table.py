@@ -10,6 +10,7 @@ from refusals import Refused
 from tracks import I, O, Position, Saved, Track, is_stale, key_of, step
 
 HEAD, KEY, BODY = 16, 4, 75
+HEARD, LATITUDE = 0, 33  # in a body; the latitude is the only value of it that has a range
 MOST_PLACES = 1024
 POLE = 2**30
 
@@ -32,11 +33,6 @@ def bits(number, first, last):
 # One body
 
 
-def latitude_in(body):
-    """The latitude's number: the latitude plus 2^30. The only value of a body that has a range."""
-    return get(body, 33, 4)
-
-
 def saved_of(body, at):
     """An encoded position: bits 0-16 and 17-33 its counts, bit 34 whether there is one; then its time."""
     number = get(body, at, 5)
@@ -47,13 +43,13 @@ def track_of(body):
     """The track of a body that is in range. Bits that no value has are ignored."""
     marks = get(body, 29, 4)
     return Track(
-        heard=get(body, 0, 8),
+        heard=get(body, HEARD, 8),
         identification=get(body, 8, 7),
         velocity=get(body, 15, 7),
         surface=get(body, 22, 7),
         pressure=bits(marks, 0, 11),
         height=bits(marks, 12, 23),
-        position=Position(bits(marks, 24, 24), latitude_in(body) - POLE, get(body, 37, 4), get(body, 41, 8)),
+        position=Position(bits(marks, 24, 24), get(body, LATITUDE, 4) - POLE, get(body, 37, 4), get(body, 41, 8)),
         saved=(saved_of(body, 49), saved_of(body, 62)),
     )
 
@@ -67,12 +63,12 @@ def put_saved(body, at, saved):
 def body_of(track):
     """The 75 bytes of a track. Bits that no value has are 0."""
     body = bytearray(BODY)
-    put(body, 0, 8, track.heard)
+    put(body, HEARD, 8, track.heard)
     put(body, 8, 7, track.identification)
     put(body, 15, 7, track.velocity)
     put(body, 22, 7, track.surface)
     put(body, 29, 4, track.pressure | track.height << 12 | track.position.known << 24)
-    put(body, 33, 4, track.position.latitude + POLE)
+    put(body, LATITUDE, 4, track.position.latitude + POLE)
     put(body, 37, 4, track.position.longitude)
     put(body, 41, 8, track.position.time)
     put_saved(body, 49, track.saved[0])
@@ -130,10 +126,10 @@ def site_of(table):
 def held_keys(table):
     """Of each place its key, or None where it is free: any value out of its range, or stale."""
     clock, keys = clock_of(table), []
-    for place in range(places(table)):
-        key, body = get(table, key_at(place), KEY), body_in(table, place)
-        in_range = key >> 24 in (I, O) and latitude_in(body) <= 2 * POLE
-        keys.append(key if in_range and not is_stale(get(body, 0, 8), clock) else None)
+    for place, at in enumerate(range(body_at(table, 0), len(table), BODY)):
+        key, heard = get(table, key_at(place), KEY), get(table, at + HEARD, 8)
+        in_range = key >> 24 in (I, O) and get(table, at + LATITUDE, 4) <= 2 * POLE
+        keys.append(key if in_range and not is_stale(heard, clock) else None)
     return keys
 
 
