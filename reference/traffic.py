@@ -15,6 +15,12 @@ def message(head, aa, type_code, **fields):
     return encode(dict(zip([name for name, _, _ in HEAD] + names, values)))
 
 
+def altitude_code(feet):
+    """The code with Q 1 of an altitude: N is seven bits, Q and four bits more."""
+    n = (feet + 1000) // 25
+    return n >> 4 << 5 | 1 << 4 | n & 15
+
+
 def airborne(head, aa, i, place, type_code=11, altitude=888):
     """An airborne message from a place, in 2^-32 of a turn."""
     latitude, longitude = counts_of(AIRBORNE, i, *place)
