@@ -3,12 +3,16 @@
     python3 reference/selftest.py
 """
 
+import subprocess
 import sys
 from decimal import Decimal
 from fractions import Fraction
 from math import floor
+from pathlib import Path
 from random import Random
 
+import captures
+import make_samples
 import messages
 import positions
 import published
@@ -605,6 +609,93 @@ def swept_tables():
             equal("the first key", lent_table.next_key(made, 0), min(dict(swept.held()), default=None))
 
 
+# Captures and the listing
+
+
+LISTED = "clock 1400 tracks 1 bad-blocks 0\nI ABCDEF 1400 536870912 1073741824 10000\n"
+
+
+def listings():
+    """The paper's listing; order, unknown values, bad blocks, refused records."""
+    equal("the paper's listing", captures.listing(make_samples.example()), LISTED)
+    equal("an empty capture", captures.listing(b""), "clock 0 tracks 0 bad-blocks 0\n")
+    equal("zeros", captures.listing(bytes(512)), "clock 0 tracks 0 bad-blocks 1\n")
+    equal("a part block", captures.listing(make_samples.example() + bytes(3)), LISTED.replace("blocks 0", "blocks 1"))
+    rows = [(5, from_air(EVEN, aa=7, head=OTHER)), (6, from_air(EVEN)), (7, from_air(EVEN, aa=7))]
+    rows += [(8, traffic.airborne(TRANSPONDER, 0xA, EVEN, HERE, 20)), (7, from_air(ODD)), (9, bytes(14))]
+    due = ["clock 9 tracks 4 bad-blocks 0", "I 000007 7 - - 10000", "I 00000A 8 - - -"]
+    due += ["I ABCDEF 6 - - 10000", "O 000007 5 - - 10000"]
+    equal("order and unknown", captures.listing(captures.capture(rows)).splitlines(), due)
+    last = 2**64 - 1, message_vectors.flipped(from_air(EVEN), 60)
+    emptied = captures.listing(captures.capture([*rows, last]))
+    equal("bad parity at the last time", emptied, f"clock {2**64 - 1} tracks 0 bad-blocks 0\n")
+    south = -(2**29), 2**32 - 2**29
+    low = [(time, traffic.airborne(TRANSPONDER, 1, i, south, 11, 16)) for time, i in ((1, ODD), (2, EVEN))]
+    lines = captures.listing(captures.capture(low)).splitlines()
+    equal("below zero", lines[1], "I 000001 2 -536870912 3758096384 -1000")
+    for feet in range(-1000, 50176, 25):
+        equal("the code of an altitude", readings.altitude(traffic.altitude_code(feet)), feet)
+
+
+def blocks():
+    """A block's rules, each broken: 11. The serial isn't tested."""
+    chance = Random(18)
+    for count in (1, 2, 22, 23):
+        records = [(chance.getrandbits(64), chance.randbytes(14)) for _ in range(count)]
+        for serial in (0, 1, 65535):
+            good = captures.block(serial, records)
+            equal("512 bytes", (len(good), good[0], good[1:3]), (512, count, serial.to_bytes(2, "big")))
+            equal("parity", remainder(good), 0)
+            equal("read again", captures.records_of(good), records)
+        for _ in range(60):
+            refused(11, captures.records_of, message_vectors.flipped(good, chance.randrange(1, 4097)))
+        for wrong in [0, *range(24, 256, 11), 255, count - 1]:
+            refused(11, captures.records_of, make_samples.resealed(good, 0, wrong))
+        for at in {*range(3 + 22 * count, 509, 7), *([508] if count < 23 else [])}:
+            refused(11, captures.records_of, make_samples.resealed(good, at, 1))
+        for length in (0, 1, 3, 511, 513, 1024):
+            refused(11, captures.records_of, (good + good)[:length])
+    many = [(time, bytes(14)) for time in range(50)]
+    whole = captures.capture(many)
+    read = [row for one in captures.blocks(whole) for row in captures.records_of(one)]
+    equal("three blocks", (len(whole), read), (3 * 512, many))
+    equal("serials", [one[1:3] for one in captures.blocks(whole)], [b"\0\0", b"\0\1", b"\0\2"])
+
+
+def made_capture(text, *words):
+    """What the script make-capture makes of these lines: its records, and what it says."""
+    command = [sys.executable, "-B", Path(__file__).with_name("make-capture"), *words]
+    ran = subprocess.run(command, input=text.encode("latin-1"), capture_output=True, check=True)
+    records = [row for one in captures.blocks(ran.stdout) for row in captures.records_of(one)]
+    return records, ran.stderr.decode().strip()
+
+
+def receiver_lines():
+    """The script make-capture: three forms of lines, their times, and what it skips."""
+    one, other = from_air(EVEN), from_air(ODD)
+    first, second = one.hex().upper(), other.hex()
+    plain = f"*{first};\n*{second};\r\n *{first}; \n"
+    equal("no times", made_capture(plain), ([(0, one), (1, other), (2, one)], "3 taken, 0 short, 0 other lines"))
+    timed = [(1_000, one), (1_400, other), (1_800, one)]
+    equal("start and step", made_capture(plain, "--start", "1000", "--step", "400")[0], timed)
+    equal("the paper's listing", captures.listing(captures.capture(timed[:2])), LISTED)
+    stamps = {0: 0, 12_000 * 1_400 - 1: 1_399, 12_000 * 1_400: 1_400, 2**48 - 1: (2**48 - 1) // 12_000}
+    counted = "".join(f"@{stamp:012X}{second};\n" for stamp in stamps)
+    equal("a counter", made_capture(counted)[0], [(time, other) for time in stamps.values()])
+    equal("a counter in lower case", made_capture(counted.lower())[0], made_capture(counted)[0])
+    given = f"5 {first}\n3 {second}\n{2**64 - 1} {first}\n{2**64} {first}\n"
+    due = [(5, one), (3, other), (2**64 - 1, one)], "3 taken, 0 short, 1 other lines"
+    equal("times as they are, also late ones", made_capture(given), due)
+    skipped = ["*02E197B0F70AF6;", "@00000000000102E197B0F70AF6;", "7 02E197B0F70AF6"]
+    skipped += ["", "hello", f"*{first}", f"{first};", f"*{first}00;", f"*{first[:-1]};"]
+    skipped += [f"@{first};", f"-1 {first}", "*;", "\xff"]
+    due = [(9, one), (9, other)], "2 taken, 3 short, 10 other lines"
+    equal("what is skipped", made_capture("\n".join([*skipped, f"*{first};", f"9 {second}"]), "--start", "9"), due)
+    equal("nothing", made_capture(""), ([], "0 taken, 0 short, 0 other lines"))
+    damaged = message_vectors.flipped(one, 7)
+    equal("nothing is judged", made_capture(f"8 {damaged.hex()}")[0], [(8, damaged)])
+
+
 TESTS = [
     parity_rows,
     parity_laws,
@@ -623,6 +714,9 @@ TESTS = [
     track_rules,
     bytes_of_tracks,
     swept_tables,
+    listings,
+    blocks,
+    receiver_lines,
 ]
 
 
