@@ -14,7 +14,7 @@ use positions::Spot;
 use refusals::Refusal;
 use table::Clock;
 use table::Holding;
-use table::Next;
+use table::NextKey;
 use table::SetUp;
 use table::Sited;
 use track::Groups;
@@ -235,10 +235,14 @@ fn fill(buf: &mut [u8], n: usize) {
 fn poke(buf: &mut [u8]) {
     let at = length();
     let count = byte() as usize;
-    if at <= buf.len() && count <= buf.len() - at {
-        let end = at + count;
-        io::read_full(STDIN_FILENO, &mut buf[at..end]);
+    if buf.len() < at {
+        return;
     }
+    if buf.len() - at < count {
+        return;
+    }
+    let end = at + count;
+    io::read_full(STDIN_FILENO, &mut buf[at..end]);
 }
 
 fn say_received(lent: &[u8], d: Decoded) {
@@ -281,11 +285,11 @@ fn look_up(buf: &[u8], n: usize) {
     }
 }
 
-fn say_next(n: Next) {
+fn say_next(n: NextKey) {
     match n {
-        Next::Key(k) => say_number(k as u64),
-        Next::End => write(b"end"),
-        Next::Refused(r) => say_refused(r),
+        NextKey::Key(k) => say_number(k as u64),
+        NextKey::End => write(b"end"),
+        NextKey::Refused(r) => say_refused(r),
     }
     write(b"\n");
 }
@@ -327,17 +331,17 @@ fn say_sited(s: Sited) {
 fn say_following(lent: &[u8], above: u32) -> u32 {
     let n = table::next(lent, above);
     match n {
-        Next::Key(k) => {
+        NextKey::Key(k) => {
             say_number(k as u64);
             write(b" ");
             say_looked(lent, k);
             k
         }
-        Next::End => {
+        NextKey::End => {
             write(b"end\n");
             0
         }
-        Next::Refused(r) => {
+        NextKey::Refused(r) => {
             say_refused(r);
             write(b"\n");
             0
