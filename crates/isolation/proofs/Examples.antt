@@ -122,14 +122,14 @@ done = (refl, refl)
 -- ---- a call of its own, and then one that is not: alike whatever that is
 
 alike : (c : Call) → own key c ≡ false → c .time ≡ 2000 → Alike key (first ∷ c ∷ []) (first ∷ refused ∷ [])
-alike c o t = its first own-first (others c refused o not-refused t end)
+alike c o t = its first own-first (others c refused o not-refused (cc) end)
 
 not-six : {d : Decoded} → numberIn d ≡ 0 → d ≡ decode.Refused Full → ⊥
 not-six z e = let six : _≡_ {A = ℕ} 0 6 = sym z ∙ ap numberIn e in omega arith
 
 module _ (rule : Rule) (n : ℕ) (is-done : begun none (empty n) .answer ≡ Done) (accepted : number-to-first rule n ≡ 0) where
   never-full : (c : Call) → own key c ≡ false → NeverFull rule key (ready n) (first ∷ c ∷ [])
-  never-full c o = ((λ _ e. not-six accepted e), ((λ p _. true≢false (sym p ∙ o)), tt))
+  never-full c o = ((λ _ e. absurd (not-six accepted e)), ((λ p _. absurd (true≢false (sym p ∙ o))), tt))
 
   broken : (c : Call) → own key c ≡ false → c .time ≡ 2000 → {a b : ℕ} → end-of rule n (first ∷ c ∷ []) ≡ a → end-of rule n (first ∷ refused ∷ []) ≡ b → (a ≡ b → ⊥)
       → Isolation rule → ⊥

@@ -1,3 +1,4 @@
 pub mod Calls
 pub mod Isolated
+pub mod OfCode
 pub mod Examples
