@@ -1,0 +1,209 @@
+// The lent table: 1 to 1,024 places in bytes that the caller lends. A track is held while it is in date, which is read by the clock: nothing sweeps.
+//
+// offset                       bytes  value                                              range
+// 0                                8  the clock                                          any
+// 8                                4  the site's latitude plus 2^30 + 1, 0 if none       0 to 2^31 + 1
+// 12                               4  the site's longitude                               any
+// 16 + 4 i                         4  the key of the place i                             its kind, 1 or 2, above 24 bits
+// 16 + 4 n + 75 i                 75  the body of the place i, as in `place`             as there
+//
+// A number out of its range: of the site, there is none; of a place, it is free.
+mod layout;
+mod scan;
+mod walk;
+
+use messages::Decoded;
+use positions::Spot;
+use refusals::Refusal;
+use track::Site;
+use track::Track;
+ghost use mathlib.Core.Path.{_≡_};
+ghost use Prim.Native.Nat.{_+_, _*_, _≤_, _<_};
+ghost use mathlib.Core.Bool.{true};
+ghost use lib.ListN.{length};
+ghost use Rattle.track.specs.Track.{stepped};
+ghost use Rattle.table.specs.Layout.{wholePlaces, siteOf};
+ghost use Rattle.table.specs.Table.{after, placed, delivered, received, setUp, setUpAt, lookedUp, keyOrEnd, nextAbove, clockIn, siteIn};
+
+pub enum SetUp {
+    Done,
+    Refused(Refusal),
+}
+
+pub enum Holding {
+    Held,
+    Unheld,
+    Refused(Refusal),
+}
+
+// Whether a key is held, and its track; where it is not, one that has heard nothing.
+pub struct Looked {
+    pub answer: Holding,
+    pub track: Track,
+}
+
+pub enum NextKey {
+    Key(u32),
+    End,
+    Refused(Refusal),
+}
+
+pub enum Clock {
+    At(u64),
+    Refused(Refusal),
+}
+
+pub enum Sited {
+    Site(Site),
+    Refused(Refusal),
+}
+
+// Empties the table: no track, no site, clock 0.
+pub fn set_up(table: &mut [u8]) -> SetUp
+    ensures { λ r. ⌜ after r (now (table .exit)) ≡ setUp (now (table .entry)) ⌝ }
+{
+    if !layout::whole_places(table.len()) {
+        return SetUp::Refused(Refusal::Places);
+    }
+    layout::clear(table);
+    SetUp::Done
+}
+
+// Empties the table and takes the site.
+pub fn set_up_at(table: &mut [u8], site: Spot) -> SetUp
+    ensures { λ r. ⌜ after r (now (table .exit)) ≡ setUpAt (now (table .entry)) site ⌝ }
+{
+    if !layout::whole_places(table.len()) {
+        return SetUp::Refused(Refusal::Places);
+    }
+    if !layout::pole_to_pole(site.latitude) {
+        return SetUp::Refused(Refusal::Field);
+    }
+    layout::clear(table);
+    layout::put_site(table, site);
+    SetUp::Done
+}
+
+// The track's step by the answer, stored at the place i.
+fn step_at(
+    table: &mut [u8],
+    n: usize,
+    i: usize,
+    key: u32,
+    t: Track,
+    answer: Decoded,
+    time: u64,
+) -> Decoded
+    requires { ⌜ (n ≤ 1024) × ((i < n) × (16 + 79 * n ≤ length (now table))) ⌝ }
+    ensures { λ r. ⌜ after r (now (table .exit)) ≡ placed (now (table .entry)) n i key (stepped t answer (siteOf (now (table .entry))) time) ⌝ }
+{
+    let site = layout::site_of(table);
+    let next = track::step(t, answer, site, time);
+    let track = next.track;
+    layout::store(table, n, i, key, track);
+    next.answer
+}
+
+// The decoder's answer reaches the table. The clock is already at the time.
+fn deliver(table: &mut [u8], answer: Decoded, time: u64) -> Decoded
+    requires { ⌜ wholePlaces (length (now table)) ≡ true ⌝ }
+    ensures { λ r. ⌜ after r (now (table .exit)) ≡ delivered (now (table .entry)) answer time ⌝ }
+{
+    let Decoded::Message(m) = answer else {
+        return answer;
+    };
+    let key = messages::key_of(m);
+    let n = layout::places_in(table);
+    let i = scan::find_key(table, n, time, key);
+    if i < n {
+        let t = place::load(layout::body(table, n, i));
+        return step_at(table, n, i, key, t, answer, time);
+    }
+    let j = scan::find_free(table, n, time);
+    if j < n {
+        return step_at(table, n, j, key, track::new_track(), answer, time);
+    }
+    Decoded::Refused(Refusal::Full)
+}
+
+// What a message received at a time does to the table: the decoded message, or the number that it earns.
+pub fn receive(table: &mut [u8], message: &[u8], time: u64) -> Decoded
+    ensures { λ r. ⌜ after r (now (table .exit)) ≡ received (now (table .entry)) (now (message .entry)) time ⌝ }
+{
+    if message.len() != 14 {
+        return Decoded::Refused(Refusal::Length);
+    }
+    if !layout::whole_places(table.len()) {
+        return Decoded::Refused(Refusal::Places);
+    }
+    if time < place::get8(table, 0) {
+        return Decoded::Refused(Refusal::Late);
+    }
+    place::put8(table, 0, time);
+    deliver(table, messages::decode(message), time)
+}
+
+// The track of a key.
+pub fn look_up(table: &[u8], key: u32) -> Looked
+    ensures { λ r. ⌜ r ≡ lookedUp (now (table .entry)) key ⌝ }
+{
+    if !layout::whole_places(table.len()) {
+        return Looked {
+            answer: Holding::Refused(Refusal::Places),
+            track: track::new_track(),
+        };
+    }
+    let n = layout::places_in(table);
+    let i = scan::find_key(table, n, place::get8(table, 0), key);
+    if i < n {
+        return Looked {
+            answer: Holding::Held,
+            track: place::load(layout::body(table, n, i)),
+        };
+    }
+    Looked {
+        answer: Holding::Unheld,
+        track: track::new_track(),
+    }
+}
+
+fn key_or_end(key: u32) -> NextKey
+    ensures { λ r. ⌜ r ≡ keyOrEnd key ⌝ }
+{
+    if key == 0 {
+        NextKey::End
+    } else {
+        NextKey::Key(key)
+    }
+}
+
+// The smallest key held above a given one: from 0 on, this walks the table in the order of its keys.
+pub fn next(table: &[u8], above: u32) -> NextKey
+    ensures { λ r. ⌜ r ≡ nextAbove (now (table .entry)) above ⌝ }
+{
+    if !layout::whole_places(table.len()) {
+        return NextKey::Refused(Refusal::Places);
+    }
+    let n = layout::places_in(table);
+    key_or_end(walk::smallest_above(table, n, place::get8(table, 0), above))
+}
+
+pub fn clock_of(table: &[u8]) -> Clock
+    ensures { λ r. ⌜ r ≡ clockIn (now (table .entry)) ⌝ }
+{
+    if layout::whole_places(table.len()) {
+        Clock::At(place::get8(table, 0))
+    } else {
+        Clock::Refused(Refusal::Places)
+    }
+}
+
+pub fn site_of(table: &[u8]) -> Sited
+    ensures { λ r. ⌜ r ≡ siteIn (now (table .entry)) ⌝ }
+{
+    if layout::whole_places(table.len()) {
+        Sited::Site(layout::site_of(table))
+    } else {
+        Sited::Refused(Refusal::Places)
+    }
+}
