@@ -13,10 +13,10 @@ add-result : tie.Need-add-result
 add-result c = search needs
 
 returns-2 : tie.Need-returns-2
-returns-2 c = count-bad _ (c .before .if1 .left) (c .if2 .taken)
+returns-2 c = count-bad _ (c .before .if1 .left) (omega arith)
 
 returns-3 : tie.Need-returns-3
-returns-3 c = count-most _ (c .before .if1 .left) (c .if2 .left) (omega arith)
+returns-3 c = count-most _ (c .before .if1 .left) (omega arith) (omega arith)
 
 pub count-spec : {M : Type 1} → statement M
 count-spec = tie.close (tie.spec returns add-result returns-2 returns-3)
