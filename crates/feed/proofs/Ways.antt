@@ -52,11 +52,13 @@ records-on s b i p q = q ∙ rw add-one (ap (λ (x : List ℕ). received x (mess
 -- ---- a block
 
 module _ (s b : List ℕ) where
-  skipped : good b ≡ false → s ≡ blockInto s b
+  -- a bad block leaves the table as it was
+  pub skipped : good b ≡ false → s ≡ blockInto s b
   unfolding blockInto
   skipped e = rw e
 
-  taken : good b ≡ true → recordsInto s b (countOf b) ≡ blockInto s b
+  -- of a good one all records are received, and no other
+  pub taken : good b ≡ true → recordsInto s b (countOf b) ≡ blockInto s b
   unfolding blockInto
   taken e = rw e
 
