@@ -82,16 +82,16 @@ Follows s above (next.Key key) = HeldKey s key × ((above < key) × ((other : �
 Follows s above next.End = (other : ℕ) → above < other → HeldKey s other → ⊥
 Follows s above (next.Refused r) = ⊥
 
+-- a place holds a key if it is held and the key is its own
+held-place : (clock other : ℕ) (p : Place) → holds clock other p ≡ true → (p .key ≡ other) × (isHeld clock p ≡ true)
+unfolding holds
+held-place clock other p h = (eqb-true (p .key) other (and-left (eqb (p .key) other) _ h), and-right (eqb (p .key) other) _ h)
+
+held-key : (clock key : ℕ) (p : Place) → isHeld clock p ≡ true → p .key ≡ key → holds clock key p ≡ true
+unfolding holds
+held-key clock key p h e = both (eq-eqb (p .key) key e) h
+
 module _ (s : List ℕ) (above : ℕ) where
-  -- a held key above, as a place that the walk has yet to show
-  held-place : (clock other : ℕ) (p : Place) → holds clock other p ≡ true → (p .key ≡ other) × (isHeld clock p ≡ true)
-  unfolding holds
-  held-place clock other p h = (eqb-true (p .key) other (and-left (eqb (p .key) other) _ h), and-right (eqb (p .key) other) _ h)
-
-  held-key : (clock key : ℕ) (p : Place) → isHeld clock p ≡ true → p .key ≡ key → holds clock key p ≡ true
-  unfolding holds
-  held-key clock key p h e = both (eq-eqb (p .key) key e) h
-
   follows : (k : ℕ) → Best (placeAt s (placesIn s)) (clockOf s) above (placesIn s) k → Follows s above (keyOrEnd k)
   follows k h = by-test (eqb k 0) refl
     where
@@ -112,7 +112,7 @@ module _ (s : List ℕ) (above : ℕ) where
           ))
           (h .found)
 
-  -- from 0 on, the answers walk the keys held in rising order, each once, and leave none out
+  -- one step of the walk: the answer is the smallest key held above, and the end says that there is none
   pub next-follows : wholePlaces (length s) ≡ true → Follows s above (nextAbove s above)
   unfolding nextAbove
   next-follows e = rw e (follows (smallest (placeAt s (placesIn s)) (clockOf s) above (placesIn s)) (best-of (placeAt s (placesIn s)) (clockOf s) above (placesIn s)))

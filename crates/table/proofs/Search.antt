@@ -1,104 +1,137 @@
--- The search for the lowest place that passes a test, and what each way through the tests of a place gives: by the tests.
+-- The lowest number that passes a test, and the thing found by it: where at most one of n things passes, what is found is that thing.
 -- Assumes nothing.
-use Prim.Native.Nat.{ℕ, suc, zero, _+_, _*_, _-_, _<_}
+use Prim.Native.Nat.{ℕ, suc, zero, _≤_, _<_}
 use native.Mathlib.Omega.{arith}
-use native.Mathlib.Nat.{eq-or-lt-of-le, add-zero}
-use native.Mathlib.Numerals.{add-one}
-use mathlib.Core.Bool.{Bool, true, false, not, _&&_, _||_}
-use mathlib.Core.Logic.{⊎-elim}
-use mathlib.Core.Path.{_≡_, refl, sym, _∙_}
-use mathlib.Core.List.{List}
-use lib.Dec.{eqb, ltb}
-use borrow.Author.Tests.{lt-ltb, le-ltb, ltb-true, ltb-false, eq-eqb, ne-eqb, not-true, not-false}
-use Rattle.fields.proofs.Bools.{and-left, and-right}
-use Rattle.place.specs.Bytes.{numberAt}
-use Rattle.place.specs.Place.{held}
-use Rattle.table.specs.Layout.{Place, keyAt, bodyAt, placeAt, isHeld, holds}
-use Rattle.table.specs.Scan.{noneOf}
-use Rattle.table.specs.Table.{lowest, better, smallest}
+use native.Mathlib.Nat.{eq-or-lt-of-le}
+use mathlib.Core.Bool.{Bool, true, false, cond, _&&_, true≢false}
+use mathlib.Core.Logic.{_⊎_, inl, inr, ⊎-elim}
+use mathlib.Core.Option.{Option, some, none}
+use mathlib.Core.Path.{_≡_, refl, ap, sym, _∙_}
+use lib.Dec.{ltb, eqb}
+use borrow.Author.Tests.{lt-ltb, ltb-true, ltb-false, eqb-true, eqb-false}
+use Rattle.fields.proofs.Bools.{each}
+use Rattle.table.specs.Table.{lowest}
+use Rattle.table.specs.View.{look, Once}
 
--- none below i, and then one at i, whose test was h
-module _ (p : ℕ → Bool) (i : ℕ) (e : lowest p i ≡ i) {h : Bool} (h-is : h ≡ p i) where
-  pub lowest-none : h ≡ false → lowest p (i + 1) ≡ i + 1
-  lowest-none f = rw (add-one i, e, le-ltb i i (omega arith), ← h-is, f)
+pub clash : {x : Bool} → x ≡ true → x ≡ false → ⊥
+clash p q = true≢false (sym p ∙ q)
 
-  pub lowest-found : h ≡ true → (n : ℕ) → i < n → lowest p n ≡ i
-  lowest-found f zero g = absurd (omega arith)
-  lowest-found f (suc n) g =
-      ⊎-elim
-      (λ (k : i ≡ n). rw (← k, e, le-ltb i i (omega arith), ← h-is, f))
-      (λ (k : i < n). let r : lowest p n ≡ i = lowest-found f n k in rw (r, lt-ltb i n k))
-      (eq-or-lt-of-le (omega arith))
+-- a test that can't pass fails
+pub fails : (x : Bool) → (x ≡ true → ⊥) → x ≡ false
+fails true h = absurd (h refl)
+fails false h = refl
 
--- ---- the keys, 8 and 16 at a time
-
-pub none-8 : (s : List ℕ) (at key : ℕ) {g₀ g₁ g₂ g₃ g₄ g₅ g₆ g₇ : ℕ}
-    → g₀ ≡ numberAt 4 s at → g₁ ≡ numberAt 4 s (at + 4) → g₂ ≡ numberAt 4 s (at + 8) → g₃ ≡ numberAt 4 s (at + 12)
-    → g₄ ≡ numberAt 4 s (at + 16) → g₅ ≡ numberAt 4 s (at + 20) → g₆ ≡ numberAt 4 s (at + 24) → g₇ ≡ numberAt 4 s (at + 28)
-    → not (eqb g₀ key) && not (eqb g₁ key) && not (eqb g₂ key) && not (eqb g₃ key) && not (eqb g₄ key) && not (eqb g₅ key) && not (eqb g₆ key) && not (eqb g₇ key) ≡ noneOf 8 s at key
-none-8 s at key e₀ e₁ e₂ e₃ e₄ e₅ e₆ e₇ = rw (add-zero at, e₀, e₁, e₂, e₃, e₄, e₅, e₆, e₇) refl
-
-none-each : (m : ℕ) (s : List ℕ) (at key : ℕ) → noneOf m s at key ≡ true → (k : ℕ) → k < m → eqb (numberAt 4 s (at + 4 * k)) key ≡ false
-none-each zero s at key h k g = absurd (omega arith)
-none-each (suc m) s at key h k g =
-    ⊎-elim
-    (λ (e : k ≡ m). rw e (not-true _ (and-right (noneOf m s at key) _ h)))
-    (λ (e : k < m). none-each m s at key (and-left (noneOf m s at key) _ h) k e)
-    (eq-or-lt-of-le {n = k} {m = m} (omega arith))
-
-pub skip-more : (s : List ℕ) (key i : ℕ) {x y : Bool} → ((j : ℕ) → j < i → eqb (numberAt 4 s (16 + 4 * j)) key ≡ false)
-    → x ≡ noneOf 8 s (16 + 4 * i) key → y ≡ noneOf 8 s (16 + 4 * i + 32) key → not (x && y) ≡ false
-    → (j : ℕ) → j < i + 16 → eqb (numberAt 4 s (16 + 4 * j)) key ≡ false
-skip-more s key i {x} {y} below p q h j g = by-cases (ltb j i) (ltb j (i + 8)) refl refl
+pub alike : (i j : ℕ) → (i ≡ j) ⊎ (i ≡ j → ⊥)
+alike i j = by-cases (eqb i j) refl
   where
-    two : x && y ≡ true
-    two = not-false (x && y) h
+    by-cases : (b : Bool) → eqb i j ≡ b → (i ≡ j) ⊎ (i ≡ j → ⊥)
+    by-cases true e = inl (eqb-true i j e)
+    by-cases false e = inr (eqb-false i j e)
 
-    by-cases : (a b : Bool) → ltb j i ≡ a → ltb j (i + 8) ≡ b → eqb (numberAt 4 s (16 + 4 * j)) key ≡ false
-    by-cases true b e f = below j (ltb-true _ _ e)
-    by-cases false true e f =
-        let o : 16 + 4 * i + 4 * (j - i) ≡ 16 + 4 * j = omega (arith, ltb-false j i e) in
-        rw o at (none-each 8 s (16 + 4 * i) key (sym p ∙ and-left x y two) (j - i) (omega (arith, ltb-true j (i + 8) f, ltb-false j i e)))
-    by-cases false false e f =
-        let o : 16 + 4 * i + 32 + 4 * (j - (i + 8)) ≡ 16 + 4 * j = omega (arith, ltb-false j (i + 8) f) in
-        rw o at (none-each 8 s (16 + 4 * i + 32) key (sym q ∙ and-right x y two) (j - (i + 8)) (omega (arith, ltb-false j (i + 8) f)))
+-- ---- the lowest number
 
--- what was skipped is not held with the key
-pub skipped : (s : List ℕ) (n clock key r : ℕ) → ((j : ℕ) → j < r → eqb (numberAt 4 s (16 + 4 * j)) key ≡ false) → lowest (λ j. holds clock key (placeAt s n j)) r ≡ r
-unfolding holds keyAt
-skipped s n clock key zero h = refl
-skipped s n clock key (suc r) h =
-    rw (add-one r) at (lowest-none (λ j. holds clock key (placeAt s n j)) r (skipped s n clock key r (λ j g. h j (omega arith))) refl (rw (h r (omega arith))))
+pub lowest-passes : (p : ℕ → Bool) (n : ℕ) → lowest p n < n → p (lowest p n) ≡ true
+lowest-passes p zero h = absurd (omega arith)
+lowest-passes p (suc n) h = by-cases (ltb (lowest p n) n) (p n) refl refl (lowest-passes p n) h
+  where
+    by-cases : (a b : Bool) → ltb (lowest p n) n ≡ a → p n ≡ b → (lowest p n < n → p (lowest p n) ≡ true)
+        → cond a (lowest p n) (cond b n (suc n)) < suc n → p (cond a (lowest p n) (cond b n (suc n))) ≡ true
+    by-cases true b e f r h = r (ltb-true _ _ e)
+    by-cases false true e f r h = f
+    by-cases false false e f r h = absurd (omega arith)
 
--- ---- one place: its key as it was read, and its body
+lowest-least : (p : ℕ → Bool) (n i : ℕ) → i < n → p i ≡ true → lowest p n ≤ i
+lowest-least p zero i h t = absurd (omega arith)
+lowest-least p (suc n) i h t = by-cases (ltb (lowest p n) n) (p n) refl refl (λ k. lowest-least p n i k t) (eq-or-lt-of-le {n = i} {m = n} (omega arith))
+  where
+    by-cases : (a b : Bool) → ltb (lowest p n) n ≡ a → p n ≡ b → (i < n → lowest p n ≤ i) → (i ≡ n) ⊎ (i < n) → cond a (lowest p n) (cond b n (suc n)) ≤ i
+    by-cases true b e f r (inl k) = omega (arith, ltb-true (lowest p n) n e)
+    by-cases true b e f r (inr k) = r k
+    by-cases false true e f r (inl k) = omega arith
+    by-cases false true e f r (inr k) = absurd (omega (arith, ltb-false (lowest p n) n e, r k))
+    by-cases false false e f r (inl k) = absurd (clash (ap p (sym k) ∙ t) f)
+    by-cases false false e f r (inr k) = absurd (omega (arith, ltb-false (lowest p n) n e, r k))
 
-module _ (s : List ℕ) (n i clock : ℕ) {k : ℕ} (e : k ≡ numberAt 4 s (16 + 4 * i)) where
-  pub held-as : {p : List ℕ} {h : Bool} → p ≡ bodyAt s n i → h ≡ held clock k p → h ≡ isHeld clock (placeAt s n i)
-  unfolding keyAt
-  held-as p h = rw (← e, ← p) h
+pub none-passes : (p : ℕ → Bool) (n : ℕ) → ltb (lowest p n) n ≡ false → (i : ℕ) → i < n → p i ≡ false
+none-passes p n e i h = fails (p i) (λ f. omega (arith, ltb-false (lowest p n) n e, lowest-least p n i h f))
 
-  pub key-yes : (key : ℕ) {p : List ℕ} {h : Bool} → k ≡ key → p ≡ bodyAt s n i → h ≡ held clock key p → h ≡ holds clock key (placeAt s n i)
-  unfolding holds keyAt
-  key-yes key f p h = rw (← e, f, eq-eqb key key refl, ← p) h
+-- ---- the thing found
 
-  pub key-no : (key : ℕ) → (k ≡ key → ⊥) → false ≡ holds clock key (placeAt s n i)
-  unfolding holds keyAt
-  key-no key f = rw (← e, ne-eqb k key f)
+-- what is left of a thing found that must pass a second test
+abbrev pub keep : {C : Type 0} → (C → Bool) → Option C → Option C
+keep young none = none
+keep young (some c) = cond (young c) (some c) none
 
-  module _ (above best : ℕ) where
-    module _ {p : List ℕ} (b : p ≡ bodyAt s n i) {h : Bool} (h-is : h ≡ held clock k p) (a : ltb above k && (eqb best 0 || ltb k best) ≡ true) where
-      pub better-yes : h ≡ true → k ≡ better clock above best (placeAt s n i)
-      unfolding better keyAt
-      better-yes y = rw (← e, ← b, a, ← h-is, y)
+module _ {C : Type 0} (is : C → Bool) where
+  module _ (f : ℕ → C) (n : ℕ) where
+    abbrev at : ℕ
+    at = lowest (λ i. is (f i)) n
 
-      pub better-out : h ≡ false → best ≡ better clock above best (placeAt s n i)
-      unfolding better keyAt
-      better-out y = rw (← e, ← b, a, ← h-is, y)
+    abbrev Hit : Type 0
+    Hit = (i : ℕ) × ((i < n) × (is (f i) ≡ true))
 
-    pub better-no : ltb above k && (eqb best 0 || ltb k best) ≡ false → best ≡ better clock above best (placeAt s n i)
-    unfolding better keyAt
-    better-no a = rw (← e, a)
+    abbrev Miss : Type 0
+    Miss = (i : ℕ) → i < n → is (f i) ≡ false
 
--- the smallest key of one place more
-pub smallest-more : (f : ℕ → Place) (clock above i : ℕ) {best r : ℕ} → best ≡ smallest f clock above i → r ≡ better clock above best (f i) → r ≡ smallest f clock above (i + 1)
-smallest-more f clock above i e h = h ∙ rw (e, add-one i) refl
+    look-hit : Once is f n → (i : ℕ) → i < n → is (f i) ≡ true → look is f n ≡ some (f i)
+    look-hit u i h t =
+        let l : at ≤ i = lowest-least (λ j. is (f j)) n i h t in
+        let m : at < n = omega arith in
+        let e : at ≡ i = u at i m h (lowest-passes (λ j. is (f j)) n m) t in
+        rw (e, lt-ltb i n h)
+
+    pub look-miss : Miss → look is f n ≡ none
+    look-miss a = by-cases (ltb at n) refl
+      where
+        by-cases : (b : Bool) → ltb at n ≡ b → cond b (some (f at)) none ≡ none
+        by-cases true e = let m : at < n = ltb-true _ _ e in absurd (clash (lowest-passes (λ j. is (f j)) n m) (a at m))
+        by-cases false e = refl
+
+    hit-or-miss : Hit ⊎ Miss
+    hit-or-miss = by-cases (ltb at n) refl
+      where
+        by-cases : (b : Bool) → ltb at n ≡ b → Hit ⊎ Miss
+        by-cases true e = let m : at < n = ltb-true _ _ e in inl (at, (m, lowest-passes (λ j. is (f j)) n m))
+        by-cases false e = inr (none-passes (λ j. is (f j)) n e)
+
+  -- things that pass the test at the same numbers, and are the same there
+  module _ (f g : ℕ → C) (n : ℕ) (same : (i : ℕ) → i < n → is (g i) ≡ is (f i)) (u : Once is f n) where
+    pub once-same : Once is g n
+    once-same i j h k p q = u i j h k (sym (same i h) ∙ p) (sym (same j k) ∙ q)
+
+    pub look-same : ((i : ℕ) → i < n → is (f i) ≡ true → g i ≡ f i) → look is g n ≡ look is f n
+    look-same e = ⊎-elim
+        (λ (w : Hit f n). look-hit g n once-same (w .0) (w .1 .0) (same (w .0) (w .1 .0) ∙ w .1 .1) ∙ ap some (e (w .0) (w .1 .0) (w .1 .1)) ∙ sym (look-hit f n u (w .0) (w .1 .0) (w .1 .1)))
+        (λ (w : Miss f n). look-miss g n (λ i h. same i h ∙ w i h) ∙ sym (look-miss f n w))
+        (hit-or-miss f n)
+
+  -- one thing passes the test, and no other
+  module _ (g : ℕ → C) (n i : ℕ) (h : i < n) (t : is (g i) ≡ true) (others : (j : ℕ) → j < n → (j ≡ i → ⊥) → is (g j) ≡ false) where
+    only : (j : ℕ) → j < n → is (g j) ≡ true → j ≡ i
+    only j k p = ⊎-elim (λ (e : j ≡ i). e) (λ (e : j ≡ i → ⊥). absurd (clash p (others j k e))) (alike j i)
+
+    pub once-only : Once is g n
+    once-only j k hj hk p q = only j hj p ∙ sym (only k hk q)
+
+    pub look-only : look is g n ≡ some (g i)
+    look-only = look-hit g n once-only i h t
+
+-- some things pass no longer
+module _ {C : Type 0} (was is young : C → Bool) (e : (c : C) → is c ≡ was c && young c) (f : ℕ → C) (n : ℕ) (u : Once was f n) where
+  still : (c : C) → is c ≡ true → (was c ≡ true) × (young c ≡ true)
+  still c h = each (was c) (young c) (sym (e c) ∙ h)
+
+  pub once-aged : Once is f n
+  once-aged i j h k p q = u i j h k (still (f i) p .0) (still (f j) q .0)
+
+  pub look-aged : look is f n ≡ keep young (look was f n)
+  look-aged = ⊎-elim (λ (w : Hit was f n). at-hit (w .0) (w .1 .0) (w .1 .1) (young (f (w .0))) refl) at-miss (hit-or-miss was f n)
+    where
+      at-miss : Miss was f n → look is f n ≡ keep young (look was f n)
+      at-miss w = look-miss is f n (λ i h. e (f i) ∙ ap (λ (b : Bool). b && young (f i)) (w i h)) ∙ sym (ap (keep young) (look-miss was f n w))
+
+      at-hit : (i : ℕ) → i < n → was (f i) ≡ true → (b : Bool) → young (f i) ≡ b → look is f n ≡ keep young (look was f n)
+      at-hit i h t true y = look-hit is f n once-aged i h (e (f i) ∙ rw (t, y)) ∙ sym (ap (keep young) (look-hit was f n u i h t) ∙ ap (λ (b : Bool). cond b (some (f i)) none) y)
+      at-hit i h t false y =
+          look-miss is f n (λ j k. fails (is (f j)) (λ p. clash (still (f j) p .1) (ap (λ (m : ℕ). young (f m)) (u j i k h (still (f j) p .0) t) ∙ y)))
+          ∙ sym (ap (keep young) (look-hit was f n u i h t) ∙ ap (λ (b : Bool). cond b (some (f i)) none) y)

@@ -1,149 +1,129 @@
--- What each way through the functions that answer gives: the tests on the way are those of the definition.
+-- The ways through a call, and what the decoder can refuse: by the tests in their order.
 -- Assumes nothing.
-use Prim.Native.Nat.{ℕ, _+_, _%_, _≤_, _<_}
-use mathlib.Core.Bool.{Bool, true, false, not}
-use mathlib.Core.Path.{_≡_, ap, _∙_}
-use mathlib.Core.List.{List, _++_}
+use Prim.Native.Nat.{ℕ, _≤_, _<_}
+use native.Mathlib.Omega.{arith}
+use mathlib.Core.Bool.{Bool, true, false, not, _&&_, false≢true}
+use mathlib.Core.Logic.{_⊎_, inl, inr}
+use mathlib.Core.Path.{_≡_, refl, ap, sym, _∙_, subst}
+use mathlib.Core.List.{List}
+use lib.Dec.{eqb, ltb}
 use lib.ListN.{length}
-use borrow.Author.Tests.{lt-ltb, le-ltb, eq-eqb, ne-eqb, not-true, not-false}
+use borrow.Author.Tests.{ltb-true, ltb-false, le-ltb, eqb-true, eqb-false, eq-eqb, not-true, not-false}
 use Rattle.refusals.specs.declared.Refusal.{Refusal}
-use Rattle.refusals.specs.declared.Refusal.the-variants.{Length, Late, Full, Places, Field}
-use Rattle.positions.specs.declared.Spot.{Spot}
-use Rattle.positions.specs.Positions.{poleToPole}
+use Rattle.refusals.specs.declared.Refusal.the-variants.{Length, Late, TypeCode, Full, Places}
+use Rattle.refusals.specs.Numbers.{numberOf}
+use Rattle.fields.specs.Bytes.{Bytes}
+use Rattle.fields.specs.Packing.{fits}
+use Rattle.fields.proofs.Bools.{by-test, and-right}
+use Rattle.parity.specs.Parity.{remainder}
+use Rattle.layouts.specs.Layouts.{me, isIdentification, isSurface, isAirborne, isGround, isAir}
+use Rattle.layouts.specs.Bodies.{takenAt, taken, bodyFits}
+use Rattle.layouts.specs.declared.bodies.Taken.{Taken}
+use Rattle.layouts.specs.declared.bodies.Taken.the-variants as read
+use Rattle.messages.specs.declared.Message.{Message}
 use Rattle.messages.specs.declared.Decoded.{Decoded}
 use Rattle.messages.specs.declared.Decoded.the-variants as decode
-use Rattle.messages.specs.declared.Message.{Message}
-use Rattle.messages.specs.Message.{decoded, keyOf}
-use Rattle.track.specs.declared.Site.{Site}
-use Rattle.track.specs.declared.Track.{Track}
-use Rattle.track.specs.declared.Stepped.{Stepped}
-use Rattle.track.specs.Track.{newTrack, stepped}
-use Rattle.place.specs.Bytes.{lowBytes, put}
-use Rattle.place.specs.Place.{raised, trackOf}
-use Rattle.table.specs.declared.SetUp.the-variants as setting
-use Rattle.table.specs.declared.Holding.the-variants as holding
-use Rattle.table.specs.declared.NextKey.{NextKey}
-use Rattle.table.specs.declared.NextKey.the-variants as next
-use Rattle.table.specs.declared.Clock.the-variants as clock
-use Rattle.table.specs.declared.Sited.the-variants as sited
-use Rattle.table.specs.Layout.{wholePlaces, placesIn, clockOf, siteOf, bodyAt, placeAt, isHeld, holds, moved, stored, emptied, emptiedAt}
-use Rattle.table.specs.Table.{after, setUp, setUpAt, lowest, placeOf, freePlace, placed, delivered, received, lookedUp, smallest, keyOrEnd, nextAbove, clockIn, siteIn}
+use Rattle.messages.specs.Message.{bits, headWidths, headFields, formatTaken, withBody, opened, decoded}
+use Rattle.messages.proofs.BothWays.{decoded-good}
+use Rattle.table.specs.Layout.{wholePlaces, clockOf, moved}
+use Rattle.table.specs.Table.{After, after, delivered, received}
+use Rattle.table.specs.View.{Early, Undecoded}
 
--- ---- a message reaches the table
+-- ---- answers apart
 
--- a step and its store
-pub step-placed : (s : List ℕ) (n i key : ℕ) {u v : Stepped} {l : List ℕ} → u ≡ v → l ≡ stored s n i key (u .track) → after (u .answer) l ≡ placed s n i key v
-step-placed s n i key {u} e h = ap (after (u .answer)) h ∙ ap (placed s n i key) e
+abbrev isRefused : Decoded → Bool
+isRefused (decode.Message m) = false
+isRefused (decode.Refused r) = true
 
-module _ (s : List ℕ) (time : ℕ) where
-  pub deliver-refused : {a : Decoded} (r : Refusal) → a ≡ decode.Refused r → after a s ≡ delivered s a time
-  unfolding delivered
-  deliver-refused r e = rw e
+pub not-refused : {m : Message} {r : Refusal} → decode.Message m ≡ decode.Refused r → ⊥
+not-refused e = false≢true (ap isRefused e)
 
-  module _ {a : Decoded} {m : Message} (a-is : a ≡ decode.Message m) {k n i : ℕ} (k-is : k ≡ keyOf m) (n-is : n ≡ placesIn s) (i-is : i ≡ lowest (λ j. holds time k (placeAt s n j)) n) where
-    pub deliver-held : {x : Decoded} {p l : List ℕ} {t : Track} → i < n → p ≡ bodyAt s n i → t ≡ trackOf p
-        → after x l ≡ placed s n i k (stepped t (decode.Message m) (siteOf s) time) → after x l ≡ delivered s a time
-    unfolding delivered placeOf
-    deliver-held h p-is t-is d =
-        d
-        ∙ ap (λ (t : Track). placed s n i k (stepped t (decode.Message m) (siteOf s) time)) (t-is ∙ ap trackOf p-is)
-        ∙ rw (a-is, ← k-is, ← n-is, ← i-is, lt-ltb i n h)
+abbrev reason : Decoded → Refusal
+reason (decode.Message m) = Length
+reason (decode.Refused r) = r
 
-    module _ (h : n ≤ i) {j : ℕ} (j-is : j ≡ lowest (λ j. not (isHeld time (placeAt s n j))) n) where
-      pub deliver-new : {x : Decoded} {l : List ℕ} {t : Track} → j < n → t ≡ newTrack
-          → after x l ≡ placed s n j k (stepped t (decode.Message m) (siteOf s) time) → after x l ≡ delivered s a time
-      unfolding delivered placeOf freePlace
-      deliver-new g t-is d =
-          d
-          ∙ ap (λ (t : Track). placed s n j k (stepped t (decode.Message m) (siteOf s) time)) t-is
-          ∙ rw (a-is, ← k-is, ← n-is, ← i-is, le-ltb i n h, ← j-is, lt-ltb j n g)
+pub refused-as : {q r : Refusal} → decode.Refused q ≡ decode.Refused r → q ≡ r
+refused-as e = ap reason e
 
-      pub deliver-full : n ≤ j → after (decode.Refused Full) s ≡ delivered s a time
-      unfolding delivered placeOf freePlace
-      deliver-full g = rw (a-is, ← k-is, ← n-is, ← i-is, le-ltb i n h, ← j-is, le-ltb j n g)
+-- 1, 7 and 2 are none of 3, 4, 5 and 6
+later-number : (r : Refusal) → Undecoded r ⊎ (r ≡ Full) → (3 ≤ numberOf r) × (numberOf r ≤ 6)
+later-number r (inl (inl e)) = let n = ap numberOf e in (omega arith, omega arith)
+later-number r (inl (inr (inl e))) = let n = ap numberOf e in (omega arith, omega arith)
+later-number r (inl (inr (inr e))) = let n = ap numberOf e in (omega arith, omega arith)
+later-number r (inr e) = let n = ap numberOf e in (omega arith, omega arith)
 
--- ---- a message is received
+pub not-both : (r : Refusal) → Early r → Undecoded r ⊎ (r ≡ Full) → ⊥
+not-both r (inl e) h = let n = ap numberOf e in omega (arith, later-number r h)
+not-both r (inr (inl e)) h = let n = ap numberOf e in omega (arith, later-number r h)
+not-both r (inr (inr e)) h = let n = ap numberOf e in omega (arith, later-number r h)
 
-module _ (s m : List ℕ) (time : ℕ) where
-  pub receive-length : (length m ≡ 14 → ⊥) → after (decode.Refused Length) s ≡ received s m time
+-- ---- the decoder
+
+abbrev ByBody : Taken → Type 0
+ByBody (read.Body b) = Unit
+ByBody (read.Refused r) = r ≡ TypeCode
+
+body-refuses : (type subtype n : ℕ) → ByBody (takenAt type subtype n)
+body-refuses type subtype n =
+    by-test ByBody (isIdentification type) _ _ (λ _. tt)
+    (λ _. by-test ByBody (isSurface type) _ _ (λ _. tt)
+    (λ _. by-test ByBody (isAirborne type) _ _ (λ _. tt)
+    (λ _. by-test ByBody (isGround type subtype) _ _ (λ _. tt)
+    (λ _. by-test ByBody (isAir type subtype) _ _ (λ _. tt) (λ _. refl)))))
+
+abbrev ByDecoder : Decoded → Type 0
+ByDecoder (decode.Message m) = Unit
+ByDecoder (decode.Refused r) = Undecoded r
+
+with-body : (format control address : ℕ) (b : Taken) → ByBody b → ByDecoder (withBody format control address b)
+with-body format control address (read.Body b) e = tt
+with-body format control address (read.Refused r) e = inr (inr e)
+
+module _ (message : List ℕ) where
+  opened-refuses : ByDecoder (opened (bits 1 5 message) (bits 6 8 message) (bits 9 32 message) (bits 33 88 message))
+  unfolding opened
+  opened-refuses =
+      let n : ℕ = bits 33 88 message in
+      by-test ByDecoder (not (formatTaken (bits 1 5 message) (bits 6 8 message))) _ _ (λ _. inr (inl refl))
+      (λ _. with-body (bits 1 5 message) (bits 6 8 message) (bits 9 32 message) (taken n) (body-refuses (me 1 5 n) (me 6 8 n) n))
+
+  pub decoder-refuses : (r : Refusal) → length message ≡ 14 → decoded message ≡ decode.Refused r → Undecoded r
+  decoder-refuses r l d =
+      subst ByDecoder d
+      (by-test ByDecoder (not (eqb (length message) 14)) _ _ (λ e. absurd (eqb-false (length message) 14 (not-true _ e) l))
+      (λ _. by-test ByDecoder (not (eqb (remainder message) 0)) _ _ (λ _. inl refl) (λ _. opened-refuses)))
+
+  pub decoded-14 : (m : Message) → decoded message ≡ decode.Message m → length message ≡ 14
+  decoded-14 m d = by-cases (eqb (length message) 14) refl
+    where
+      by-cases : (b : Bool) → eqb (length message) 14 ≡ b → length message ≡ 14
+      by-cases true e = eqb-true _ _ e
+      by-cases false e = let short : decoded message ≡ decode.Refused Length = rw e in absurd (not-refused (sym d ∙ short))
+
+  pub decoded-fits : (m : Message) → Bytes message → decoded message ≡ decode.Message m → bodyFits (m .body) ≡ true
+  decoded-fits m h d = and-right (fits headWidths (headFields m) && formatTaken (m .format) (m .control)) (bodyFits (m .body)) (decoded-good message m h d .0)
+
+-- ---- a call
+
+pub data Way (s message : List ℕ) (t : ℕ) : After Decoded → Type 0 where
+  short : (length message ≡ 14 → ⊥) → Way s message t (after (decode.Refused Length) s)
+  uneven : length message ≡ 14 → wholePlaces (length s) ≡ false → Way s message t (after (decode.Refused Places) s)
+  late : length message ≡ 14 → wholePlaces (length s) ≡ true → t < clockOf s → Way s message t (after (decode.Refused Late) s)
+  timely : length message ≡ 14 → wholePlaces (length s) ≡ true → clockOf s ≤ t → Way s message t (delivered (moved s t) (decoded message) t)
+
+module _ (s message : List ℕ) (t : ℕ) where
+  pub way : Way s message t (received s message t)
   unfolding received
-  receive-length f = rw (ne-eqb (length m) 14 f)
+  way =
+      by-test (Way s message t) (not (eqb (length message) 14)) _ _ (λ l. short (eqb-false (length message) 14 (not-true _ l)))
+      (λ l. by-test (Way s message t) (not (wholePlaces (length s))) _ _ (λ w. uneven (fourteen l) (not-true _ w))
+      (λ w. by-test (Way s message t) (ltb t (clockOf s)) _ _ (λ h. late (fourteen l) (not-false _ w) (ltb-true _ _ h))
+      (λ h. timely (fourteen l) (not-false _ w) (ltb-false _ _ h))))
+    where
+      fourteen : not (eqb (length message) 14) ≡ false → length message ≡ 14
+      fourteen e = eqb-true (length message) 14 (not-false _ e)
 
-  module _ (l : length m ≡ 14) {t : Bool} (e : t ≡ wholePlaces (length s)) where
-    pub receive-size : not t ≡ true → after (decode.Refused Places) s ≡ received s m time
-    unfolding received
-    receive-size f = rw (eq-eqb (length m) 14 l, ← e, f)
-
-    module _ (f : not t ≡ false) {g : ℕ} (g-is : g ≡ clockOf s) where
-      pub receive-late : time < g → after (decode.Refused Late) s ≡ received s m time
-      unfolding received
-      receive-late h = rw (eq-eqb (length m) 14 l, ← e, f, ← g-is, lt-ltb time g h)
-
-      pub receive-on : g ≤ time → {r : List ℕ} → r ≡ put s 0 (lowBytes 8 time) → {a x : Decoded} {z : List ℕ} → a ≡ decoded m
-          → after x z ≡ delivered r a time → after x z ≡ received s m time
-      unfolding received moved
-      receive-on h {r} r-is a-is d = d ∙ ap (λ (a : Decoded). delivered r a time) a-is ∙ rw (r-is, eq-eqb (length m) 14 l, ← e, f, ← g-is, le-ltb time g h)
-
--- ---- set-up, and what can be read
-
-module _ (s : List ℕ) {t : Bool} (e : t ≡ wholePlaces (length s)) where
-  pub set-up-size : not t ≡ true → after (setting.Refused Places) s ≡ setUp s
-  unfolding setUp
-  set-up-size f = rw (← e, not-true t f)
-
-  pub set-up-on : not t ≡ false → {l : List ℕ} → l ≡ emptied s → after setting.Done l ≡ setUp s
-  unfolding setUp
-  set-up-on f h = rw (← e, not-false t f, ← h)
-
-  module _ (spot : Spot) where
-    pub site-size : not t ≡ true → after (setting.Refused Places) s ≡ setUpAt s spot
-    unfolding setUpAt
-    site-size f = rw (← e, f)
-
-    module _ (f : not t ≡ false) {p : Bool} (p-is : p ≡ poleToPole (spot .latitude)) where
-      pub site-pole : not p ≡ true → after (setting.Refused Field) s ≡ setUpAt s spot
-      unfolding setUpAt
-      site-pole g = rw (← e, f, ← p-is, g)
-
-      pub site-on : not p ≡ false → {l m : List ℕ} → l ≡ emptied s → m ≡ put l 8 (lowBytes 4 (raised (spot .latitude) % 4294967296 + 1) ++ lowBytes 4 (spot .longitude))
-          → after setting.Done m ≡ setUpAt s spot
-      unfolding setUpAt emptiedAt
-      site-on g l-is m-is = rw (← e, f, ← p-is, g, ← l-is, ← m-is)
-
-  pub look-size : (key : ℕ) → not t ≡ true → {u : Track} → u ≡ newTrack → record { answer = holding.Refused Places; track = u } ≡ lookedUp s key
-  unfolding lookedUp
-  look-size key f h = rw (← e, f, h)
-
-  module _ (key : ℕ) (f : not t ≡ false) {c n i : ℕ} (n-is : n ≡ placesIn s) (c-is : c ≡ clockOf s) (i-is : i ≡ lowest (λ j. holds c key (placeAt s n j)) n) where
-    pub look-found : i < n → {p : List ℕ} {u : Track} → p ≡ bodyAt s n i → u ≡ trackOf p → record { answer = holding.Held; track = u } ≡ lookedUp s key
-    unfolding lookedUp placeOf
-    look-found h p-is u-is = rw (← e, f, ← c-is, ← n-is, ← i-is, lt-ltb i n h, ← p-is, ← u-is)
-
-    pub look-none : n ≤ i → {u : Track} → u ≡ newTrack → record { answer = holding.Unheld; track = u } ≡ lookedUp s key
-    unfolding lookedUp placeOf
-    look-none h u-is = rw (← e, f, ← c-is, ← n-is, ← i-is, le-ltb i n h, u-is)
-
-  module _ (above : ℕ) where
-    pub next-size : not t ≡ true → next.Refused Places ≡ nextAbove s above
-    unfolding nextAbove
-    next-size f = rw (← e, f)
-
-    pub next-on : not t ≡ false → {c n k : ℕ} {r : NextKey} → n ≡ placesIn s → c ≡ clockOf s → k ≡ smallest (placeAt s n) c above n → r ≡ keyOrEnd k → r ≡ nextAbove s above
-    unfolding nextAbove
-    next-on f n-is c-is k-is r-is = rw (← e, f, ← c-is, ← n-is, ← k-is) r-is
-
-  pub clock-on : t ≡ true → {c : ℕ} → c ≡ clockOf s → clock.At c ≡ clockIn s
-  unfolding clockIn
-  clock-on f c-is = rw (← e, f, ← c-is)
-
-  pub clock-size : t ≡ false → clock.Refused Places ≡ clockIn s
-  unfolding clockIn
-  clock-size f = rw (← e, f)
-
-  pub site-in : t ≡ true → {x : Site} → x ≡ siteOf s → sited.Site x ≡ siteIn s
-  unfolding siteIn
-  site-in f x-is = rw (← e, f, ← x-is)
-
-  pub no-site : t ≡ false → sited.Refused Places ≡ siteIn s
-  unfolding siteIn
-  no-site f = rw (← e, f)
+  -- a call in time is a delivery
+  pub received-in-time : length message ≡ 14 → wholePlaces (length s) ≡ true → clockOf s ≤ t → received s message t ≡ delivered (moved s t) (decoded message) t
+  unfolding received
+  received-in-time l w h = rw (eq-eqb (length message) 14 l, w, le-ltb t (clockOf s) h)

@@ -1,16 +1,22 @@
 -- The abstract table: its clock, its site, and the track of each key that it holds.
 use Prim.Native.Nat.{ℕ, _-_, _<_}
 use mathlib.Core.Bool.{Bool, true, false, cond}
+use mathlib.Core.Logic.{_⊎_}
 use mathlib.Core.Option.{Option, some, none}
 use mathlib.Core.Path.{_≡_}
 use mathlib.Core.List.{List}
 use lib.Dec.{ltb}
 use lib.ListN.{length}
+use Rattle.refusals.specs.declared.Refusal.{Refusal}
+use Rattle.refusals.specs.declared.Refusal.the-variants.{Length, Late, Parity, Format, TypeCode, Places}
 use Rattle.fields.specs.Bytes.{Bytes}
+use Rattle.track.specs.declared.Site.{Site}
 use Rattle.track.specs.declared.Track.{Track}
 use Rattle.track.specs.Track.{newTrack}
 use Rattle.place.specs.Place.{trackOf}
-use Rattle.table.specs.Layout.{Place, wholePlaces, placesIn, clockOf, placeAt, isHeld, holds}
+use Rattle.table.specs.declared.Holding.the-variants as holding
+use Rattle.table.specs.declared.Looked.{Looked}
+use Rattle.table.specs.Layout.{Place, wholePlaces, placesIn, clockOf, siteOf, placeAt, isHeld, holds}
 use Rattle.table.specs.Table.{lowest}
 
 -- the places of a table
@@ -31,6 +37,11 @@ viewAt clock s key = trackIn (look (holds clock key) (places s) (placesIn s))
 
 abbrev pub view : List ℕ → ℕ → Option Track
 view s key = viewAt (clockOf s) s key
+
+-- what a look at a view answers
+abbrev pub lookedAs : Option Track → Looked
+lookedAs none = record { answer = holding.Unheld; track = newTrack }
+lookedAs (some t) = record { answer = holding.Held; track = t }
 
 -- a track goes when clock minus last heard is 125,000 or more
 abbrev pub inDate : ℕ → Track → Bool
@@ -56,7 +67,22 @@ pub record Table (s : List ℕ) : Type 0 where
   pub size : wholePlaces (length s) ≡ true
   pub once : (key : ℕ) → Once (holds (clockOf s) key) (places s) (placesIn s)
 
+-- a table as set-up leaves it: at clock 0, with the site, and no key held
+pub record Fresh (site : Site) (s : List ℕ) : Type 0 where
+  pub table : Table s
+  pub clock : clockOf s ≡ 0
+  pub sited : siteOf s ≡ site
+  pub unheld : (key : ℕ) → view s key ≡ none
+
 -- no place holds the key at the clock, and each holds a track in date
 pub record AllTaken (clock key : ℕ) (s : List ℕ) : Type 0 where
   pub unheld : (i : ℕ) → i < placesIn s → holds clock key (places s i) ≡ false
   pub taken : (i : ℕ) → i < placesIn s → isHeld clock (places s i) ≡ true
+
+-- 1, 7 and 2, which come before the clock moves
+abbrev pub Early : Refusal → Type 0
+Early r = (r ≡ Length) ⊎ ((r ≡ Places) ⊎ (r ≡ Late))
+
+-- 3, 4 and 5, which are the decoder's
+abbrev pub Undecoded : Refusal → Type 0
+Undecoded r = (r ≡ Parity) ⊎ ((r ≡ Format) ⊎ (r ≡ TypeCode))

@@ -3,7 +3,7 @@
 use native.Mathlib.Omega.{arith}
 use mathlib.Core.Path.{sym, _∙_}
 use Rattle.table.proofs.Parts.{sized}
-use Rattle.table.proofs.Ways.{clock-on, clock-size}
+use Rattle.table.proofs.Answers.{clock-on, clock-size}
 use borrow.Author.Needs.{needs}
 use Rattle.table.proofs.clock_of.Statement.{statement}
 use Rattle.table.proofs.clock_of.Tie as tie

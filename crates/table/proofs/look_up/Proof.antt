@@ -1,7 +1,7 @@
 -- `table::look_up` meets its contract: its three ways out are the definition's.
 -- Assumes nothing.
 use Rattle.table.proofs.Parts.{whole}
-use Rattle.table.proofs.Ways.{look-size, look-found, look-none}
+use Rattle.table.proofs.Answers.{look-size, look-found, look-none}
 use borrow.Author.Needs.{needs}
 use Rattle.table.proofs.look_up.Statement.{statement}
 use Rattle.table.proofs.look_up.Tie as tie

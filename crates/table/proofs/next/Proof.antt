@@ -1,7 +1,7 @@
 -- `table::next` meets its contract: its two ways out are the definition's.
 -- Assumes nothing.
 use Rattle.table.proofs.Parts.{whole}
-use Rattle.table.proofs.Ways.{next-size, next-on}
+use Rattle.table.proofs.Answers.{next-size, next-on}
 use borrow.Author.Needs.{needs}
 use Rattle.table.proofs.next.Statement.{statement}
 use Rattle.table.proofs.next.Tie as tie

@@ -3,7 +3,7 @@
 use native.Mathlib.Omega.{arith}
 use Rattle.place.proofs.Put.{put-length}
 use Rattle.table.proofs.Parts.{sized, whole}
-use Rattle.table.proofs.Ways.{receive-length, receive-size, receive-late, receive-on}
+use Rattle.table.proofs.Answers.{receive-length, receive-size, receive-late, receive-on}
 use borrow.Author.Needs.{needs}
 use Rattle.table.proofs.receive.Statement.{statement}
 use Rattle.table.proofs.receive.Tie as tie

@@ -1,6 +1,6 @@
 -- `table::set_up` meets its contract: its two ways out are the definition's.
 -- Assumes nothing.
-use Rattle.table.proofs.Ways.{set-up-size, set-up-on}
+use Rattle.table.proofs.Answers.{set-up-size, set-up-on}
 use borrow.Author.Needs.{needs}
 use Rattle.table.proofs.set_up.Statement.{statement}
 use Rattle.table.proofs.set_up.Tie as tie

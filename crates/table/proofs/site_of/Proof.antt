@@ -3,7 +3,7 @@
 use native.Mathlib.Omega.{arith}
 use mathlib.Core.Path.{sym, _∙_}
 use Rattle.table.proofs.Parts.{sized}
-use Rattle.table.proofs.Ways.{site-in, no-site}
+use Rattle.table.proofs.Answers.{site-in, no-site}
 use borrow.Author.Needs.{needs}
 use Rattle.table.proofs.site_of.Statement.{statement}
 use Rattle.table.proofs.site_of.Tie as tie

@@ -3,7 +3,7 @@
 use mathlib.Core.Path.{ap, _∙_}
 use Rattle.track.specs.declared.Site.{Site}
 use Rattle.track.specs.Track.{stepped}
-use Rattle.table.proofs.Ways.{step-placed}
+use Rattle.table.proofs.Answers.{step-placed}
 use borrow.Author.Needs.{needs}
 use Rattle.table.proofs.step_at.Statement.{statement}
 use Rattle.table.proofs.step_at.Tie as tie

@@ -5,7 +5,7 @@ use native.Mathlib.Omega.{arith}
 use mathlib.Core.Path.{_≡_, sym}
 use Rattle.table.specs.Layout.{placeAt, holds}
 use Rattle.table.specs.Table.{lowest}
-use Rattle.table.proofs.Search.{lowest-none, lowest-found, skipped}
+use Rattle.table.proofs.Scanned.{lowest-none, lowest-found, skipped}
 use borrow.Author.Needs.{needs}
 use Rattle.table.proofs.scan.find_key.Statement.{statement}
 use Rattle.table.proofs.scan.find_key.Tie as tie

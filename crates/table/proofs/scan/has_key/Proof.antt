@@ -1,6 +1,6 @@
 -- `table::scan::has_key` meets its contract: where the keys differ the place does not hold the key.
 -- Assumes nothing.
-use Rattle.table.proofs.Search.{key-yes, key-no}
+use Rattle.table.proofs.Scanned.{key-yes, key-no}
 use borrow.Author.Needs.{needs}
 use Rattle.table.proofs.scan.has_key.Statement.{statement}
 use Rattle.table.proofs.scan.has_key.Tie as tie

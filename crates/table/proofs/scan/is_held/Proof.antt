@@ -1,6 +1,6 @@
 -- `table::scan::is_held` meets its contract: the key and the body are the place's.
 -- Assumes nothing.
-use Rattle.table.proofs.Search.{held-as}
+use Rattle.table.proofs.Scanned.{held-as}
 use borrow.Author.Needs.{needs}
 use Rattle.table.proofs.scan.is_held.Statement.{statement}
 use Rattle.table.proofs.scan.is_held.Tie as tie

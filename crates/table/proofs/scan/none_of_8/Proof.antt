@@ -1,6 +1,6 @@
 -- `table::scan::none_of_8` meets its contract: each test is the definition's.
 -- Assumes nothing.
-use Rattle.table.proofs.Search.{none-8}
+use Rattle.table.proofs.Scanned.{none-8}
 use borrow.Author.Needs.{needs}
 use Rattle.table.proofs.scan.none_of_8.Statement.{statement}
 use Rattle.table.proofs.scan.none_of_8.Tie as tie

@@ -6,7 +6,7 @@ use mathlib.Core.Bool.{false}
 use mathlib.Core.Path.{_≡_}
 use lib.Dec.{eqb}
 use Rattle.place.specs.Bytes.{numberAt}
-use Rattle.table.proofs.Search.{skip-more}
+use Rattle.table.proofs.Scanned.{skip-more}
 use borrow.Author.Needs.{needs}
 use Rattle.table.proofs.scan.skip.Statement.{statement}
 use Rattle.table.proofs.scan.skip.Tie as tie

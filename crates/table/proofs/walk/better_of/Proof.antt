@@ -1,6 +1,6 @@
 -- `table::walk::better_of` meets its contract: its tests are the definition's, the dearest last.
 -- Assumes nothing.
-use Rattle.table.proofs.Search.{better-yes, better-out, better-no}
+use Rattle.table.proofs.Scanned.{better-yes, better-out, better-no}
 use borrow.Author.Needs.{needs}
 use Rattle.table.proofs.walk.better_of.Statement.{statement}
 use Rattle.table.proofs.walk.better_of.Tie as tie

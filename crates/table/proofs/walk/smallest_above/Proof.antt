@@ -5,7 +5,7 @@ use native.Mathlib.Omega.{arith}
 use mathlib.Core.Path.{_≡_, refl}
 use Rattle.table.specs.Layout.{placeAt}
 use Rattle.table.specs.Table.{smallest}
-use Rattle.table.proofs.Search.{smallest-more}
+use Rattle.table.proofs.Scanned.{smallest-more}
 use borrow.Author.Needs.{needs}
 use Rattle.table.proofs.walk.smallest_above.Statement.{statement}
 use Rattle.table.proofs.walk.smallest_above.Tie as tie
