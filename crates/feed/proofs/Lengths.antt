@@ -1,6 +1,6 @@
 -- A table stays as long as it is, whatever is received: each way of `received` keeps the bytes or stores over some of them.
 -- Assumes nothing.
-use Prim.Native.Nat.{ℕ, zero, suc, _+_, _*_}
+use Prim.Native.Nat.{ℕ, zero, suc}
 use mathlib.Core.Path.{_≡_, refl, _∙_}
 use mathlib.Core.Bool.{not}
 use mathlib.Core.List.{List}
@@ -10,22 +10,11 @@ use Rattle.fields.proofs.Bools.{by-test}
 use Rattle.messages.specs.declared.Decoded.{Decoded}
 use Rattle.messages.specs.declared.Decoded.the-variants as decode
 use Rattle.messages.specs.Message.{decoded, keyOf}
-use Rattle.track.specs.declared.Track.{Track}
-use Rattle.place.specs.Bytes.{lowBytes, put}
-use Rattle.place.specs.Place.{bodyOf}
-use Rattle.place.proofs.Put.{put-length}
 use Rattle.capture.specs.Block.{countOf, good, timeOf, messageOf}
-use Rattle.table.specs.Layout.{wholePlaces, placesIn, clockOf, moved, stored}
+use Rattle.table.specs.Layout.{wholePlaces, placesIn, clockOf, moved}
 use Rattle.table.specs.Table.{After, placeOf, freePlace, delivered, received}
+use Rattle.table.proofs.Places.{moved-length, stored-length}
 use Rattle.feed.specs.Feed.{recordsInto, blockInto, blockAt, blocksInto}
-
-moved-length : (s : List ℕ) (t : ℕ) → length (moved s t) ≡ length s
-unfolding moved
-moved-length s t = put-length s 0 (lowBytes 8 t)
-
-stored-length : (s : List ℕ) (n i key : ℕ) (t : Track) → length (stored s n i key t) ≡ length s
-unfolding stored
-stored-length s n i key t = put-length (put s (16 + 4 * i) (lowBytes 4 key)) (16 + 4 * n + 75 * i) (bodyOf t) ∙ put-length s (16 + 4 * i) (lowBytes 4 key)
 
 -- an outcome whose table is as long as s
 abbrev Keeps : List ℕ → After Decoded → Type 0
