@@ -1,4 +1,4 @@
-"""Writes the samples, captures with the listing that each must give, or compares them with those that stand.
+"""Writes the samples, captures with the listing that each must give, or compares them with those that stand. One of them is what the program listing is run on.
 
     python3 reference/make_samples.py [--check] [--root FOLDER]
 
@@ -153,14 +153,19 @@ def busy_hour():
 
 
 SAMPLES = {"example": example, "busy-hour": busy_hour}
+RUN = "example"
 
 
 def files():
-    """Every file of samples/, with what it holds."""
+    """Every file, by its path in the repository, with what it holds."""
     for name, made in SAMPLES.items():
         whole = made()
-        yield f"{name}.capture", whole
-        yield f"{name}.listing", listing(whole).encode("ascii")
+        text = listing(whole).encode("ascii")
+        yield f"samples/{name}.capture", whole
+        yield f"samples/{name}.listing", text
+        if name == RUN:
+            yield "crates/listing/stdin", whole
+            yield "crates/listing/stdout", text
 
 
 def main():
@@ -168,16 +173,15 @@ def main():
     parser.add_argument("--check", action="store_true", help="write nothing, compare")
     parser.add_argument("--root", type=Path, default=Path(__file__).resolve().parent.parent)
     arguments = parser.parse_args()
-    folder = arguments.root / "samples"
     for name, content in files():
-        path = folder / name
+        path = arguments.root / name
         if not arguments.check:
-            folder.mkdir(exist_ok=True)
+            path.parent.mkdir(parents=True, exist_ok=True)
             path.write_bytes(content)
         elif not path.is_file() or path.read_bytes() != content:
-            print(f"samples/{name}: {'differs' if path.is_file() else 'missing'}")
+            print(f"{name}: {'differs' if path.is_file() else 'missing'}")
             return 1
-        print(f"samples/{name}: {len(content)} bytes {'as made' if arguments.check else 'written'}")
+        print(f"{name}: {len(content)} bytes {'as made' if arguments.check else 'written'}")
     return 0
 
 

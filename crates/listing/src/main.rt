@@ -1,0 +1,70 @@
+// Reads a capture on standard input to its end and prints the listing: 256 places, no site. It keeps one block at a time, so that memory does not grow with the capture.
+use feed::Fed;
+use libc::STDIN_FILENO;
+use libc::STDOUT_FILENO;
+use table::NextKey;
+use text::Line;
+ghost use mathlib.Core.Path.{_≡_};
+ghost use lib.ListN.{length};
+ghost use Rattle.table.specs.Layout.{emptied};
+ghost use Rattle.listing.specs.Input.{SomeFed};
+
+// Feeds the input, block by block, to an empty table, and counts the bad blocks. A short read is the end, or a failed read, which ends it too.
+// A proved loop has to end, and nothing says that the input does. So the loop counts its turns down, from a number that no run uses up.
+fn read_all(table: &mut [u8], block: &mut [u8]) -> u64
+    requires { ⌜ (length (now table) ≡ 20240) × (length (now block) ≡ 512) ⌝ }
+    ensures { λ r. ⌜ SomeFed (emptied (now (table .entry))) r (now (table .exit)) ⌝ }
+{
+    table::set_up(table);
+    let mut bad: u64 = 0;
+    let mut turns: u64 = 0xffff_ffff_ffff_ffff;
+    while turns > 0 {
+        let n = io::read_full(STDIN_FILENO, block);
+        if n == 0 {
+            return bad;
+        }
+        let Fed::Bad(next) = feed::feed_block(table, &block[..n], bad) else {
+            return bad;
+        };
+        bad = next;
+        if n < 512 {
+            return bad;
+        }
+        turns -= 1;
+    }
+    bad
+}
+
+// The first n bytes. The test costs less than a proof that it holds.
+fn print_first(text: &[u8], n: usize) {
+    if n <= text.len() {
+        io::write_all(STDOUT_FILENO, &text[0..n]);
+    }
+}
+
+fn print(line: Line) {
+    let bytes = line.bytes;
+    print_first(&bytes, line.len);
+}
+
+// The lines, in the order of the keys.
+fn print_tracks(table: &[u8]) {
+    let mut key: u32 = 0;
+    loop {
+        let NextKey::Key(next) = table::next(table, key) else {
+            return;
+        };
+        let r = report::line_of(table, next);
+        print(r.line);
+        key = next;
+    }
+}
+
+fn main() {
+    let mut table = [0u8; 20240];
+    let mut block = [0u8; 512];
+    let bad = read_all(&mut table, &mut block);
+    let r = report::header_of(&table, bad);
+    print(r.line);
+    print_tracks(&table);
+}
