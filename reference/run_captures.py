@@ -1,0 +1,98 @@
+"""Runs the program "listing" on the samples and on 200 random captures, and compares with the model.
+
+    python3 reference/run_captures.py
+
+The program must have been built: target/bin/listing. The first difference is named, and the status is 1.
+"""
+
+import subprocess
+import sys
+from pathlib import Path
+from random import Random
+
+import traffic
+from captures import BLOCK, MOST_RECORDS, SEAL, block, listing
+from make_samples import SAMPLES, resealed
+from positions import EVEN, ODD
+from traffic import NO_TRANSPONDER, OTHER, TRANSPONDER
+from vectors.message_vectors import flipped, random_valid
+
+ROOT = Path(__file__).resolve().parent.parent
+RANDOM_CAPTURES = 200
+
+
+def message(chance):
+    """A message: of one of a few aircraft, of anybody, damaged, or noise."""
+    head, aa = chance.choice((TRANSPONDER, NO_TRANSPONDER, OTHER)), chance.choice((0, 1, 0xABCDEF, 2**24 - 1))
+    place = chance.randrange(-(2**30), 2**30), chance.randrange(2**32)
+    near = 2**29 + chance.randrange(10**6), 2**30 + chance.randrange(10**6)
+    return chance.choice((
+        lambda: traffic.airborne(head, aa, chance.choice((EVEN, ODD)), near),
+        lambda: traffic.airborne(head, aa, chance.choice((EVEN, ODD)), place, chance.choice((9, 18, 20)), chance.getrandbits(12)),
+        lambda: traffic.surface(head, aa, chance.choice((EVEN, ODD)), near),
+        lambda: traffic.identification(head, aa, "ADDER1"),
+        lambda: random_valid(chance),
+        lambda: flipped(random_valid(chance), chance.randrange(1, 113)),
+        lambda: chance.randbytes(14),
+    ))()
+
+
+def records(chance):
+    """Up to 200 records; the clock moves by steps around the ages that matter, and now and then back."""
+    time = chance.choice((0, 1_000, 2**63, 2**64 - 10**6))
+    for _ in range(chance.randrange(200)):
+        time += chance.choice((0, 1, 400, 9_999, 10_001, 120_001, 125_000, -5_000))
+        time = max(0, min(time, 2**64 - 1))
+        yield time, message(chance)
+
+
+def damaged(chance, whole):
+    """The block, or one that breaks a rule."""
+    kind = chance.randrange(20)
+    if kind == 0:
+        return flipped(whole, chance.randrange(1, 8 * BLOCK + 1))
+    if kind == 1:
+        return resealed(whole, 0, chance.choice((0, 24, 255, chance.randrange(256))))
+    if kind == 2:
+        return resealed(whole, chance.randrange(3, BLOCK - SEAL), chance.randrange(256))
+    if kind == 3:
+        return chance.choice((bytes(BLOCK), chance.randbytes(BLOCK)))
+    return whole
+
+
+def random_capture(chance):
+    """Blocks of any count, some of them bad, and often a part of one at the end."""
+    rows, made = list(records(chance)), []
+    while rows:
+        count = chance.randrange(1, MOST_RECORDS + 1)
+        made.append(damaged(chance, block(len(made), rows[:count])))
+        rows = rows[count:]
+    if chance.randrange(2):
+        made.append(chance.randbytes(chance.randrange(BLOCK)))
+    return b"".join(made)
+
+
+def captures():
+    """Every capture, with its name."""
+    for name, made in SAMPLES.items():
+        yield name, made()
+    chance = Random(11)
+    for number in range(RANDOM_CAPTURES):
+        yield f"random capture {number}", random_capture(chance)
+
+
+def main():
+    count = 0
+    for name, whole in captures():
+        ran = subprocess.run([ROOT / "tools/run", ROOT / "target/bin/listing"], input=whole, capture_output=True, check=False)
+        expected = listing(whole).encode("ascii")
+        if ran.returncode != 0 or ran.stdout != expected:
+            print(f"{name}: status {ran.returncode}; the model says\n{expected.decode()}and the program\n{ran.stdout.decode()}")
+            return 1
+        count += 1
+    print(f"{count} captures: the program prints what the model says")
+    return 0
+
+
+if __name__ == "__main__":
+    sys.exit(main())
