@@ -18,6 +18,7 @@ from traffic import NO_TRANSPONDER, OTHER, TRANSPONDER
 from vectors.message_vectors import flipped, random_valid
 
 ROOT = Path(__file__).resolve().parent.parent
+COMMAND = [ROOT / "tools/run", ROOT / "target/bin/listing"]
 RANDOM_CAPTURES = 200
 
 
@@ -84,10 +85,11 @@ def captures():
 def main():
     count = 0
     for name, whole in captures():
-        ran = subprocess.run([ROOT / "tools/run", ROOT / "target/bin/listing"], input=whole, capture_output=True, check=False)
+        ran = subprocess.run(COMMAND, input=whole, capture_output=True, timeout=60, check=False)
         expected = listing(whole).encode("ascii")
         if ran.returncode != 0 or ran.stdout != expected:
-            print(f"{name}: status {ran.returncode}; the model says\n{expected.decode()}and the program\n{ran.stdout.decode()}")
+            print(f"{name}: status {ran.returncode}; the model says\n{expected.decode()}and the program")
+            print((ran.stdout + ran.stderr).decode("ascii", errors="replace"))
             return 1
         count += 1
     print(f"{count} captures: the program prints what the model says")
