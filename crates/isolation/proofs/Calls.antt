@@ -6,7 +6,7 @@ use mathlib.Core.Logic.{⊎-elim, inr}
 use mathlib.Core.Option.{Option, some, none}
 use mathlib.Core.Path.{_≡_, refl, ap, ap₂, sym, _∙_, subst}
 use mathlib.Core.List.{List}
-use lib.Dec.{eqb, ltb}
+use lib.Dec.{ltb}
 use borrow.Author.Tests.{ltb-true, ltb-false, eqb-true, eq-eqb}
 use Rattle.refusals.specs.declared.Refusal.{Refusal}
 use Rattle.refusals.specs.declared.Refusal.the-variants.{Full, Late}
@@ -29,7 +29,7 @@ abbrev keyIn : Decoded → ℕ
 keyIn (decode.Message m) = keyOf m
 keyIn (decode.Refused r) = 0
 
-abbrev with-track : ℕ → Option Track → Own
+abbrev pub with-track : ℕ → Option Track → Own
 with-track clock t = record { clock = clock; track = t }
 
 -- ---- whose a message is

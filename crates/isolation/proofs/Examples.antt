@@ -112,8 +112,8 @@ own-calls = (refl, refl, refl, refl, refl, refl, refl)
 own-first : own key first ≡ true
 own-first = own-calls .0
 
-not-refused : own key refused ≡ false
-not-refused = own-calls .6
+noise-not-own : own key refused ≡ false
+noise-not-own = own-calls .6
 
 done : (begun none (empty 1) .answer ≡ Done) × (begun none (empty 2) .answer ≡ Done)
 unfolding setUp wholePlaces
@@ -122,7 +122,7 @@ done = (refl, refl)
 -- ---- a call of its own, and then one that is not: alike whatever that is
 
 alike : (c : Call) → own key c ≡ false → c .time ≡ 2000 → Alike key (first ∷ c ∷ []) (first ∷ refused ∷ [])
-alike c o t = its first own-first (others c refused o not-refused (cc) end)
+alike c o t = its first own-first (others c refused o noise-not-own (cc) end)
 
 not-six : {d : Decoded} → numberIn d ≡ 0 → d ≡ decode.Refused Full → ⊥
 not-six z e = let six : _≡_ {A = ℕ} 0 6 = sym z ∙ ap numberIn e in omega arith
@@ -137,7 +137,7 @@ module _ (rule : Rule) (n : ℕ) (is-done : begun none (empty n) .answer ≡ Don
       differ
       (sym p
       ∙ ap (λ (x : List Seen). heardIn (lastOf x))
-      (h key none tt (empty n) (empty n) is-done is-done (first ∷ c ∷ []) (first ∷ refused ∷ []) (alike c o t) (never-full c o) (never-full refused not-refused))
+      (h key none tt (empty n) (empty n) is-done is-done (first ∷ c ∷ []) (first ∷ refused ∷ []) (alike c o t) (never-full c o) (never-full refused noise-not-own))
       ∙ q)
 
 -- ---- two alike runs that differ in a stranger's call, and hold a track at the end
@@ -153,7 +153,7 @@ pub not-empty : Alike key (first ∷ stranger ∷ []) (first ∷ refused ∷ [])
 not-empty = (
   alike stranger (own-calls .3) refl,
   never-full received 2 (done .1) (held-in-both .0) stranger (own-calls .3),
-  never-full received 2 (done .1) (held-in-both .0) refused not-refused,
+  never-full received 2 (done .1) (held-in-both .0) refused noise-not-own,
   (λ e. let z : _≡_ {A = ℕ} 141 0 = ap (λ (m : List ℕ). getD m 0 0) e in omega arith),
   held-in-both .1,
   held-in-both .2,

@@ -13,7 +13,6 @@ use Rattle.messages.specs.declared.Decoded.{Decoded}
 use Rattle.messages.specs.declared.Decoded.the-variants as decode
 use Rattle.messages.specs.Message.{decoded}
 use Rattle.track.specs.declared.Site.{Site}
-use Rattle.track.specs.declared.Track.{Track}
 use Rattle.table.specs.declared.SetUp.the-variants.{Done}
 use Rattle.table.specs.Layout.{clockOf, noSite, siteOf}
 use Rattle.table.specs.Table.{After, received}
@@ -21,7 +20,7 @@ use Rattle.table.specs.View.{Table, Fresh}
 use Rattle.table.proofs.Laws.{table-after, site-after, set-up-table, set-up-at-table}
 use Rattle.isolation.specs.Runs.{Call, own, Alike, Alike.end, Alike.its, Alike.others, call, NeverFull, Seen, saw, seen, begun, Fits, Isolation}
 use Rattle.isolation.specs.Alone.{Heard, heardIn, heardOf, Own, ownOf, ownAfter, answerTo, sawAlone, seenAlone}
-use Rattle.isolation.proofs.Calls.{none-in, other-call, own-call}
+use Rattle.isolation.proofs.Calls.{with-track, none-in, other-call, own-call}
 
 -- ---- one call
 
@@ -96,9 +95,6 @@ site-of (some spot) = record { known = true; spot = spot }
 pub begun-fresh : (site : Option Spot) → Fits site → (s : List ℕ) → begun site s .answer ≡ Done → Fresh (site-of site) (begun site s .table)
 begun-fresh none fits s done = set-up-table s done
 begun-fresh (some spot) fits s done = set-up-at-table s spot fits done
-
-abbrev with-track : ℕ → Option Track → Own
-with-track clock t = record { clock = clock; track = t }
 
 pub isolation : Isolation received
 isolation key site fits s t p q xs ys a f g =

@@ -11,7 +11,8 @@ use Rattle.table.specs.declared.NextKey.{NextKey}
 use Rattle.table.specs.declared.NextKey.the-variants.{Key, Refused}
 use Rattle.table.specs.Layout.{wholePlaces}
 use Rattle.table.specs.Table.{nextAbove}
-use Rattle.table.proofs.KeyOrder.{Follows, next-follows}
+use Rattle.table.specs.View.{Follows}
+use Rattle.table.proofs.KeyOrder.{next-follows}
 
 no-next : (s : List ℕ) (above : ℕ) → wholePlaces (length s) ≡ false → nextAbove s above ≡ Refused Places
 unfolding nextAbove

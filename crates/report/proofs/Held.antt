@@ -1,47 +1,21 @@
 -- What the view shows of a key: a track just where some place holds the key, and then the key is in its range. By the search for the lowest place.
 -- Assumes nothing.
-use Prim.Native.Nat.{ℕ, zero, suc, _≤_, _<_}
-use native.Mathlib.Nat.{eq-or-lt-of-le}
-use native.Mathlib.Omega.{arith}
+use Prim.Native.Nat.{ℕ, _≤_, _<_}
 use mathlib.Core.Bool.{Bool, true, false, cond, _&&_, true≢false}
 use mathlib.Core.List.{List}
 use mathlib.Core.Logic.{_⊎_, inl, inr, ⊎-elim}
 use mathlib.Core.Option.{some, none}
 use mathlib.Core.Path.{_≡_, refl, sym, _∙_}
 use lib.Dec.{eqb, leb, ltb}
-use borrow.Author.Tests.{leb-true, ltb-true, ltb-false, eqb-true}
+use borrow.Author.Tests.{leb-true, ltb-true, eqb-true}
 use Rattle.fields.proofs.Bools.{and-left, and-right}
 use Rattle.place.specs.Bytes.{numberAt}
 use Rattle.place.specs.Place.{inRange, held}
 use Rattle.track.specs.declared.Track.{Track}
 use Rattle.table.specs.Layout.{placesIn, clockOf, Place, holds}
 use Rattle.table.specs.Table.{lowest}
-use Rattle.table.specs.View.{places, trackIn, viewAt, view}
-use Rattle.table.proofs.KeyOrder.{HeldKey}
-
--- ---- the lowest number that passes a test
-
-module _ (p : ℕ → Bool) where
-  passes : (n : ℕ) → lowest p n < n → p (lowest p n) ≡ true
-  passes zero h = absurd (omega arith)
-  passes (suc n) h = by-tests (ltb (lowest p n) n) (p n) refl refl (passes n) h
-    where
-      by-tests : (a b : Bool) → ltb (lowest p n) n ≡ a → p n ≡ b → (lowest p n < n → p (lowest p n) ≡ true)
-          → cond a (lowest p n) (cond b n (suc n)) < suc n → p (cond a (lowest p n) (cond b n (suc n))) ≡ true
-      by-tests true b e f rest g = rest (ltb-true _ _ e)
-      by-tests false true e f rest g = f
-      by-tests false false e f rest g = absurd (omega arith)
-
-  fails : (n : ℕ) → n ≤ lowest p n → (i : ℕ) → i < n → p i ≡ false
-  fails zero h i g = absurd (omega arith)
-  fails (suc n) h i g = by-tests (ltb (lowest p n) n) (p n) refl refl (λ l k. fails n l i k) h
-    where
-      by-tests : (a b : Bool) → ltb (lowest p n) n ≡ a → p n ≡ b → (n ≤ lowest p n → i < n → p i ≡ false)
-          → suc n ≤ cond a (lowest p n) (cond b n (suc n)) → p i ≡ false
-      by-tests true b e f rest l = absurd (omega (arith, ltb-true (lowest p n) n e))
-      by-tests false true e f rest l = absurd (omega arith)
-      by-tests false false e f rest l =
-          ⊎-elim (λ (x : i ≡ n). rw x f) (λ (x : i < n). rest (ltb-false _ _ e) x) (eq-or-lt-of-le {n = i} {m = n} (omega arith))
+use Rattle.table.specs.View.{places, trackIn, viewAt, view, HeldKey}
+use Rattle.table.proofs.Search.{lowest-passes, none-passes}
 
 -- ---- the view of a key
 
@@ -58,9 +32,9 @@ module _ (s : List ℕ) (key : ℕ) where
           → (HeldKey s key × ((t : Track) × (trackIn (cond b (some (places s (lowest test (placesIn s)))) none) ≡ some t))) ⊎ ((HeldKey s key → ⊥) × (trackIn (cond b (some (places s (lowest test (placesIn s)))) none) ≡ none))
       by-test true e =
           let l = ltb-true (lowest test (placesIn s)) (placesIn s) e in
-          inl ((lowest test (placesIn s), (l, passes test (placesIn s) l)), (_, refl))
+          inl ((lowest test (placesIn s), (l, lowest-passes test (placesIn s) l)), (_, refl))
       by-test false e =
-          inr (λ w. absurd (true≢false (sym (w .1 .1) ∙ fails test (placesIn s) (ltb-false _ _ e) (w .0) (w .1 .0))), refl)
+          inr (λ w. absurd (true≢false (sym (w .1 .1) ∙ none-passes test (placesIn s) e (w .0) (w .1 .0))), refl)
 
   pub held-seen : HeldKey s key → (t : Track) × (view s key ≡ some t)
   held-seen w = ⊎-elim (λ (h : HeldKey s key × ((t : Track) × (view s key ≡ some t))). h .1) (λ (h : (HeldKey s key → ⊥) × (view s key ≡ none)). absurd (h .0 w)) seen

@@ -14,8 +14,8 @@ use Rattle.table.specs.declared.NextKey.{NextKey}
 use Rattle.table.specs.declared.NextKey.the-variants as next
 use Rattle.table.specs.Layout.{wholePlaces}
 use Rattle.table.specs.Table.{nextAbove}
-use Rattle.table.specs.View.{view}
-use Rattle.table.proofs.KeyOrder.{Follows, next-follows}
+use Rattle.table.specs.View.{view, Follows}
+use Rattle.table.proofs.KeyOrder.{next-follows}
 use Rattle.report.specs.Listing.{rowOf, lineFor, listed, one, counted}
 use Rattle.report.specs.Walked.{keyOrLimit}
 use Rattle.report.proofs.Held.{held-seen, unheld-unseen, held-range}

@@ -12,7 +12,8 @@ use Rattle.table.specs.declared.NextKey.{NextKey}
 use Rattle.table.specs.declared.NextKey.the-variants as next
 use Rattle.table.specs.Layout.{wholePlaces}
 use Rattle.table.specs.Table.{nextAbove}
-use Rattle.table.proofs.KeyOrder.{Follows, next-follows}
+use Rattle.table.specs.View.{Follows}
+use Rattle.table.proofs.KeyOrder.{next-follows}
 use Rattle.report.specs.Listing.{rowOf, listed, counted, headerFor, listing, headerIn, reported, lineIn}
 use Rattle.report.specs.Walked.{Walked, ended, then, keyOrLimit}
 use Rattle.report.proofs.Held.{held-range}

@@ -11,9 +11,9 @@ use lib.Dec.{eqb, ltb}
 use lib.ListN.{length}
 use borrow.Author.Tests.{ltb-true, ltb-false, eqb-true, eqb-false, eq-eqb}
 use Rattle.fields.proofs.Bools.{and-left, and-right, both}
-use Rattle.table.specs.declared.NextKey.{NextKey}
 use Rattle.table.specs.declared.NextKey.the-variants as next
 use Rattle.table.specs.Layout.{wholePlaces, placesIn, clockOf, Place, placeAt, isHeld, holds}
+use Rattle.table.specs.View.{HeldKey, Follows}
 use Rattle.table.specs.Table.{better, smallest, keyOrEnd, nextAbove}
 
 -- ---- the smallest key of places
@@ -71,16 +71,6 @@ module _ (f : ℕ → Place) (clock above : ℕ) where
   best-of (suc n) = more n (smallest f clock above n) (best-of n)
 
 -- ---- the same of a table, over its keys
-
--- some place holds the key at the table's clock
-abbrev pub HeldKey : List ℕ → ℕ → Type 0
-HeldKey s key = (i : ℕ) × ((i < placesIn s) × (holds (clockOf s) key (placeAt s (placesIn s) i) ≡ true))
-
--- what the answer says of the keys held
-abbrev pub Follows : List ℕ → ℕ → NextKey → Type 0
-Follows s above (next.Key key) = HeldKey s key × ((above < key) × ((other : ℕ) → above < other → HeldKey s other → key ≤ other))
-Follows s above next.End = (other : ℕ) → above < other → HeldKey s other → ⊥
-Follows s above (next.Refused r) = ⊥
 
 -- a place holds a key if it is held and the key is its own
 held-place : (clock other : ℕ) (p : Place) → holds clock other p ≡ true → (p .key ≡ other) × (isHeld clock p ≡ true)

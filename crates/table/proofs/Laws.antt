@@ -31,7 +31,7 @@ use Rattle.table.specs.declared.SetUp.the-variants as setting
 use Rattle.table.specs.declared.Holding.the-variants as holding
 use Rattle.table.specs.Layout.{wholePlaces, placesIn, clockOf, noSite, siteOf, bodyAt, holds, moved, stored}
 use Rattle.table.specs.Table.{After, lowest, setUp, setUpAt, placeOf, delivered, received, lookedUp}
-use Rattle.table.specs.View.{places, trackIn, viewAt, view, lookedAs, laterAt, orNew, Once, Table, Fresh, AllTaken, Early, Undecoded}
+use Rattle.table.specs.View.{places, trackIn, viewAt, view, lookedAs, laterAt, orNew, Once, Table, Fresh, AllTaken, NoRoom, Early, Undecoded}
 use Rattle.table.proofs.Search.{clash, alike}
 use Rattle.table.proofs.Places.{moved-length, moved-clock, moved-site, moved-bytes, stored-length, stored-clock, stored-site, stored-bytes}
 use Rattle.table.proofs.Steps.{Single, view-later, single-later, as-moved, moved-view, moved-taken}
@@ -268,6 +268,38 @@ module _ (s message : List ℕ) (t : ℕ) where
         -- an acceptable message in time is answered with itself or with 6
         pub key-answer : (call .answer ≡ decode.Message m) ⊎ (call .answer ≡ decode.Refused Full)
         key-answer = ⊎-elim (λ y. inl (y .0)) (λ y. inr (ap (λ (r : After Decoded). r .answer) (y .0))) its-answer
+
+-- ---- 6, for any bytes at all as the table
+
+not-six : (r : Refusal) → Undecoded r → numberOf r ≡ 6 → ⊥
+not-six r (inl e) f = let n = ap numberOf e in omega arith
+not-six r (inr (inl e)) f = let n = ap numberOf e in omega arith
+not-six r (inr (inr e)) f = let n = ap numberOf e in omega arith
+
+six-is : {r : Refusal} → decode.Refused r ≡ decode.Refused Full → numberOf r ≡ 6
+six-is a = ap numberOf (refused-as a)
+
+module _ (s message : List ℕ) (t : ℕ) (bytes : Bytes message) where
+  in-time : {x : After Decoded} → Way s message t x → x .answer ≡ decode.Refused Full → (length message ≡ 14) × ((wholePlaces (length s) ≡ true) × (clockOf s ≤ t))
+  in-time (short n) a = let f = six-is a in absurd (omega arith)
+  in-time (uneven l w) a = let f = six-is a in absurd (omega arith)
+  in-time (late l w h) a = let f = six-is a in absurd (omega arith)
+  in-time (timely l w h) a = (l, (w, h))
+
+  no-room : (d : Decoded) → decoded message ≡ d → length message ≡ 14 → wholePlaces (length s) ≡ true → clockOf s ≤ t → received s message t .answer ≡ decode.Refused Full → NoRoom t s message
+  unfolding delivered
+  no-room (decode.Refused q) e l w h a =
+      let b = ap (λ (x : After Decoded). x .answer) (received-in-time s message t l w h ∙ ap (λ (d : Decoded). delivered (moved s t) d t) e) in
+      absurd (not-six q (decoder-refuses message q l e) (six-is (sym b ∙ a)))
+  no-room (decode.Message m) e l w h a = (m, (e, full-exactly s message t bytes w h m e .0 a))
+
+  -- 6 exactly when a message that the decoder takes comes in time to whole places and finds no room for its key
+  pub six-exactly : received s message t .answer ≡ decode.Refused Full
+      ↔ (length message ≡ 14) × ((wholePlaces (length s) ≡ true) × ((clockOf s ≤ t) × NoRoom t s message))
+  six-exactly = (
+    λ a. let p = in-time (way s message t) a in (p .0, (p .1 .0, (p .1 .1, no-room (decoded message) refl (p .0) (p .1 .0) (p .1 .1) a))),
+    λ p. full-exactly s message t bytes (p .1 .0) (p .1 .1 .0) (p .1 .1 .1 .0) (p .1 .1 .1 .1 .0) .1 (p .1 .1 .1 .1 .1),
+  )
 
 -- ---- what look_up answers is the view
 

@@ -19,8 +19,8 @@ allHeld zero f i clock = true
 allHeld (suc m) f i clock = allHeld m f i clock && isHeld clock (f (i + m))
 
 -- the key's place, else the lowest free one; n if there is none
-abbrev pub target : (ℕ → Place) → ℕ → ℕ → ℕ → ℕ → Target
-target f n clock key i = cond (ltb i n) (record { held = true; at = i }) (record { held = false; at = lowest (λ j. not (isHeld clock (f j))) n })
+abbrev pub target : (ℕ → Place) → ℕ → ℕ → ℕ → Target
+target f n clock i = cond (ltb i n) (record { held = true; at = i }) (record { held = false; at = lowest (λ j. not (isHeld clock (f j))) n })
 
 abbrev pub targetOf : (ℕ → Place) → ℕ → ℕ → ℕ → Target
-targetOf f n clock key = target f n clock key (lowest (λ j. holds clock key (f j)) n)
+targetOf f n clock key = target f n clock (lowest (λ j. holds clock key (f j)) n)

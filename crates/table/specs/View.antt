@@ -1,5 +1,5 @@
 -- The abstract table: its clock, its site, and the track of each key that it holds.
-use Prim.Native.Nat.{ℕ, _-_, _<_}
+use Prim.Native.Nat.{ℕ, _-_, _≤_, _<_}
 use mathlib.Core.Bool.{Bool, true, false, cond}
 use mathlib.Core.Logic.{_⊎_}
 use mathlib.Core.Option.{Option, some, none}
@@ -10,12 +10,17 @@ use lib.ListN.{length}
 use Rattle.refusals.specs.declared.Refusal.{Refusal}
 use Rattle.refusals.specs.declared.Refusal.the-variants.{Length, Late, Parity, Format, TypeCode, Places}
 use Rattle.fields.specs.Bytes.{Bytes}
+use Rattle.messages.specs.declared.Message.{Message}
+use Rattle.messages.specs.declared.Decoded.the-variants as decode
+use Rattle.messages.specs.Message.{decoded, keyOf}
 use Rattle.track.specs.declared.Site.{Site}
 use Rattle.track.specs.declared.Track.{Track}
 use Rattle.track.specs.Track.{newTrack}
 use Rattle.place.specs.Place.{trackOf}
 use Rattle.table.specs.declared.Holding.the-variants as holding
 use Rattle.table.specs.declared.Looked.{Looked}
+use Rattle.table.specs.declared.NextKey.{NextKey}
+use Rattle.table.specs.declared.NextKey.the-variants as next
 use Rattle.table.specs.Layout.{Place, wholePlaces, placesIn, clockOf, siteOf, placeAt, isHeld, holds}
 use Rattle.table.specs.Table.{lowest}
 
@@ -86,3 +91,19 @@ Early r = (r ≡ Length) ⊎ ((r ≡ Places) ⊎ (r ≡ Late))
 -- 3, 4 and 5, which are the decoder's
 abbrev pub Undecoded : Refusal → Type 0
 Undecoded r = (r ≡ Parity) ⊎ ((r ≡ Format) ⊎ (r ≡ TypeCode))
+
+-- a message that the decoder takes, and no room for its key
+abbrev pub NoRoom : ℕ → List ℕ → List ℕ → Type 0
+NoRoom time s message = (m : Message) × ((decoded message ≡ decode.Message m) × AllTaken time (keyOf m) s)
+
+-- ---- the walk in the order of the keys
+
+-- some place holds the key at the table's clock
+abbrev pub HeldKey : List ℕ → ℕ → Type 0
+HeldKey s key = (i : ℕ) × ((i < placesIn s) × (holds (clockOf s) key (placeAt s (placesIn s) i) ≡ true))
+
+-- what the answer says of the keys held
+abbrev pub Follows : List ℕ → ℕ → NextKey → Type 0
+Follows s above (next.Key key) = HeldKey s key × ((above < key) × ((other : ℕ) → above < other → HeldKey s other → key ≤ other))
+Follows s above next.End = (other : ℕ) → above < other → HeldKey s other → ⊥
+Follows s above (next.Refused r) = ⊥
