@@ -1,3 +1,4 @@
 pub mod Ways
 pub mod Filled
 pub mod Scanned
+pub mod Again

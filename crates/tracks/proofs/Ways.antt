@@ -1,17 +1,26 @@
 -- The ways through a call, over variables: each test in its order.
 -- Assumes nothing.
 use Prim.Native.Nat.{ℕ, _≤_}
-use mathlib.Core.Bool.{Bool, true, false, cond, not}
-use mathlib.Core.Path.{_≡_, ap, _∙_}
+use mathlib.Core.Bool.{Bool, true, false, cond, not, _&&_, true≢false, false≢true}
+use mathlib.Core.Path.{_≡_, refl, ap, sym, _∙_}
 use mathlib.Core.List.{List}
+use lib.Dec.{T as Holds}
 use lib.ListN.{length}
 use borrow.Author.Tests.{le-ltb, eq-eqb}
+use Rattle.refusals.specs.declared.Refusal.the-variants.{Places, Field}
+use Rattle.positions.specs.Positions.{poleToPole}
 use Rattle.messages.specs.declared.Decoded.{Decoded}
 use Rattle.messages.specs.Message.{decoded}
+use Rattle.track.specs.declared.Site.{Site}
+use Rattle.table.specs.declared.SetUp.{SetUp}
+use Rattle.table.specs.declared.SetUp.the-variants as setting
+use Rattle.table.specs.Layout.{noSite}
+use Rattle.tracks.specs.declared.Place.{Place}
 use Rattle.tracks.specs.declared.Head.{Head}
 use Rattle.tracks.specs.declared.Received.{Received}
-use Rattle.tracks.specs.Tracks.{placesFit, moved}
-use Rattle.tracks.specs.Parts.{judged}
+use Rattle.tracks.specs.declared.Started.{Started}
+use Rattle.tracks.specs.Tracks.{After, after, placesFit, headOf, moved, emptied, setUp}
+use Rattle.tracks.specs.Parts.{judged, notStarted, started, isDone}
 
 -- no test of three passes
 last-of : {A : Type 0} {a b c : Bool} (w x y z : A) → a ≡ false → b ≡ false → c ≡ false → z ≡ cond a w (cond b x (cond c y z))
@@ -23,3 +32,43 @@ unfolding judged
 judged-on n head message time l f h e =
     ap (λ (x : Decoded). record { answer = x; head = moved head time }) e
     ∙ last-of _ _ _ _ (ap not (eq-eqb (length message) 14 l)) (ap not f) (le-ltb time (head .clock) h)
+
+-- ---- how a test of the machine came out
+
+pub passed : (t : Bool) → Holds t → t ≡ true
+passed true h = refl
+passed false h = absurd h
+
+pub failed : (t : Bool) → Holds (not t) → t ≡ false
+failed true h = absurd h
+failed false h = refl
+
+-- ---- set-up
+
+abbrev startedBy : Bool → Bool → Site → Started
+startedBy a b site = cond a (notStarted Places) (cond b (notStarted Field) (record { answer = setting.Done; head = headOf 0 site }))
+
+abbrev setBy : Bool → Bool → List Place → List Place → Site → After SetUp
+setBy a b ps zs site = cond a (after (setting.Refused Places) (headOf 0 noSite) ps) (cond b (after (setting.Refused Field) (headOf 0 noSite) ps) (after setting.Done (headOf 0 site) zs))
+
+on-of : (a b : Bool) (ps zs : List Place) (site : Site) → isDone (startedBy a b site .answer) ≡ true → after (startedBy a b site .answer) (startedBy a b site .head) zs ≡ setBy a b ps zs site
+on-of true b ps zs site h = absurd (false≢true h)
+on-of false true ps zs site h = absurd (false≢true h)
+on-of false false ps zs site h = refl
+
+off-of : (a b : Bool) (ps zs : List Place) (site : Site) → isDone (startedBy a b site .answer) ≡ false → after (startedBy a b site .answer) (startedBy a b site .head) ps ≡ setBy a b ps zs site
+off-of true b ps zs site h = refl
+off-of false true ps zs site h = refl
+off-of false false ps zs site h = absurd (true≢false h)
+
+pub set-on : (ps : List Place) (site : Site) {r : Started} → r ≡ started (length ps) site → isDone (r .answer) ≡ true → after (r .answer) (r .head) (emptied ps) ≡ setUp ps site
+unfolding started setUp
+set-on ps site e h =
+    ap (λ (x : Started). after (x .answer) (x .head) (emptied ps)) e
+    ∙ on-of (not (placesFit (length ps))) (site .known && not (poleToPole (site .spot .latitude))) ps (emptied ps) site (ap (λ (x : Started). isDone (x .answer)) (sym e) ∙ h)
+
+pub set-off : (ps : List Place) (site : Site) {r : Started} → r ≡ started (length ps) site → isDone (r .answer) ≡ false → after (r .answer) (r .head) ps ≡ setUp ps site
+unfolding started setUp
+set-off ps site e h =
+    ap (λ (x : Started). after (x .answer) (x .head) ps) e
+    ∙ off-of (not (placesFit (length ps))) (site .known && not (poleToPole (site .spot .latitude))) ps (emptied ps) site (ap (λ (x : Started). isDone (x .answer)) (sym e) ∙ h)
