@@ -1,26 +1,29 @@
 -- The ways through a call, over variables: each test in its order.
 -- Assumes nothing.
-use Prim.Native.Nat.{ℕ, _≤_}
+use Prim.Native.Nat.{ℕ, _≤_, _<_}
 use mathlib.Core.Bool.{Bool, true, false, cond, not, _&&_, true≢false, false≢true}
 use mathlib.Core.Path.{_≡_, refl, ap, sym, _∙_}
 use mathlib.Core.List.{List}
 use lib.Dec.{T as Holds}
-use lib.ListN.{length}
-use borrow.Author.Tests.{le-ltb, eq-eqb}
+use lib.ListN.{length, getD}
+use borrow.Author.Tests.{lt-ltb, le-ltb, eq-eqb}
 use Rattle.refusals.specs.declared.Refusal.the-variants.{Places, Field}
 use Rattle.positions.specs.Positions.{poleToPole}
 use Rattle.messages.specs.declared.Decoded.{Decoded}
 use Rattle.messages.specs.Message.{decoded}
 use Rattle.track.specs.declared.Site.{Site}
+use Rattle.track.specs.Track.{newTrack}
 use Rattle.table.specs.declared.SetUp.{SetUp}
 use Rattle.table.specs.declared.SetUp.the-variants as setting
+use Rattle.table.specs.declared.Holding.the-variants as holding
 use Rattle.table.specs.Layout.{noSite}
 use Rattle.tracks.specs.declared.Place.{Place}
 use Rattle.tracks.specs.declared.Head.{Head}
 use Rattle.tracks.specs.declared.Received.{Received}
 use Rattle.tracks.specs.declared.Started.{Started}
-use Rattle.tracks.specs.Tracks.{After, after, placesFit, headOf, moved, emptied, setUp}
-use Rattle.tracks.specs.Parts.{judged, notStarted, started, isDone}
+use Rattle.tracks.specs.Ranges.{noPlace}
+use Rattle.tracks.specs.Tracks.{After, after, placesFit, headOf, moved, emptied, setUp, placeOf, lookedUp}
+use Rattle.tracks.specs.Parts.{judged, notStarted, started, isDone, sought, scanned, looked}
 
 -- no test of three passes
 last-of : {A : Type 0} {a b c : Bool} (w x y z : A) → a ≡ false → b ≡ false → c ≡ false → z ≡ cond a w (cond b x (cond c y z))
@@ -72,3 +75,22 @@ unfolding started setUp
 set-off ps site e h =
     ap (λ (x : Started). after (x .answer) (x .head) ps) e
     ∙ off-of (not (placesFit (length ps))) (site .known && not (poleToPole (site .spot .latitude))) ps (emptied ps) site (ap (λ (x : Started). isDone (x .answer)) (sym e) ∙ h)
+
+-- ---- a look
+
+pub looked-not : (ps : List Place) (head : Head) (key : ℕ) → not (placesFit (length ps)) ≡ true → looked (holding.Refused Places) newTrack ≡ lookedUp ps head key
+unfolding lookedUp
+looked-not ps head key h = rw h
+
+module _ (ps : List Place) (head : Head) (key : ℕ) (f : not (placesFit (length ps)) ≡ false) (i : ℕ) (e : i ≡ scanned ps (sought (head .clock) key) (length ps) .own) where
+  own-is : i ≡ placeOf ps (head .clock) key
+  unfolding scanned placeOf
+  own-is = e
+
+  pub looked-held : i < length ps → looked holding.Held (getD ps i noPlace .track) ≡ lookedUp ps head key
+  unfolding lookedUp
+  looked-held h = rw (f, ← own-is, lt-ltb i (length ps) h)
+
+  pub looked-none : length ps ≤ i → looked holding.Unheld newTrack ≡ lookedUp ps head key
+  unfolding lookedUp
+  looked-none h = rw (f, ← own-is, le-ltb i (length ps) h)
