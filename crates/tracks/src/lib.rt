@@ -101,8 +101,8 @@ fn deliver(places: &mut [Place], due: Received) -> Received
     let i = parts::choose(scan(places, parts::sought_by(due)), places.len());
     if i < places.len() {
         let next = parts::next_of(due, places[i]);
-        places[i] = next.place;
-        return next.received;
+        places[i] = parts::place_in(next);
+        return parts::received_in(next);
     }
     parts::full(due)
 }

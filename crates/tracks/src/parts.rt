@@ -212,6 +212,20 @@ pub(crate) fn next_of(due: Received, p: Place) -> Next
     }
 }
 
+pub(crate) fn place_in(next: Next) -> Place
+    ensures { λ r. ⌜ r ≡ next .place ⌝ }
+{
+    let p = next.place;
+    p
+}
+
+pub(crate) fn received_in(next: Next) -> Received
+    ensures { λ r. ⌜ r ≡ next .received ⌝ }
+{
+    let received = next.received;
+    received
+}
+
 pub(crate) fn full(due: Received) -> Received
     ensures { λ r. ⌜ r ≡ refusedWith Full (due .head) ⌝ }
 {
