@@ -3,20 +3,29 @@
     python3 reference/selftest.py
 """
 
+import subprocess
 import sys
 from decimal import Decimal
 from fractions import Fraction
 from math import floor
+from pathlib import Path
 from random import Random
 
+import captures
+import make_samples
 import messages
 import positions
 import published
 import readings
+import table as lent_table
+import tracks
+import traffic
 from parity import GENERATOR, remainder, seal, sealed
 from positions import AIRBORNE, COUNTS, EVEN, FIGURES, ODD, SURFACE, UNIT, zone_count, zones
-from refusals import answer
-from vectors import message_vectors, position_vectors, readings_vectors
+from refusals import Refused, answer
+from tracks import Position, Saved, Track
+from traffic import OTHER, TRANSPONDER
+from vectors import message_vectors, position_vectors, readings_vectors, table_vectors
 
 assertions = 0
 failures = []
@@ -432,6 +441,261 @@ def refusals_of_positions():
             equal("NL beyond the pole", [zone_count(latitude) for latitude in latitudes], [1, 1])
 
 
+# Tracks
+
+
+HERE = 2**29, 2**30  # 45 N 90 E
+NEAR = 2**29 + 2**20, 2**30 + 2**20
+ONE, TWO = 0xABCDEF, 0x4840D6
+KEY = 1 << 24 | ONE
+
+
+def new_table(places, site=None):
+    """A table that is set up."""
+    made = bytearray(lent_table.length_of(places))
+    lent_table.set_up(made, site)
+    return made
+
+
+def heard(made, *rows):
+    """Receives the messages, each with its time; the table."""
+    for string, time in rows:
+        answer(lent_table.receive, made, string, time)
+    return made
+
+
+def from_air(i, place=HERE, aa=ONE, head=TRANSPONDER):
+    """An airborne message at 10,000 feet."""
+    return traffic.airborne(head, aa, i, place)
+
+
+def track_edges():
+    """The paper's edges under "Examples and edges", and each sentence of "Tracks" at its edge."""
+    first, second = (bytes.fromhex(text) for text, fields in published.FIELD_ROWS if fields.get("AA") == ONE)
+    equal("the listing's messages", (first, second), (from_air(EVEN), from_air(ODD)))
+    for gap, found in ((0, 1), (400, 1), (10_000, 1), (10_001, 0)):
+        track = lent_table.look_up(heard(new_table(1), (first, 1_000), (second, 1_000 + gap)), KEY)
+        due = Position(1, *HERE, 1_000 + gap) if found else Position()
+        equal(f"partner age {gap}", track.position, due)
+        equal("both are saved", [saved.known for saved in track.saved], [1, 1])
+    for clock, held in ((125_999, True), (126_000, False)):
+        other = traffic.identification(TRANSPONDER, TWO, "KLM1023")
+        made = heard(new_table(2), (first, 1_000), (other, clock))
+        equal(f"heard at 1,000, clock {clock}", lent_table.look_up(made, KEY) is not None, held)
+        equal("the other is held", lent_table.look_up(made, 1 << 24 | TWO).heard, clock)
+        full = heard(new_table(1), (first, 1_000))
+        equal("a place freed by the very call", answer(lent_table.receive, full, other, clock) == "refused 6", held)
+        damaged = message_vectors.flipped(second, 60)
+        made = heard(new_table(2), (first, 1_000), (damaged, 100_000), (other, clock))
+        equal("bad parity refreshes nothing", lent_table.look_up(made, KEY) is not None, held)
+    for gap, found in ((120_000, 1), (120_001, 0)):
+        kept = traffic.velocity(TRANSPONDER, ONE, 1, 1)
+        for made_message in (traffic.airborne, traffic.surface):
+            last = made_message(TRANSPONDER, ONE, EVEN, NEAR), 1_400 + gap
+            made = heard(new_table(1), (first, 1_000), (second, 1_400), (kept, 100_000), last)
+            equal(f"reference age {gap}", lent_table.look_up(made, KEY).position.time, 1_400 + gap * found)
+
+
+def track_rules():
+    """Surface, site, groups and kinds."""
+    still = traffic.message(TRANSPONDER, ONE, 7)  # counts 0 and 0, even
+    equal("the site", lent_table.look_up(heard(new_table(1, HERE), (still, 5)), KEY).position, Position(1, *HERE, 5))
+    equal("no site", lent_table.look_up(heard(new_table(1), (still, 5)), KEY).position, Position())
+    alone = lent_table.look_up(heard(new_table(1, HERE), (from_air(EVEN), 5)), KEY)
+    equal("no site for an airborne message", alone.position, Position())
+    flown = heard(new_table(2, (0, 0)), (from_air(EVEN), 1_000), (from_air(ODD), 1_400))
+    down = lent_table.look_up(heard(flown, (traffic.surface(TRANSPONDER, ONE, ODD, HERE), 2_000)), KEY)
+    equal("the two saved are cleared", down.saved, (Saved(), Saved()))
+    equal("read against the track's position", down.position, Position(1, *HERE, 2_000))
+    equal("the altitude stays", (down.pressure, down.height), (888, 0))
+    for type_code, due in ((9, (0, 77)), (18, (0, 77)), (20, (888, 0)), (22, (888, 0))):
+        track = Track(pressure=888, height=77)
+        after = tracks.step(track, traffic.airborne(TRANSPONDER, ONE, EVEN, HERE, type_code, 0), None, 9)
+        equal("unknown replaces known, in its own group", (after.pressure, after.height), due)
+    for head, kind in ((TRANSPONDER, 1), (traffic.NO_TRANSPONDER, 1), (OTHER, 2)):
+        message = messages.decode(from_air(EVEN, head=head))
+        equal("kind", tracks.key_of(message), kind << 24 | ONE)
+    beyond = traffic.message(TRANSPONDER, ONE, 7, latitude=9_000)  # half a zone above the pole
+    old = Position(1, 2**30, 0, 90)
+    equal("on 9 the position stays", tracks.step(Track(position=old), beyond, HERE, 100).position, old)
+    far = Position(1, 0, 0, 100)
+    partner = Track(position=far, saved=(Saved(1, 0, 0, 90), Saved()))
+    after = tracks.step(partner, traffic.airborne_counts(TRANSPONDER, ONE, ODD, (65536, 0)), None, 100)
+    equal("on 9 the pair is read singly", after.position.known and after.position != far, True)
+
+
+def bytes_of_tracks():
+    """A body of a track, read again; the layout's offsets; a table that no set-up made."""
+    chance = Random(16)
+    for _ in range(500):
+        track = table_vectors.random_track(chance, 10**6)
+        body = lent_table.body_of(track)
+        equal("75 bytes", len(body), 75)
+        equal("read again", lent_table.track_of(body), track)
+    for offset, size, name in ((0, 8, "heard"), (8, 7, "identification"), (15, 7, "velocity"), (22, 7, "surface")):
+        equal(name, lent_table.get(lent_table.body_of(Track(**{name: 2**55 + 7})), offset, size), 2**55 + 7)
+    equal("a new track's latitude", lent_table.get(lent_table.body_of(Track()), 33, 4), 2**30)
+    for length in range(400):
+        made = answer(lent_table.places, bytearray(length))
+        equal(f"length {length}", made, {95: "1", 174: "2", 253: "3", 332: "4"}.get(length, "refused 7"))
+    for length, due in ((80_912, "1024"), (80_991, "refused 7"), (80_911, "refused 7")):
+        equal(f"length {length}", answer(lent_table.places, bytearray(length)), due)
+    made = heard(new_table(3), (from_air(EVEN), 1_000), (from_air(EVEN, aa=TWO), 1_000))
+    equal("order of the walk", [key for key, _ in lent_table.walk(made)], [1 << 24 | TWO, KEY])
+    lent_table.put(made, lent_table.key_at(1), 4, KEY)
+    equal("twins show once", [key for key, _ in lent_table.walk(made)], [KEY])
+    lent_table.put(made, lent_table.body_at(made, 0) + 33, 4, 2**31 + 1)
+    heard(made, (from_air(EVEN), 1_500))
+    equal("the lowest held twin", lent_table.get(made, lent_table.body_at(made, 1), 8), 1_500)
+    lent_table.put(made, lent_table.body_at(made, 1), 8, 2**64 - 1)
+    heard(made, (from_air(ODD, aa=TWO), 10**9))
+    equal("heard after the clock: age 0", lent_table.look_up(made, KEY).heard, 2**64 - 1)
+    for number, due in ((0, None), (1, -(2**30)), (2**31 + 1, 2**30), (2**31 + 2, None), (2**32 - 1, None)):
+        lent_table.put(made, 8, 4, number)
+        site = lent_table.site_of(made)
+        equal("the site's number", site and site[0], due)
+    refused(7, lent_table.set_up, bytearray(94), (2**30 + 1, 0))
+    refused(8, lent_table.set_up, bytearray(95), (2**30 + 1, 0))
+
+
+class Swept:
+    """The same rules told otherwise: places that hold a key and a track, or nothing; stale ones are emptied."""
+
+    def __init__(self, places, site):
+        self.clock, self.site, self.places = 0, site, [None] * places
+
+    def receive(self, string, time):
+        """Receives one message of 14 bytes."""
+        if time < self.clock:
+            raise Refused(2)
+        self.clock = time
+        self.places = [at if at and time - at[1].heard < 125_000 else None for at in self.places]
+        key = tracks.key_of(messages.decode(string))
+        mine = [at[0] if at else None for at in self.places]
+        if key not in mine and None not in mine:
+            raise Refused(6)
+        place = mine.index(key) if key in mine else mine.index(None)
+        track = self.places[place][1] if self.places[place] else Track()
+        self.places[place] = key, tracks.step(track, string, self.site, time)
+
+    def held(self):
+        """The keys and their tracks, in order."""
+        return sorted(at for at in self.places if at)
+
+
+def swept_tables():
+    """Random traffic: the bytes against the places that are swept; a message touches no other key."""
+    chance = Random(17)
+    for places in (1, 2, 3, 6):
+        site = chance.choice((None, HERE))
+        made, swept, time = new_table(places, site), Swept(places, site), 0
+        addresses = chance.sample(range(2**24), places + 1)
+        for _ in range(150):
+            time += chance.choices(table_vectors.STEPS, table_vectors.WEIGHTS)[0]
+            head, aa = chance.choice((TRANSPONDER, OTHER)), chance.choice(addresses)
+            string = table_vectors.random_message(chance, head, aa, table_vectors.moved(chance, HERE))
+            if chance.randrange(12) == 0:
+                string = message_vectors.flipped(string, chance.randrange(1, 113))
+            now = time - chance.randrange(2) * chance.randrange(2) if time else 0
+            before = dict(lent_table.walk(made))
+            given = answer(lent_table.receive, made, string, now)
+            due = answer(swept.receive, string, now)
+            equal("refused or not", given if given.startswith("refused") else "None", due)
+            equal("the tracks held", lent_table.walk(made), swept.held())
+            mine = int.from_bytes(string[1:4], "big") if not given.startswith("refused") else -1
+            for key, track in lent_table.walk(made):
+                if key % 2**24 != mine:
+                    equal("a stranger's message does nothing", track, before[key])
+            equal("the first key", lent_table.next_key(made, 0), min(dict(swept.held()), default=None))
+
+
+# Captures and the listing
+
+
+LISTED = "clock 1400 tracks 1 bad-blocks 0\nI ABCDEF 1400 536870912 1073741824 10000\n"
+
+
+def listings():
+    """The paper's listing; order, unknown values, bad blocks, refused records."""
+    equal("the paper's listing", captures.listing(make_samples.example()), LISTED)
+    equal("an empty capture", captures.listing(b""), "clock 0 tracks 0 bad-blocks 0\n")
+    equal("zeros", captures.listing(bytes(512)), "clock 0 tracks 0 bad-blocks 1\n")
+    equal("a part block", captures.listing(make_samples.example() + bytes(3)), LISTED.replace("blocks 0", "blocks 1"))
+    rows = [(5, from_air(EVEN, aa=7, head=OTHER)), (6, from_air(EVEN)), (7, from_air(EVEN, aa=7))]
+    rows += [(8, traffic.airborne(TRANSPONDER, 0xA, EVEN, HERE, 20)), (7, from_air(ODD)), (9, bytes(14))]
+    due = ["clock 9 tracks 4 bad-blocks 0", "I 000007 7 - - 10000", "I 00000A 8 - - -"]
+    due += ["I ABCDEF 6 - - 10000", "O 000007 5 - - 10000"]
+    equal("order and unknown", captures.listing(captures.capture(rows)).splitlines(), due)
+    last = 2**64 - 1, message_vectors.flipped(from_air(EVEN), 60)
+    emptied = captures.listing(captures.capture([*rows, last]))
+    equal("bad parity at the last time", emptied, f"clock {2**64 - 1} tracks 0 bad-blocks 0\n")
+    south = -(2**29), 2**32 - 2**29
+    low = [(time, traffic.airborne(TRANSPONDER, 1, i, south, 11, 16)) for time, i in ((1, ODD), (2, EVEN))]
+    lines = captures.listing(captures.capture(low)).splitlines()
+    equal("below zero", lines[1], "I 000001 2 -536870912 3758096384 -1000")
+    for feet in range(-1000, 50176, 25):
+        equal("the code of an altitude", readings.altitude(traffic.altitude_code(feet)), feet)
+
+
+def blocks():
+    """A block's rules, each broken: 11. The serial isn't tested."""
+    chance = Random(18)
+    for count in (1, 2, 22, 23):
+        records = [(chance.getrandbits(64), chance.randbytes(14)) for _ in range(count)]
+        for serial in (0, 1, 65535):
+            good = captures.block(serial, records)
+            equal("512 bytes", (len(good), good[0], good[1:3]), (512, count, serial.to_bytes(2, "big")))
+            equal("parity", remainder(good), 0)
+            equal("read again", captures.records_of(good), records)
+        for _ in range(60):
+            refused(11, captures.records_of, message_vectors.flipped(good, chance.randrange(1, 4097)))
+        for wrong in [0, *range(24, 256, 11), 255, count - 1]:
+            refused(11, captures.records_of, make_samples.resealed(good, 0, wrong))
+        for at in {*range(3 + 22 * count, 509, 7), *([508] if count < 23 else [])}:
+            refused(11, captures.records_of, make_samples.resealed(good, at, 1))
+        for length in (0, 1, 3, 511, 513, 1024):
+            refused(11, captures.records_of, (good + good)[:length])
+    many = [(time, bytes(14)) for time in range(50)]
+    whole = captures.capture(many)
+    read = [row for one in captures.blocks(whole) for row in captures.records_of(one)]
+    equal("three blocks", (len(whole), read), (3 * 512, many))
+    equal("serials", [one[1:3] for one in captures.blocks(whole)], [b"\0\0", b"\0\1", b"\0\2"])
+
+
+def made_capture(text, *words):
+    """What the script make-capture makes of these lines: its records, and what it says."""
+    command = [sys.executable, "-B", Path(__file__).with_name("make-capture"), *words]
+    ran = subprocess.run(command, input=text.encode("latin-1"), capture_output=True, check=True)
+    records = [row for one in captures.blocks(ran.stdout) for row in captures.records_of(one)]
+    return records, ran.stderr.decode().strip()
+
+
+def receiver_lines():
+    """The script make-capture: three forms of lines, their times, and what it skips."""
+    one, other = from_air(EVEN), from_air(ODD)
+    first, second = one.hex().upper(), other.hex()
+    plain = f"*{first};\n*{second};\r\n *{first}; \n"
+    equal("no times", made_capture(plain), ([(0, one), (1, other), (2, one)], "3 taken, 0 short, 0 other lines"))
+    timed = [(1_000, one), (1_400, other), (1_800, one)]
+    equal("start and step", made_capture(plain, "--start", "1000", "--step", "400")[0], timed)
+    equal("the paper's listing", captures.listing(captures.capture(timed[:2])), LISTED)
+    stamps = {0: 0, 12_000 * 1_400 - 1: 1_399, 12_000 * 1_400: 1_400, 2**48 - 1: (2**48 - 1) // 12_000}
+    counted = "".join(f"@{stamp:012X}{second};\n" for stamp in stamps)
+    equal("a counter", made_capture(counted)[0], [(time, other) for time in stamps.values()])
+    equal("a counter in lower case", made_capture(counted.lower())[0], made_capture(counted)[0])
+    given = f"5 {first}\n3 {second}\n{2**64 - 1} {first}\n{2**64} {first}\n"
+    due = [(5, one), (3, other), (2**64 - 1, one)], "3 taken, 0 short, 1 other lines"
+    equal("times as they are, also late ones", made_capture(given), due)
+    skipped = ["*02E197B0F70AF6;", "@00000000000102E197B0F70AF6;", "7 02E197B0F70AF6"]
+    skipped += ["", "hello", f"*{first}", f"{first};", f"*{first}00;", f"*{first[:-1]};"]
+    skipped += [f"@{first};", f"-1 {first}", "*;", "\xff"]
+    due = [(9, one), (9, other)], "2 taken, 3 short, 10 other lines"
+    equal("what is skipped", made_capture("\n".join([*skipped, f"*{first};", f"9 {second}"]), "--start", "9"), due)
+    equal("nothing", made_capture(""), ([], "0 taken, 0 short, 0 other lines"))
+    damaged = message_vectors.flipped(one, 7)
+    equal("nothing is judged", made_capture(f"8 {damaged.hex()}")[0], [(8, damaged)])
+
+
 TESTS = [
     parity_rows,
     parity_laws,
@@ -446,6 +710,13 @@ TESTS = [
     position_laws,
     position_ties,
     refusals_of_positions,
+    track_edges,
+    track_rules,
+    bytes_of_tracks,
+    swept_tables,
+    listings,
+    blocks,
+    receiver_lines,
 ]
 
 

@@ -67,13 +67,13 @@ module _ {C : Type 0} (is : C → Bool) where
     abbrev at : ℕ
     at = lowest (λ i. is (f i)) n
 
-    abbrev pub Hit : Type 0
+    abbrev Hit : Type 0
     Hit = (i : ℕ) × ((i < n) × (is (f i) ≡ true))
 
-    abbrev pub Miss : Type 0
+    abbrev Miss : Type 0
     Miss = (i : ℕ) → i < n → is (f i) ≡ false
 
-    pub look-hit : Once is f n → (i : ℕ) → i < n → is (f i) ≡ true → look is f n ≡ some (f i)
+    look-hit : Once is f n → (i : ℕ) → i < n → is (f i) ≡ true → look is f n ≡ some (f i)
     look-hit u i h t =
         let l : at ≤ i = lowest-least (λ j. is (f j)) n i h t in
         let m : at < n = omega arith in

@@ -3,7 +3,7 @@
 use Prim.Native.Nat.{ℕ, _-_, _/_, _≤_, _<_}
 use native.Mathlib.Omega.{arith}
 use mathlib.Core.Bool.{Bool, true, false, cond, _&&_, and-assoc}
-use mathlib.Core.Logic.{⊎-elim}
+use mathlib.Core.Logic.{⊎-elim, _↔_}
 use mathlib.Core.Option.{Option, some, none}
 use mathlib.Core.Path.{_≡_, refl, ap, sym, _∙_, subst, fun-ext}
 use mathlib.Core.List.{List}
@@ -14,8 +14,8 @@ use Rattle.track.specs.declared.Track.{Track}
 use Rattle.place.specs.Bytes.{numberAt}
 use Rattle.place.specs.Place.{trackOf, bodyOf, held, Fits}
 use Rattle.place.proofs.BothWays.{read-written, written-held, held-later}
-use Rattle.table.specs.Layout.{Place, placesIn, placeAs, placeAt, holds, moved, stored}
-use Rattle.table.specs.View.{places, look, trackIn, viewAt, laterAt, Once}
+use Rattle.table.specs.Layout.{Place, placesIn, placeAs, placeAt, isHeld, holds, moved, stored}
+use Rattle.table.specs.View.{places, look, trackIn, viewAt, laterAt, Once, AllTaken}
 use Rattle.table.proofs.Search.{clash, alike, keep, once-same, look-same, once-only, look-only, once-aged, look-aged}
 use Rattle.table.proofs.Places.{moved-length, place-head, stored-length, place-other, place-same}
 
@@ -56,6 +56,9 @@ module _ (s : List ℕ) (c t : ℕ) (single : Single c s) (h : c ≤ t) where
 
 -- ---- the clock moves
 
+abbrev Taken : ℕ → ℕ → (ℕ → Place) → ℕ → Type 0
+Taken c k f n = ((i : ℕ) → i < n → holds c k (f i) ≡ false) × ((i : ℕ) → i < n → isHeld c (f i) ≡ true)
+
 module _ (s : List ℕ) (t : ℕ) where
   moved-count : placesIn (moved s t) ≡ placesIn s
   moved-count = ap (λ (l : ℕ). (l - 16) / 79) (moved-length s t)
@@ -68,16 +71,23 @@ module _ (s : List ℕ) (t : ℕ) where
   as-moved P x = subst (λ (n : ℕ). P (places (moved s t)) n) (sym moved-count) (subst (λ (f : ℕ → Place). P f (placesIn s)) (sym moved-places) x)
 
   -- and before
-  pub as-before : (P : (ℕ → Place) → ℕ → Type 0) → P (places (moved s t)) (placesIn (moved s t)) → P (places s) (placesIn s)
+  as-before : (P : (ℕ → Place) → ℕ → Type 0) → P (places (moved s t)) (placesIn (moved s t)) → P (places s) (placesIn s)
   as-before P x = subst (λ (f : ℕ → Place). P f (placesIn s)) moved-places (subst (λ (n : ℕ). P (places (moved s t)) n) moved-count x)
 
   pub moved-view : (c k : ℕ) → viewAt c (moved s t) k ≡ viewAt c s k
   unfolding viewAt
   moved-view c k = as-moved (λ (f : ℕ → Place) (n : ℕ). trackIn (look (holds c k) f n) ≡ trackIn (look (holds c k) (places s) (placesIn s))) refl
 
+  pub moved-taken : (c k : ℕ) → AllTaken c k (moved s t) ↔ AllTaken c k s
+  moved-taken c k = (
+    λ x. let y = as-before (Taken c k) (x .unheld, x .taken) in record { unheld = y .0; taken = y .1 },
+    λ x. let y = as-moved (Taken c k) (x .unheld, x .taken) in record { unheld = y .0; taken = y .1 },
+  )
+
 -- ---- a track is stored at a place
 
-module _ (t : ℕ) (s : List ℕ) (size : 16 ≤ length s) (single : Single t s) (i : ℕ) (h : i < placesIn s) (key : ℕ) (low : 16777216 ≤ key) (high : key < 50331648) (x : Track) (fits : Fits x) (heard : x .heard ≡ t) where
+module _ (t : ℕ) (s : List ℕ) (size : 16 ≤ length s) (single : Single t s) (i : ℕ) (h : i < placesIn s)
+    (key : ℕ) (low : 16777216 ≤ key) (high : key < 50331648) (x : Track) (fits : Fits x) (heard : x .heard ≡ t) where
   abbrev r : List ℕ
   r = stored s (placesIn s) i key x
 

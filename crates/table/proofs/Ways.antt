@@ -10,7 +10,7 @@ use lib.Dec.{eqb, ltb}
 use lib.ListN.{length}
 use borrow.Author.Tests.{ltb-true, ltb-false, le-ltb, eqb-true, eqb-false, eq-eqb, not-true, not-false}
 use Rattle.refusals.specs.declared.Refusal.{Refusal}
-use Rattle.refusals.specs.declared.Refusal.the-variants.{Length, Late, Parity, Format, TypeCode, Places}
+use Rattle.refusals.specs.declared.Refusal.the-variants.{Length, Late, TypeCode, Full, Places}
 use Rattle.refusals.specs.Numbers.{numberOf}
 use Rattle.fields.specs.Bytes.{Bytes}
 use Rattle.fields.specs.Packing.{fits}
@@ -27,6 +27,7 @@ use Rattle.messages.specs.Message.{bits, headWidths, headFields, formatTaken, w
 use Rattle.messages.proofs.BothWays.{decoded-good}
 use Rattle.table.specs.Layout.{wholePlaces, clockOf, moved}
 use Rattle.table.specs.Table.{After, after, delivered, received}
+use Rattle.table.specs.View.{Early, Undecoded}
 
 -- ---- answers apart
 
@@ -44,16 +45,19 @@ reason (decode.Refused r) = r
 pub refused-as : {q r : Refusal} → decode.Refused q ≡ decode.Refused r → q ≡ r
 refused-as e = ap reason e
 
+-- 1, 7 and 2 are none of 3, 4, 5 and 6
+later-number : (r : Refusal) → Undecoded r ⊎ (r ≡ Full) → (3 ≤ numberOf r) × (numberOf r ≤ 6)
+later-number r (inl (inl e)) = let n = ap numberOf e in (omega arith, omega arith)
+later-number r (inl (inr (inl e))) = let n = ap numberOf e in (omega arith, omega arith)
+later-number r (inl (inr (inr e))) = let n = ap numberOf e in (omega arith, omega arith)
+later-number r (inr e) = let n = ap numberOf e in (omega arith, omega arith)
+
+pub not-both : (r : Refusal) → Early r → Undecoded r ⊎ (r ≡ Full) → ⊥
+not-both r (inl e) h = let n = ap numberOf e in omega (arith, later-number r h)
+not-both r (inr (inl e)) h = let n = ap numberOf e in omega (arith, later-number r h)
+not-both r (inr (inr e)) h = let n = ap numberOf e in omega (arith, later-number r h)
+
 -- ---- the decoder
-
--- 3, 4 and 5
-abbrev pub Undecoded : Refusal → Type 0
-Undecoded r = (r ≡ Parity) ⊎ ((r ≡ Format) ⊎ (r ≡ TypeCode))
-
-pub undecoded-number : (r : Refusal) → Undecoded r → (3 ≤ numberOf r) × (numberOf r ≤ 5)
-undecoded-number r (inl e) = let n = ap numberOf e in (omega arith, omega arith)
-undecoded-number r (inr (inl e)) = let n = ap numberOf e in (omega arith, omega arith)
-undecoded-number r (inr (inr e)) = let n = ap numberOf e in (omega arith, omega arith)
 
 abbrev ByBody : Taken → Type 0
 ByBody (read.Body b) = Unit
@@ -79,8 +83,9 @@ module _ (message : List ℕ) where
   opened-refuses : ByDecoder (opened (bits 1 5 message) (bits 6 8 message) (bits 9 32 message) (bits 33 88 message))
   unfolding opened
   opened-refuses =
+      let n : ℕ = bits 33 88 message in
       by-test ByDecoder (not (formatTaken (bits 1 5 message) (bits 6 8 message))) _ _ (λ _. inr (inl refl))
-      (λ _. with-body (bits 1 5 message) (bits 6 8 message) (bits 9 32 message) (taken (bits 33 88 message)) (body-refuses (me 1 5 (bits 33 88 message)) (me 6 8 (bits 33 88 message)) (bits 33 88 message)))
+      (λ _. with-body (bits 1 5 message) (bits 6 8 message) (bits 9 32 message) (taken n) (body-refuses (me 1 5 n) (me 6 8 n) n))
 
   pub decoder-refuses : (r : Refusal) → length message ≡ 14 → decoded message ≡ decode.Refused r → Undecoded r
   decoder-refuses r l d =
@@ -104,24 +109,16 @@ pub data Way (s message : List ℕ) (t : ℕ) : After Decoded → Type 0 where
   short : (length message ≡ 14 → ⊥) → Way s message t (after (decode.Refused Length) s)
   uneven : length message ≡ 14 → wholePlaces (length s) ≡ false → Way s message t (after (decode.Refused Places) s)
   late : length message ≡ 14 → wholePlaces (length s) ≡ true → t < clockOf s → Way s message t (after (decode.Refused Late) s)
-  undecoded : length message ≡ 14 → wholePlaces (length s) ≡ true → clockOf s ≤ t → (r : Refusal) → decoded message ≡ decode.Refused r
-      → Way s message t (after (decode.Refused r) (moved s t))
-  acceptable : length message ≡ 14 → wholePlaces (length s) ≡ true → clockOf s ≤ t → (m : Message) → decoded message ≡ decode.Message m
-      → Way s message t (delivered (moved s t) (decode.Message m) t)
+  timely : length message ≡ 14 → wholePlaces (length s) ≡ true → clockOf s ≤ t → Way s message t (delivered (moved s t) (decoded message) t)
 
 module _ (s message : List ℕ) (t : ℕ) where
-  in-time : length message ≡ 14 → wholePlaces (length s) ≡ true → clockOf s ≤ t → (d : Decoded) → decoded message ≡ d → Way s message t (delivered (moved s t) d t)
-  unfolding delivered
-  in-time l w h (decode.Refused r) e = undecoded l w h r e
-  in-time l w h (decode.Message m) e = acceptable l w h m e
-
   pub way : Way s message t (received s message t)
   unfolding received
   way =
       by-test (Way s message t) (not (eqb (length message) 14)) _ _ (λ l. short (eqb-false (length message) 14 (not-true _ l)))
       (λ l. by-test (Way s message t) (not (wholePlaces (length s))) _ _ (λ w. uneven (fourteen l) (not-true _ w))
       (λ w. by-test (Way s message t) (ltb t (clockOf s)) _ _ (λ h. late (fourteen l) (not-false _ w) (ltb-true _ _ h))
-      (λ h. in-time (fourteen l) (not-false _ w) (ltb-false _ _ h) (decoded message) refl)))
+      (λ h. timely (fourteen l) (not-false _ w) (ltb-false _ _ h))))
     where
       fourteen : not (eqb (length message) 14) ≡ false → length message ≡ 14
       fourteen e = eqb-true (length message) 14 (not-false _ e)

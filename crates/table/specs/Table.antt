@@ -1,6 +1,6 @@
 -- The lent table: set-up, what a received message does, and what can be read.
 use Prim.Native.Nat.{ℕ, zero, suc}
-use mathlib.Core.Bool.{Bool, true, false, cond, not, _&&_, _||_}
+use mathlib.Core.Bool.{Bool, cond, not, _&&_, _||_}
 use mathlib.Core.List.{List}
 use lib.Dec.{eqb, ltb}
 use lib.ListN.{length}
@@ -10,7 +10,6 @@ use Rattle.positions.specs.Positions.{poleToPole}
 use Rattle.messages.specs.declared.Decoded.{Decoded}
 use Rattle.messages.specs.declared.Decoded.the-variants as decode
 use Rattle.messages.specs.Message.{decoded, keyOf}
-use Rattle.track.specs.declared.Track.{Track}
 use Rattle.track.specs.declared.Stepped.{Stepped}
 use Rattle.track.specs.Track.{newTrack, stepped}
 use Rattle.place.specs.Place.{trackOf}

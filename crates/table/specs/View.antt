@@ -1,11 +1,14 @@
 -- The abstract table: its clock, its site, and the track of each key that it holds.
 use Prim.Native.Nat.{ℕ, _-_, _<_}
 use mathlib.Core.Bool.{Bool, true, false, cond}
+use mathlib.Core.Logic.{_⊎_}
 use mathlib.Core.Option.{Option, some, none}
 use mathlib.Core.Path.{_≡_}
 use mathlib.Core.List.{List}
 use lib.Dec.{ltb}
 use lib.ListN.{length}
+use Rattle.refusals.specs.declared.Refusal.{Refusal}
+use Rattle.refusals.specs.declared.Refusal.the-variants.{Length, Late, Parity, Format, TypeCode, Places}
 use Rattle.fields.specs.Bytes.{Bytes}
 use Rattle.track.specs.declared.Site.{Site}
 use Rattle.track.specs.declared.Track.{Track}
@@ -75,3 +78,11 @@ pub record Fresh (site : Site) (s : List ℕ) : Type 0 where
 pub record AllTaken (clock key : ℕ) (s : List ℕ) : Type 0 where
   pub unheld : (i : ℕ) → i < placesIn s → holds clock key (places s i) ≡ false
   pub taken : (i : ℕ) → i < placesIn s → isHeld clock (places s i) ≡ true
+
+-- 1, 7 and 2, which come before the clock moves
+abbrev pub Early : Refusal → Type 0
+Early r = (r ≡ Length) ⊎ ((r ≡ Places) ⊎ (r ≡ Late))
+
+-- 3, 4 and 5, which are the decoder's
+abbrev pub Undecoded : Refusal → Type 0
+Undecoded r = (r ≡ Parity) ⊎ ((r ≡ Format) ⊎ (r ≡ TypeCode))

@@ -15,14 +15,16 @@ mod walk;
 use messages::Decoded;
 use positions::Spot;
 use refusals::Refusal;
+use scan::Target;
 use track::Site;
 use track::Track;
 ghost use mathlib.Core.Path.{_≡_};
 ghost use Prim.Native.Nat.{_+_, _*_, _≤_, _<_};
-ghost use mathlib.Core.Bool.{true};
+ghost use mathlib.Core.Bool.{true, cond};
 ghost use lib.ListN.{length};
-ghost use Rattle.track.specs.Track.{stepped};
-ghost use Rattle.table.specs.Layout.{wholePlaces, siteOf};
+ghost use Rattle.track.specs.Track.{newTrack, stepped};
+ghost use Rattle.place.specs.Place.{trackOf};
+ghost use Rattle.table.specs.Layout.{wholePlaces, siteOf, bodyAt};
 ghost use Rattle.table.specs.Table.{after, placed, delivered, received, setUp, setUpAt, lookedUp, keyOrEnd, nextAbove, clockIn, siteIn};
 
 pub enum SetUp {
@@ -84,6 +86,18 @@ pub fn set_up_at(table: &mut [u8], site: Spot) -> SetUp
     SetUp::Done
 }
 
+// The track that a message steps: the target's, or a new one.
+fn start_of(table: &[u8], n: usize, target: Target) -> Track
+    requires { ⌜ (n ≤ 1024) × ((target .at < n) × (16 + 79 * n ≤ length (now table))) ⌝ }
+    ensures { λ r. ⌜ r ≡ cond (target .held) (trackOf (bodyAt (now (table .entry)) n (target .at))) newTrack ⌝ }
+{
+    if target.held {
+        place::load(layout::body(table, n, target.at))
+    } else {
+        track::new_track()
+    }
+}
+
 // The track's step by the answer, stored at the place i.
 fn step_at(
     table: &mut [u8],
@@ -114,14 +128,10 @@ fn deliver(table: &mut [u8], answer: Decoded, time: u64) -> Decoded
     };
     let key = messages::key_of(m);
     let n = layout::places_in(table);
-    let i = scan::find_key(table, n, time, key);
-    if i < n {
-        let t = place::load(layout::body(table, n, i));
-        return step_at(table, n, i, key, t, answer, time);
-    }
-    let j = scan::find_free(table, n, time);
-    if j < n {
-        return step_at(table, n, j, key, track::new_track(), answer, time);
+    let target = scan::target_of(table, n, time, key);
+    if target.at < n {
+        let t = start_of(table, n, target);
+        return step_at(table, n, target.at, key, t, answer, time);
     }
     Decoded::Refused(Refusal::Full)
 }

@@ -2,14 +2,20 @@
 use crate::layout;
 use place::get4;
 ghost use mathlib.Core.Path.{_≡_};
-ghost use mathlib.Core.Bool.{false, not};
+ghost use mathlib.Core.Bool.{true, false, not};
 ghost use Prim.Native.Nat.{ℕ, _+_, _*_, _≤_, _<_};
 ghost use lib.Dec.{eqb};
 ghost use lib.ListN.{length};
 ghost use Rattle.place.specs.Bytes.{numberAt};
 ghost use Rattle.table.specs.Layout.{placeAt, isHeld, holds};
-ghost use Rattle.table.specs.Scan.{noneOf};
+ghost use Rattle.table.specs.Scan.{noneOf, allHeld, targetOf};
 ghost use Rattle.table.specs.Table.{lowest};
+
+// A place, and whether it holds the key.
+pub(crate) struct Target {
+    pub held: bool,
+    pub at: usize,
+}
 
 // None of the 8 keys from an offset on is the key.
 fn none_of_8(s: &[u8], at: usize, key: u32) -> bool
@@ -75,11 +81,37 @@ pub(crate) fn find_key(s: &[u8], n: usize, clock: u64, key: u32) -> usize
     n
 }
 
+// Whether each of the 4 places from i on is held.
+fn held_4(s: &[u8], n: usize, i: usize, clock: u64) -> bool
+    requires { ⌜ (n ≤ 1024) × ((i + 4 ≤ n) × (16 + 79 * n ≤ length (now s))) ⌝ }
+    ensures { λ r. ⌜ r ≡ allHeld 4 (placeAt (now (s .entry)) n) i clock ⌝ }
+{
+    is_held(s, n, i, clock)
+        & is_held(s, n, i + 1, clock)
+        & is_held(s, n, i + 2, clock)
+        & is_held(s, n, i + 3, clock)
+}
+
+// How many places can be passed, 4 at a time, before one that is free.
+fn skip_held(s: &[u8], n: usize, clock: u64) -> usize
+    requires { ⌜ (n ≤ 1024) × (16 + 79 * n ≤ length (now s)) ⌝ }
+    ensures { λ r. ⌜ (r ≤ n) × ((i : ℕ) → i < r → isHeld clock (placeAt (now (s .entry)) n i) ≡ true) ⌝ }
+{
+    let mut i = 0;
+    while i + 4 <= n {
+        if !held_4(s, n, i, clock) {
+            return i;
+        }
+        i += 4;
+    }
+    i
+}
+
 pub(crate) fn find_free(s: &[u8], n: usize, clock: u64) -> usize
     requires { ⌜ (n ≤ 1024) × (16 + 79 * n ≤ length (now s)) ⌝ }
     ensures { λ r. ⌜ r ≡ lowest (λ i. not (isHeld clock (placeAt (now (s .entry)) n i))) n ⌝ }
 {
-    let mut i = 0;
+    let mut i = skip_held(s, n, clock);
     while i < n {
         if !is_held(s, n, i, clock) {
             return i;
@@ -87,4 +119,19 @@ pub(crate) fn find_free(s: &[u8], n: usize, clock: u64) -> usize
         i += 1;
     }
     n
+}
+
+// Where a message of the key goes: to its place, which is then held, else to the lowest free one.
+pub(crate) fn target_of(s: &[u8], n: usize, clock: u64, key: u32) -> Target
+    requires { ⌜ (n ≤ 1024) × (16 + 79 * n ≤ length (now s)) ⌝ }
+    ensures { λ r. ⌜ r ≡ targetOf (placeAt (now (s .entry)) n) n clock key ⌝ }
+{
+    let i = find_key(s, n, clock, key);
+    if i < n {
+        return Target { held: true, at: i };
+    }
+    Target {
+        held: false,
+        at: find_free(s, n, clock),
+    }
 }

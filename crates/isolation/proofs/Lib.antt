@@ -1,0 +1,3 @@
+pub mod Calls
+pub mod Isolated
+pub mod Examples

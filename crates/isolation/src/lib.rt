@@ -1,0 +1,1 @@
+// Demand 3, a stranger's message does nothing to yours: a theorem over the definitions of `table`, and no code.

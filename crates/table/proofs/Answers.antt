@@ -1,0 +1,181 @@
+-- What each way through the functions that answer gives: the tests on the way are those of the definition.
+-- Assumes nothing.
+use Prim.Native.Nat.{ℕ, _+_, _%_, _≤_, _<_}
+use native.Mathlib.Omega.{arith}
+use mathlib.Core.Bool.{Bool, true, false, cond, not}
+use mathlib.Core.Path.{_≡_, refl, ap, sym, _∙_, subst}
+use mathlib.Core.List.{List, _++_}
+use lib.Dec.{ltb}
+use lib.ListN.{length}
+use borrow.Author.Tests.{lt-ltb, le-ltb, ltb-true, eq-eqb, ne-eqb, not-true, not-false}
+use Rattle.refusals.specs.declared.Refusal.{Refusal}
+use Rattle.refusals.specs.declared.Refusal.the-variants.{Length, Late, Full, Places, Field}
+use Rattle.positions.specs.declared.Spot.{Spot}
+use Rattle.positions.specs.Positions.{poleToPole}
+use Rattle.messages.specs.declared.Decoded.{Decoded}
+use Rattle.messages.specs.declared.Decoded.the-variants as decode
+use Rattle.messages.specs.declared.Message.{Message}
+use Rattle.messages.specs.Message.{decoded, keyOf}
+use Rattle.track.specs.declared.Site.{Site}
+use Rattle.track.specs.declared.Track.{Track}
+use Rattle.track.specs.declared.Stepped.{Stepped}
+use Rattle.track.specs.Track.{newTrack, stepped}
+use Rattle.place.specs.Bytes.{lowBytes, put}
+use Rattle.place.specs.Place.{raised, trackOf}
+use Rattle.table.specs.declared.scan.Target.{Target}
+use Rattle.table.specs.declared.SetUp.the-variants as setting
+use Rattle.table.specs.declared.Holding.the-variants as holding
+use Rattle.table.specs.declared.NextKey.{NextKey}
+use Rattle.table.specs.declared.NextKey.the-variants as next
+use Rattle.table.specs.declared.Clock.the-variants as clock
+use Rattle.table.specs.declared.Sited.the-variants as sited
+use Rattle.table.specs.Layout.{Place, wholePlaces, placesIn, clockOf, siteOf, bodyAt, placeAt, isHeld, holds, moved, stored, emptied, emptiedAt}
+use Rattle.table.specs.Scan.{targetOf}
+use Rattle.table.specs.Table.{After, after, setUp, setUpAt, lowest, placeOf, freePlace, placed, delivered, received, lookedUp, smallest, keyOrEnd, nextAbove, clockIn, siteIn}
+
+-- ---- where a message goes
+
+module _ (f : ℕ → Place) (n clock key : ℕ) {i : ℕ} (i-is : i ≡ lowest (λ j. holds clock key (f j)) n) where
+  pub target-held : i < n → record { held = true; at = i } ≡ targetOf f n clock key
+  target-held h = rw (← i-is, lt-ltb i n h)
+
+  pub target-free : n ≤ i → {j : ℕ} → j ≡ lowest (λ j. not (isHeld clock (f j))) n → record { held = false; at = j } ≡ targetOf f n clock key
+  target-free h e = rw (← i-is, le-ltb i n h, ← e)
+
+-- ---- a message reaches the table
+
+-- a step and its store
+pub step-placed : (s : List ℕ) (n i key : ℕ) {u v : Stepped} {l : List ℕ} → u ≡ v → l ≡ stored s n i key (u .track) → after (u .answer) l ≡ placed s n i key v
+step-placed s n i key {u} e h = ap (after (u .answer)) h ∙ ap (placed s n i key) e
+
+module _ (s : List ℕ) (time : ℕ) where
+  pub deliver-refused : {a : Decoded} (r : Refusal) → a ≡ decode.Refused r → after a s ≡ delivered s a time
+  unfolding delivered
+  deliver-refused r e = rw e
+
+  module _ {a : Decoded} {m : Message} (a-is : a ≡ decode.Message m) {k n : ℕ} (k-is : k ≡ keyOf m) (n-is : n ≡ placesIn s) {g : Target} (g-is : g ≡ targetOf (placeAt s n) n time k) where
+    abbrev step-from : Track → ℕ → After Decoded
+    step-from t i = placed s n i k (stepped t (decode.Message m) (siteOf s) time)
+
+    abbrev aim : ℕ → ℕ → Bool → Target
+    aim i j b = cond b (record { held = true; at = i }) (record { held = false; at = j })
+
+    abbrev outcome : ℕ → ℕ → Bool → After Decoded
+    outcome i j b = cond b (step-from (trackOf (bodyAt s n i)) i) (cond (ltb j n) (step-from newTrack j) (after (decode.Refused Full) s))
+
+    abbrev start : Target → Track
+    start g = cond (g .held) (trackOf (bodyAt s n (g .at))) newTrack
+
+    on-by : (i j : ℕ) (b : Bool) → ltb i n ≡ b → g ≡ aim i j b → g .at < n → step-from (start g) (g .at) ≡ outcome i j b
+    on-by i j true e f h = ap (λ (w : Target). step-from (start w) (w .at)) f
+    on-by i j false e f h =
+        let l : j < n = subst (λ (w : Target). w .at < n) f h in
+        ap (λ (w : Target). step-from (start w) (w .at)) f
+        ∙ sym (ap (λ (c : Bool). cond c (step-from newTrack j) (after (decode.Refused Full) s)) (lt-ltb j n l))
+
+    pub deliver-on : {x : Decoded} {l : List ℕ} {t : Track} → g .at < n → t ≡ start g → after x l ≡ step-from t (g .at) → after x l ≡ delivered s a time
+    unfolding delivered placeOf freePlace
+    deliver-on h t-is d =
+        d
+        ∙ ap (λ (u : Track). step-from u (g .at)) t-is
+        ∙ on-by (lowest (λ j. holds time k (placeAt s n j)) n) (lowest (λ j. not (isHeld time (placeAt s n j))) n) _ refl g-is h
+        ∙ rw (a-is, ← k-is, ← n-is)
+
+    full-by : (i j : ℕ) (b : Bool) → ltb i n ≡ b → g ≡ aim i j b → n ≤ g .at → after (decode.Refused Full) s ≡ outcome i j b
+    full-by i j true e f h =
+        let l : n ≤ i = subst (λ (w : Target). n ≤ w .at) f h in
+        absurd (omega (arith, ltb-true i n e))
+    full-by i j false e f h =
+        let l : n ≤ j = subst (λ (w : Target). n ≤ w .at) f h in
+        sym (ap (λ (c : Bool). cond c (step-from newTrack j) (after (decode.Refused Full) s)) (le-ltb j n l))
+
+    pub deliver-full : n ≤ g .at → after (decode.Refused Full) s ≡ delivered s a time
+    unfolding delivered placeOf freePlace
+    deliver-full h =
+        full-by (lowest (λ j. holds time k (placeAt s n j)) n) (lowest (λ j. not (isHeld time (placeAt s n j))) n) _ refl g-is h ∙ rw (a-is, ← k-is, ← n-is)
+
+-- ---- a message is received
+
+module _ (s m : List ℕ) (time : ℕ) where
+  pub receive-length : (length m ≡ 14 → ⊥) → after (decode.Refused Length) s ≡ received s m time
+  unfolding received
+  receive-length f = rw (ne-eqb (length m) 14 f)
+
+  module _ (l : length m ≡ 14) {t : Bool} (e : t ≡ wholePlaces (length s)) where
+    pub receive-size : not t ≡ true → after (decode.Refused Places) s ≡ received s m time
+    unfolding received
+    receive-size f = rw (eq-eqb (length m) 14 l, ← e, f)
+
+    module _ (f : not t ≡ false) {g : ℕ} (g-is : g ≡ clockOf s) where
+      pub receive-late : time < g → after (decode.Refused Late) s ≡ received s m time
+      unfolding received
+      receive-late h = rw (eq-eqb (length m) 14 l, ← e, f, ← g-is, lt-ltb time g h)
+
+      pub receive-on : g ≤ time → {r : List ℕ} → r ≡ put s 0 (lowBytes 8 time) → {a x : Decoded} {z : List ℕ} → a ≡ decoded m
+          → after x z ≡ delivered r a time → after x z ≡ received s m time
+      unfolding received moved
+      receive-on h {r} r-is a-is d = d ∙ ap (λ (a : Decoded). delivered r a time) a-is ∙ rw (r-is, eq-eqb (length m) 14 l, ← e, f, ← g-is, le-ltb time g h)
+
+-- ---- set-up, and what can be read
+
+module _ (s : List ℕ) {t : Bool} (e : t ≡ wholePlaces (length s)) where
+  pub set-up-size : not t ≡ true → after (setting.Refused Places) s ≡ setUp s
+  unfolding setUp
+  set-up-size f = rw (← e, not-true t f)
+
+  pub set-up-on : not t ≡ false → {l : List ℕ} → l ≡ emptied s → after setting.Done l ≡ setUp s
+  unfolding setUp
+  set-up-on f h = rw (← e, not-false t f, ← h)
+
+  module _ (spot : Spot) where
+    pub site-size : not t ≡ true → after (setting.Refused Places) s ≡ setUpAt s spot
+    unfolding setUpAt
+    site-size f = rw (← e, f)
+
+    module _ (f : not t ≡ false) {p : Bool} (p-is : p ≡ poleToPole (spot .latitude)) where
+      pub site-pole : not p ≡ true → after (setting.Refused Field) s ≡ setUpAt s spot
+      unfolding setUpAt
+      site-pole g = rw (← e, f, ← p-is, g)
+
+      pub site-on : not p ≡ false → {l m : List ℕ} → l ≡ emptied s → m ≡ put l 8 (lowBytes 4 (raised (spot .latitude) % 4294967296 + 1) ++ lowBytes 4 (spot .longitude))
+          → after setting.Done m ≡ setUpAt s spot
+      unfolding setUpAt emptiedAt
+      site-on g l-is m-is = rw (← e, f, ← p-is, g, ← l-is, ← m-is)
+
+  pub look-size : (key : ℕ) → not t ≡ true → {u : Track} → u ≡ newTrack → record { answer = holding.Refused Places; track = u } ≡ lookedUp s key
+  unfolding lookedUp
+  look-size key f h = rw (← e, f, h)
+
+  module _ (key : ℕ) (f : not t ≡ false) {c n i : ℕ} (n-is : n ≡ placesIn s) (c-is : c ≡ clockOf s) (i-is : i ≡ lowest (λ j. holds c key (placeAt s n j)) n) where
+    pub look-found : i < n → {p : List ℕ} {u : Track} → p ≡ bodyAt s n i → u ≡ trackOf p → record { answer = holding.Held; track = u } ≡ lookedUp s key
+    unfolding lookedUp placeOf
+    look-found h p-is u-is = rw (← e, f, ← c-is, ← n-is, ← i-is, lt-ltb i n h, ← p-is, ← u-is)
+
+    pub look-none : n ≤ i → {u : Track} → u ≡ newTrack → record { answer = holding.Unheld; track = u } ≡ lookedUp s key
+    unfolding lookedUp placeOf
+    look-none h u-is = rw (← e, f, ← c-is, ← n-is, ← i-is, le-ltb i n h, u-is)
+
+  module _ (above : ℕ) where
+    pub next-size : not t ≡ true → next.Refused Places ≡ nextAbove s above
+    unfolding nextAbove
+    next-size f = rw (← e, f)
+
+    pub next-on : not t ≡ false → {c n k : ℕ} {r : NextKey} → n ≡ placesIn s → c ≡ clockOf s → k ≡ smallest (placeAt s n) c above n → r ≡ keyOrEnd k → r ≡ nextAbove s above
+    unfolding nextAbove
+    next-on f n-is c-is k-is r-is = rw (← e, f, ← c-is, ← n-is, ← k-is) r-is
+
+  pub clock-on : t ≡ true → {c : ℕ} → c ≡ clockOf s → clock.At c ≡ clockIn s
+  unfolding clockIn
+  clock-on f c-is = rw (← e, f, ← c-is)
+
+  pub clock-size : t ≡ false → clock.Refused Places ≡ clockIn s
+  unfolding clockIn
+  clock-size f = rw (← e, f)
+
+  pub site-in : t ≡ true → {x : Site} → x ≡ siteOf s → sited.Site x ≡ siteIn s
+  unfolding siteIn
+  site-in f x-is = rw (← e, f, ← x-is)
+
+  pub no-site : t ≡ false → sited.Refused Places ≡ siteIn s
+  unfolding siteIn
+  no-site f = rw (← e, f)

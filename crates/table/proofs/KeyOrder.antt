@@ -1,0 +1,118 @@
+-- The walk in the order of the keys: what `next` answers is held, above, and nothing held lies between, and at the end nothing held is above. By induction over the places: the best of n places and one more.
+-- Assumes nothing.
+use Prim.Native.Nat.{ℕ, suc, zero, _≤_, _<_}
+use native.Mathlib.Omega.{arith}
+use native.Mathlib.Nat.{eq-or-lt-of-le}
+use mathlib.Core.Bool.{Bool, true, false, cond, _&&_, _||_, true≢false}
+use mathlib.Core.Logic.{_⊎_, inl, inr, ⊎-elim}
+use mathlib.Core.Path.{_≡_, refl, sym, _∙_}
+use mathlib.Core.List.{List}
+use lib.Dec.{eqb, ltb}
+use lib.ListN.{length}
+use borrow.Author.Tests.{ltb-true, ltb-false, eqb-true, eqb-false, eq-eqb}
+use Rattle.fields.proofs.Bools.{and-left, and-right, both}
+use Rattle.table.specs.declared.NextKey.{NextKey}
+use Rattle.table.specs.declared.NextKey.the-variants as next
+use Rattle.table.specs.Layout.{wholePlaces, placesIn, clockOf, Place, placeAt, isHeld, holds}
+use Rattle.table.specs.Table.{better, smallest, keyOrEnd, nextAbove}
+
+-- ---- the smallest key of places
+
+-- a place that the walk has yet to show
+abbrev Ahead : ℕ → ℕ → Place → Type 0
+Ahead clock above p = (above < p .key) × (isHeld clock p ≡ true)
+
+-- what is known of the best of n places
+record Best (f : ℕ → Place) (clock above n best : ℕ) : Type 0 where
+  found : (best ≡ 0) ⊎ ((i : ℕ) × ((i < n) × (Ahead clock above (f i) × (f i .key ≡ best))))
+  none-less : (i : ℕ) → i < n → Ahead clock above (f i) → (best ≡ 0 → ⊥) × (best ≤ f i .key)
+
+module _ (f : ℕ → Place) (clock above : ℕ) where
+  more : (n best : ℕ) → Best f clock above n best → Best f clock above (suc n) (better clock above best (f n))
+  unfolding better
+  more n best h = by-cases (ltb above (f n .key)) (eqb best 0) (ltb (f n .key) best) (isHeld clock (f n)) refl refl refl refl
+    where
+      taken : above < f n .key → isHeld clock (f n) ≡ true → (best ≡ 0) ⊎ (f n .key < best) → Best f clock above (suc n) (f n .key)
+      taken a e o =
+          record {
+            found = inr (n, (omega arith, ((a, e), refl)));
+            none-less =
+                λ i g w. (
+                  λ z. omega arith,
+                  ⊎-elim
+                      (λ (x : i ≡ n). rw x (omega arith))
+                      (λ (x : i < n). ⊎-elim (λ (z : best ≡ 0). absurd (h .none-less i x w .0 z)) (λ (z : f n .key < best). omega (arith, h .none-less i x w .1)) o)
+                      (eq-or-lt-of-le {n = i} {m = n} (omega arith)),
+                );
+          }
+
+      kept : (Ahead clock above (f n) → (best ≡ 0 → ⊥) × (best ≤ f n .key)) → Best f clock above (suc n) best
+      kept last =
+          record {
+            found = ⊎-elim (λ (z : best ≡ 0). inl z) (λ w. inr (w .0, (omega (arith, w .1 .0), w .1 .1))) (h .found);
+            none-less = λ i g w. ⊎-elim (λ (x : i ≡ n). at-last i x w) (λ (x : i < n). h .none-less i x w) (eq-or-lt-of-le {n = i} {m = n} (omega arith));
+          }
+        where
+          at-last : (i : ℕ) → i ≡ n → Ahead clock above (f i) → (best ≡ 0 → ⊥) × (best ≤ f i .key)
+          at-last i x w = rw x (last (rw x at w))
+
+      by-cases : (a b c d : Bool) → ltb above (f n .key) ≡ a → eqb best 0 ≡ b → ltb (f n .key) best ≡ c → isHeld clock (f n) ≡ d
+          → Best f clock above (suc n) (cond (a && (b || c) && d) (f n .key) best)
+      by-cases true true c true p q r e = taken (ltb-true _ _ p) e (inl (eqb-true best 0 q))
+      by-cases true false true true p q r e = taken (ltb-true _ _ p) e (inr (ltb-true _ _ r))
+      by-cases true false false true p q r e = kept (λ w. (eqb-false best 0 q, ltb-false _ _ r))
+      by-cases true true c false p q r e = kept (λ w. absurd (true≢false (sym (w .1) ∙ e)))
+      by-cases true false true false p q r e = kept (λ w. absurd (true≢false (sym (w .1) ∙ e)))
+      by-cases true false false false p q r e = kept (λ w. absurd (true≢false (sym (w .1) ∙ e)))
+      by-cases false b c d p q r e = kept (λ w. absurd (omega (arith, w .0, ltb-false above (f n .key) p)))
+
+  best-of : (n : ℕ) → Best f clock above n (smallest f clock above n)
+  best-of zero = record { found = inl refl; none-less = λ i g w. absurd (omega arith) }
+  best-of (suc n) = more n (smallest f clock above n) (best-of n)
+
+-- ---- the same of a table, over its keys
+
+-- some place holds the key at the table's clock
+abbrev pub HeldKey : List ℕ → ℕ → Type 0
+HeldKey s key = (i : ℕ) × ((i < placesIn s) × (holds (clockOf s) key (placeAt s (placesIn s) i) ≡ true))
+
+-- what the answer says of the keys held
+abbrev pub Follows : List ℕ → ℕ → NextKey → Type 0
+Follows s above (next.Key key) = HeldKey s key × ((above < key) × ((other : ℕ) → above < other → HeldKey s other → key ≤ other))
+Follows s above next.End = (other : ℕ) → above < other → HeldKey s other → ⊥
+Follows s above (next.Refused r) = ⊥
+
+-- a place holds a key if it is held and the key is its own
+held-place : (clock other : ℕ) (p : Place) → holds clock other p ≡ true → (p .key ≡ other) × (isHeld clock p ≡ true)
+unfolding holds
+held-place clock other p h = (eqb-true (p .key) other (and-left (eqb (p .key) other) _ h), and-right (eqb (p .key) other) _ h)
+
+held-key : (clock key : ℕ) (p : Place) → isHeld clock p ≡ true → p .key ≡ key → holds clock key p ≡ true
+unfolding holds
+held-key clock key p h e = both (eq-eqb (p .key) key e) h
+
+module _ (s : List ℕ) (above : ℕ) where
+  follows : (k : ℕ) → Best (placeAt s (placesIn s)) (clockOf s) above (placesIn s) k → Follows s above (keyOrEnd k)
+  follows k h = by-test (eqb k 0) refl
+    where
+      less : (other : ℕ) → above < other → HeldKey s other → (k ≡ 0 → ⊥) × (k ≤ other)
+      less other a w =
+          let e = held-place (clockOf s) other (placeAt s (placesIn s) (w .0)) (w .1 .1) in
+          let l = h .none-less (w .0) (w .1 .0) (rw (e .0) a, e .1) in
+          (l .0, rw (e .0) at (l .1))
+
+      by-test : (b : Bool) → eqb k 0 ≡ b → Follows s above (cond b next.End (next.Key k))
+      by-test true e = λ other a w. less other a w .0 (eqb-true k 0 e)
+      by-test false e =
+          ⊎-elim
+          (λ (z : k ≡ 0). absurd (eqb-false k 0 e z))
+          (λ (w : (i : ℕ) × ((i < placesIn s) × (Ahead (clockOf s) above (placeAt s (placesIn s) i) × (placeAt s (placesIn s) i .key ≡ k)))). (
+            (w .0, (w .1 .0, held-key (clockOf s) k (placeAt s (placesIn s) (w .0)) (w .1 .1 .0 .1) (w .1 .1 .1))),
+            (rw (w .1 .1 .1) at (w .1 .1 .0 .0), λ other a v. less other a v .1),
+          ))
+          (h .found)
+
+  -- one step of the walk: the answer is the smallest key held above, and the end says that there is none
+  pub next-follows : wholePlaces (length s) ≡ true → Follows s above (nextAbove s above)
+  unfolding nextAbove
+  next-follows e = rw e (follows (smallest (placeAt s (placesIn s)) (clockOf s) above (placesIn s)) (best-of (placeAt s (placesIn s)) (clockOf s) above (placesIn s)))

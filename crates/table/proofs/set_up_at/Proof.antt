@@ -1,0 +1,56 @@
+-- `table::set_up_at` meets its contract: its three ways out are the definition's.
+-- Assumes nothing.
+use native.Mathlib.Omega.{arith}
+use mir.Facts.{toZ-ofZ}
+use mir.Syntax.{w32}
+use mathlib.Core.Path.{ap, sym, _∙_}
+use borrow.Author.Tests.{not-false}
+use Rattle.positions.specs.Positions.{poleToPole}
+use Rattle.table.proofs.Parts.{sized, whole}
+use Rattle.table.proofs.Answers.{site-size, site-pole, site-on}
+use borrow.Author.Needs.{needs}
+use Rattle.table.proofs.set_up_at.Statement.{statement}
+use Rattle.table.proofs.set_up_at.Tie as tie
+
+whole-places-requires : tie.Need-whole-places-requires
+whole-places-requires c κs = search needs
+
+returns : tie.Need-returns
+returns c = site-size _ (c .before .whole-places .ensures) _ (c .if1 .taken)
+
+pole-to-pole-requires : tie.Need-pole-to-pole-requires
+pole-to-pole-requires c κs = search needs
+
+returns-2 : tie.Need-returns-2
+returns-2 c =
+    let a = c .before .before .before .before .before .before .args in
+    site-pole _ (c .before .before .before .before .whole-places .ensures) (a .site) (c .before .before .before .if1 .left) (c .before .pole-to-pole .ensures ∙ ap poleToPole (toZ-ofZ {w = w32} {z = a .site .latitude} (record { sfits = omega (arith, c .before .before .struct-told .given) }))) (c .if2 .taken)
+
+clear-requires : tie.Need-clear-requires
+clear-requires c κs = search needs
+
+put-site-requires : tie.Need-put-site-requires
+put-site-requires c κs =
+    let a = c .before .before .before .before .before .before .before .before .before .before .before .args in
+    (omega (arith, c .before .before .before .clear .kept, sized _ (whole _ (c .before .before .before .before .before .before .before .before .before .whole-places .ensures) (c .before .before .before .before .before .before .before .before .if1 .left))), sym (c .before .before .before .before .before .before .pole-to-pole .ensures ∙ ap poleToPole (toZ-ofZ {w = w32} {z = a .site .latitude} (record { sfits = omega (arith, c .before .before .before .before .before .before .before .struct-told .given) }))) ∙ not-false _ (c .before .before .before .before .before .if2 .left))
+
+same-length : tie.Need-same-length
+same-length c = search needs
+
+returns-3 : tie.Need-returns-3
+returns-3 c =
+    let a = c .before .before .before .before .before .before .before .before .before .before .before .before .before .before .args in
+    site-on _ (c .before .before .before .before .before .before .before .before .before .before .before .before .whole-places .ensures) (a .site) (c .before .before .before .before .before .before .before .before .before .before .before .if1 .left) (c .before .before .before .before .before .before .before .before .before .pole-to-pole .ensures ∙ ap poleToPole (toZ-ofZ {w = w32} {z = a .site .latitude} (record { sfits = omega (arith, c .before .before .before .before .before .before .before .before .before .before .struct-told .given) }))) (c .before .before .before .before .before .before .before .before .if2 .left) (c .before .before .before .before .before .before .clear .ensures) (c .before .before .put-site .ensures)
+
+pub set-up-at-spec : {M : Type 1} → statement M
+set-up-at-spec =
+    tie.close
+    (tie.spec
+    whole-places-requires
+    returns
+    pole-to-pole-requires
+    returns-2
+    clear-requires
+    put-site-requires
+    same-length
+    returns-3)

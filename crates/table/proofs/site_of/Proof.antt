@@ -1,0 +1,24 @@
+-- `table::site_of` meets its contract: its two ways out are the definition's.
+-- Assumes nothing.
+use native.Mathlib.Omega.{arith}
+use mathlib.Core.Path.{sym, _∙_}
+use Rattle.table.proofs.Parts.{sized}
+use Rattle.table.proofs.Answers.{site-in, no-site}
+use borrow.Author.Needs.{needs}
+use Rattle.table.proofs.site_of.Statement.{statement}
+use Rattle.table.proofs.site_of.Tie as tie
+
+whole-places-requires : tie.Need-whole-places-requires
+whole-places-requires c κs = search needs
+
+site-of-requires : tie.Need-site-of-requires
+site-of-requires c κs = omega (arith, sized _ (sym (c .before .whole-places .ensures) ∙ c .if1 .taken))
+
+returns : tie.Need-returns
+returns c = site-in _ (c .before .before .whole-places .ensures) (c .before .if1 .taken) (c .site-of .ensures)
+
+returns-2 : tie.Need-returns-2
+returns-2 c = no-site _ (c .before .whole-places .ensures) (c .if1 .left)
+
+pub site-of-spec : {M : Type 1} → statement M
+site-of-spec = tie.close (tie.spec whole-places-requires site-of-requires returns returns-2)

@@ -1,0 +1,101 @@
+-- Every line fits into its 96 bytes, and its first bytes are its text: each number has at most 20 digits, and the lengths are added.
+-- Assumes nothing.
+use Prim.Native.Nat.{ℕ, _+_, _-_, _%_, _^_, _≤_}
+use mathlib.Core.Path.{_≡_, sym, ap, ap₂, _∙_}
+use mathlib.Core.Bool.{Bool, true, false, cond}
+use mathlib.Core.List.{List, _++_}
+use native.Mathlib.Omega.{arith}
+use lib.IntN.{ℤ, pos, natAbs}
+use lib.Signed.{ltZ}
+use lib.ListN.{length, drop, replicate, length-append, length-replicate, replicate-append-replicate}
+use lib.Seq.{take-append-seam, drop-at}
+use Rattle.text.specs.Numbers.{decimal, minus, signed}
+use Rattle.text.specs.Lines.{space, newline, field, figure, clockLabel, tracksLabel, badLabel, headerText, keyText, rowText, lineOf, textIn}
+use Rattle.text.specs.Wrote.{Wrote}
+use Rattle.text.specs.declared.Figure.{Figure}
+use Rattle.text.specs.declared.Figure.the-variants.{Unknown, Known}
+use Rattle.text.specs.declared.Line.{Line}
+use Rattle.text.specs.declared.Row.{Row}
+use Rattle.text.proofs.Buffer.{text-first}
+use Rattle.text.proofs.Digits.{decimal-most, hex-length}
+
+field-most : (label : List ℕ) (n : ℕ) → length (field label n) ≤ length label + 20
+unfolding field
+field-most label n = omega (arith, length-append label (decimal n), decimal-most n)
+
+signed-most : (z : ℤ) → length (signed z) ≤ 21
+unfolding signed
+signed-most z = by (ltZ z (pos 0))
+  where
+    by : (t : Bool) → length (cond t (minus ++ decimal (natAbs z)) (decimal (natAbs z))) ≤ 21
+    by true = omega (arith, length-append minus (decimal (natAbs z)), decimal-most (natAbs z))
+    by false = omega (arith, decimal-most (natAbs z))
+
+figure-most : (f : Figure) → length (figure f) ≤ 22
+unfolding figure
+figure-most Unknown = omega arith
+figure-most (Known z) = omega (arith, length-append space (signed z), signed-most z)
+
+key-length : (key : ℕ) → length (keyText key) ≡ 8
+unfolding keyText
+key-length key = omega (arith, hex-length 6 (key % 2 ^ 24))
+
+-- the header has at most 87 bytes
+pub header-most : (clock tracks bad : ℕ) → length (headerText clock tracks bad) ≤ 87
+unfolding headerText
+header-most clock tracks bad =
+    let c : List ℕ = field clockLabel clock in
+    let t : List ℕ = field tracksLabel tracks in
+    let b : List ℕ = field badLabel bad in
+    omega (
+      arith,
+      length-append (c ++ t ++ b) newline,
+      length-append (c ++ t) b,
+      length-append c t,
+      field-most clockLabel clock,
+      field-most tracksLabel tracks,
+      field-most badLabel bad,
+    )
+
+-- a track's line has at most 96
+pub row-most : (r : Row) → length (rowText r) ≤ 96
+unfolding rowText
+row-most r =
+    let k : List ℕ = keyText (r .key) in
+    let h : List ℕ = field space (r .heard) in
+    let y : List ℕ = figure (r .latitude) in
+    let x : List ℕ = figure (r .longitude) in
+    let a : List ℕ = figure (r .altitude) in
+    omega (
+      arith,
+      length-append (k ++ h ++ y ++ x ++ a) newline,
+      length-append (k ++ h ++ y ++ x) a,
+      length-append (k ++ h ++ y) x,
+      length-append (k ++ h) y,
+      length-append k h,
+      key-length (r .key),
+      field-most space (r .heard),
+      figure-most (r .latitude),
+      figure-most (r .longitude),
+      figure-most (r .altitude),
+    )
+
+drop-zeros : (n m : ℕ) → n ≤ m → drop {A = ℕ} n (replicate m 0) ≡ replicate (m - n) 0
+drop-zeros n m h =
+    let e : m ≡ n + (m - n) = omega arith in
+    ap (λ (k : ℕ). drop {A = ℕ} n (replicate k 0)) e
+    ∙ ap (drop n) (sym (replicate-append-replicate {A = ℕ} n (m - n) 0))
+    ∙ drop-at (replicate n 0) (replicate (m - n) 0) n (length-replicate n 0)
+
+-- what is written from the start of 96 zeros is the line
+pub line-made : {text : List ℕ} {n : ℕ} {l : List ℕ} → length text ≤ 96 → Wrote (replicate 96 0) 0 text n l → _≡_ {A = Line} (record { bytes = l; len = n }) (lineOf text)
+unfolding lineOf
+line-made {text} {n} {l} h w =
+    ap₂ (λ (b : List ℕ) (k : ℕ). record { bytes = b; len = k })
+    (w .text ∙ text-first (replicate 96 0) text (omega (arith, length-replicate {A = ℕ} 96 0)) ∙ ap (λ (r : List ℕ). text ++ r) (drop-zeros (length text) 96 h))
+    (let e : n ≡ length text = omega (arith, w .next) in e)
+
+-- no text is cut off
+pub line-text : (text : List ℕ) → textIn (lineOf text) ≡ text
+unfolding lineOf
+line-text text = take-append-seam text (replicate (96 - length text) 0)

@@ -1,0 +1,15 @@
+-- Text in a buffer.
+use Prim.Native.Nat.{ℕ, _+_}
+use mathlib.Core.Path.{_≡_}
+use mathlib.Core.List.{List}
+use lib.ListN.{length}
+use lib.Seq.{sets}
+
+-- the buffer with a text from a place on; what goes past the end is cut off
+unfoldable pub written : List ℕ → ℕ → List ℕ → List ℕ
+written s at vs = sets s at vs
+
+-- the buffer s has become l by the text vs at a place, and the next place is r
+pub record Wrote (s : List ℕ) (at : ℕ) (vs : List ℕ) (r : ℕ) (l : List ℕ) : Type 0 where
+  pub next : r ≡ at + length vs
+  pub text : l ≡ written s at vs

@@ -1,0 +1,107 @@
+// A line of the listing as text, by value: every line fits, so that no buffer can be too small.
+mod numbers;
+mod write;
+
+ghost use mathlib.Core.Path.{_≡_};
+ghost use Prim.Native.Nat.{_+_, _≤_, _<_, _^_};
+ghost use lib.ListN.{length};
+ghost use Rattle.text.specs.Wrote.{Wrote};
+ghost use Rattle.text.specs.Lines.{field, figure, kindLetter, keyText, headerText, rowText, lineOf};
+
+// A line in ASCII, the newline its last byte, then zeros.
+pub struct Line {
+    pub bytes: [u8; 96],
+    pub len: usize,
+}
+
+pub enum Figure {
+    Unknown,
+    Known(i64),
+}
+
+// What a line says of a track. The key is the kind, 1 or 2, above 24 bits of address.
+pub struct Row {
+    pub key: u32,
+    pub heard: u64,
+    pub latitude: Figure,
+    pub longitude: Figure,
+    pub altitude: Figure,
+}
+
+fn put_figure(out: &mut [u8], at: usize, f: Figure) -> usize
+    requires { ⌜ at + 22 < 2 ^ 64 ⌝ }
+    ensures { λ r. ⌜ Wrote (now (out .entry)) at (figure f) r (now (out .exit)) ⌝ }
+    ensures { λ r. ⌜ r ≤ at + 22 ⌝ }
+{
+    let a = write::put_byte(out, at, b' ');
+    match f {
+        Figure::Known(z) => numbers::put_signed(out, a, z),
+        Figure::Unknown => write::put_byte(out, a, b'-'),
+    }
+}
+
+fn put_field(out: &mut [u8], at: usize, label: &[u8], n: u64) -> usize
+    requires { ⌜ at + length (now label) + 20 < 2 ^ 64 ⌝ }
+    ensures { λ r. ⌜ Wrote (now (out .entry)) at (field (now (label .entry)) n) r (now (out .exit)) ⌝ }
+    ensures { λ r. ⌜ r ≤ at + length (now (label .entry)) + 20 ⌝ }
+{
+    let a = write::put_text(out, at, label);
+    numbers::put_decimal(out, a, n)
+}
+
+fn kind_letter(key: u32) -> u8
+    ensures { λ r. ⌜ r ≡ kindLetter key ⌝ }
+{
+    if 0x200_0000 <= key { b'O' } else { b'I' }
+}
+
+fn put_key(out: &mut [u8], at: usize, key: u32) -> usize
+    requires { ⌜ at + 8 < 2 ^ 64 ⌝ }
+    ensures { λ r. ⌜ Wrote (now (out .entry)) at (keyText key) r (now (out .exit)) ⌝ }
+    ensures { λ r. ⌜ r ≡ at + 8 ⌝ }
+{
+    let a = write::put_byte(out, at, kind_letter(key));
+    let a = write::put_byte(out, a, b' ');
+    numbers::put_hex(out, a, 6, key % 0x100_0000)
+}
+
+fn put_row(out: &mut [u8], row: Row) -> usize
+    ensures { λ r. ⌜ Wrote (now (out .entry)) 0 (rowText row) r (now (out .exit)) ⌝ }
+{
+    let latitude = row.latitude;
+    let longitude = row.longitude;
+    let altitude = row.altitude;
+    let a = put_key(out, 0, row.key);
+    let a = put_field(out, a, b" ", row.heard);
+    let a = put_figure(out, a, latitude);
+    let a = put_figure(out, a, longitude);
+    let a = put_figure(out, a, altitude);
+    write::put_byte(out, a, b'\n')
+}
+
+fn put_header(out: &mut [u8], clock: u64, tracks: u64, bad: u64) -> usize
+    ensures { λ r. ⌜ Wrote (now (out .entry)) 0 (headerText clock tracks bad) r (now (out .exit)) ⌝ }
+{
+    let a = put_field(out, 0, b"clock ", clock);
+    let a = put_field(out, a, b" tracks ", tracks);
+    let a = put_field(out, a, b" bad-blocks ", bad);
+    write::put_byte(out, a, b'\n')
+}
+
+// The listing's first line.
+pub fn header_line(clock: u64, tracks: u64, bad: u64) -> Line
+    ensures { λ r. ⌜ r ≡ lineOf (headerText clock tracks bad) ⌝ }
+{
+    let mut out = [0u8; 96];
+    let n = put_header(&mut out, clock, tracks, bad);
+    Line { bytes: out, len: n }
+}
+
+// The line of a track.
+pub fn row_line(row: Row) -> Line
+    ensures { λ r. ⌜ r ≡ lineOf (rowText row) ⌝ }
+{
+    let mut out = [0u8; 96];
+    let n = put_row(&mut out, row);
+    Line { bytes: out, len: n }
+}

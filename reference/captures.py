@@ -1,0 +1,99 @@
+"""The paper, "Captures and the listing"."""
+
+import readings
+import table
+from parity import remainder, sealed
+from refusals import Refused
+
+BLOCK, RECORD, MOST_RECORDS = 512, 22, 23
+HEAD, SEAL = 3, 3  # count and serial; the three bytes that make the remainder 0
+PLACES = 256  # the program "listing" has 256 places and no site
+KINDS = {1: "I", 2: "O"}
+UNKNOWN = "-"
+
+# Writing
+
+
+def record(time, string):
+    """8-byte time, high byte first, and message."""
+    assert len(string) == 14
+    return time.to_bytes(8, "big") + string
+
+
+def block(serial, records):
+    """Count 1-23; serial, two bytes, high first; 23 records, unused ones zero; three bytes of parity."""
+    assert 1 <= len(records) <= MOST_RECORDS
+    head = bytes([len(records)]) + (serial % 2**16).to_bytes(2, "big")
+    used = head + b"".join(record(time, string) for time, string in records)
+    return sealed(used.ljust(BLOCK - SEAL, b"\0"))
+
+
+def capture(records):
+    """As many blocks as the records need, each but the last one full."""
+    starts = range(0, len(records), MOST_RECORDS)
+    return b"".join(block(serial, records[at : at + MOST_RECORDS]) for serial, at in enumerate(starts))
+
+
+# Reading
+
+
+def blocks(whole):
+    """A capture is blocks of 512 bytes; there may be a part of one at the end."""
+    return [whole[at : at + BLOCK] for at in range(0, len(whole), BLOCK)]
+
+
+def records_of(one_block):
+    """The records, each a time and a message; 11 for a block that fails its rules. The serial isn't tested."""
+    if len(one_block) != BLOCK or remainder(one_block) != 0:
+        raise Refused(11)
+    count = one_block[0]
+    if not 1 <= count <= MOST_RECORDS:
+        raise Refused(11)
+    end = HEAD + RECORD * count
+    if any(one_block[end : BLOCK - SEAL]):
+        raise Refused(11)
+    used = [one_block[at : at + RECORD] for at in range(HEAD, end, RECORD)]
+    return [(int.from_bytes(one[:8], "big"), one[8:]) for one in used]
+
+
+def fold(whole):
+    """The table after every record of every good block, and the number of bad blocks."""
+    made, bad = bytearray(table.length_of(PLACES)), 0
+    table.set_up(made)
+    for one_block in blocks(whole):
+        try:
+            records = records_of(one_block)
+        except Refused:
+            bad += 1
+            continue
+        for time, string in records:
+            offer(made, string, time)
+    return made, bad
+
+
+def offer(made, string, time):
+    """Receives one record; a refusal prints nothing."""
+    try:
+        table.receive(made, string, time)
+    except Refused:
+        pass
+
+
+# The listing
+
+
+def line(key, track):
+    """Kind, address in six hex digits, last heard, latitude, longitude, pressure altitude."""
+    position = track.position
+    place = f"{position.latitude} {position.longitude}" if position.known else f"{UNKNOWN} {UNKNOWN}"
+    feet = readings.altitude(track.pressure)
+    altitude = UNKNOWN if feet == readings.UNKNOWN else feet
+    return f"{KINDS[key >> 24]} {key % 2**24:06X} {track.heard} {place} {altitude}"
+
+
+def listing(whole):
+    """What the program "listing" prints. Lines run by kind, I first, then address."""
+    made, bad = fold(whole)
+    held = table.walk(made)
+    head = f"clock {table.clock_of(made)} tracks {len(held)} bad-blocks {bad}"
+    return "".join(f"{text}\n" for text in [head, *(line(key, track) for key, track in held)])

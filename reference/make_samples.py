@@ -1,0 +1,185 @@
+"""Writes the samples, captures with the listing that each must give, or compares them with those that stand.
+
+    python3 reference/make_samples.py [--check] [--root FOLDER]
+
+With --check nothing is written; the first file that differs is named and the status is 1.
+"""
+
+import argparse
+import sys
+from pathlib import Path
+from random import Random
+
+import traffic
+from captures import BLOCK, MOST_RECORDS, SEAL, block, capture, listing
+from parity import sealed
+from positions import EVEN, ODD
+from traffic import NO_TRANSPONDER, OTHER, TRANSPONDER
+from vectors.message_vectors import flipped, sealed_message
+
+MINUTE = 60_000
+HOUR = 60 * MINUTE
+DEGREE = 2**32 // 360
+
+
+def example():
+    """The paper's own: I ABCDEF at 45 N 90 E, 10,000 feet, even at 1,000, odd at 1,400."""
+    place = 2**29, 2**30
+    rows = (1_000, EVEN), (1_400, ODD)
+    return capture([(time, traffic.airborne(TRANSPONDER, 0xABCDEF, i, place)) for time, i in rows])
+
+
+# A busy hour
+
+
+class Flight:
+    """An aircraft: who it is, where it starts and how it moves, when it is heard, and when on the surface."""
+
+    def __init__(self, chance, head, aa):
+        self.head, self.aa = head, aa
+        self.name = "".join(chance.choice("ABCDEFGHKLMN") for _ in range(3)) + str(chance.randrange(10, 9999))
+        self.start = chance.randrange(44 * DEGREE, 56 * DEGREE), chance.randrange(-8 * DEGREE, 8 * DEGREE)
+        self.knots = chance.randrange(-450, 450), chance.randrange(-450, 450)
+        self.feet = chance.randrange(0, 1600) * 25
+        length = chance.randrange(4 * MINUTE, 10 * MINUTE)
+        self.first = HOUR - length if chance.randrange(2) else chance.randrange(HOUR - length)
+        self.last = self.first + length
+        middle = self.first + length // 2
+        end = 2 * HOUR
+        self.airborne = chance.choices([(0, end), (0, middle), (middle, end), (0, 0)], (20, 4, 4, 2))[0]  # from, until
+        self.type_code = chance.choices([11, 18, 9, 20], (20, 3, 1, 2))[0]
+        self.unknown = chance.randrange(25) == 0
+
+    def place(self, time):
+        """Where it is: a knot is some 55 units of 2^-32 of a turn in a second."""
+        east, north = self.knots
+        moved = [55 * knots * (time - self.first) // 1000 for knots in (north, east)]
+        return self.start[0] + moved[0], (self.start[1] + moved[1]) % 2**32
+
+    def position(self, time, i):
+        """Its position message."""
+        spot = self.place(time)
+        first, last = self.airborne
+        if not first <= time < last:
+            return traffic.surface(self.head, self.aa, i, spot, movement=time // 1000 % 60 + 1, heading=self.aa % 128)
+        code = 0 if self.unknown else traffic.altitude_code(self.feet)
+        return traffic.airborne(self.head, self.aa, i, spot, self.type_code, code)
+
+    def heard(self, chance):
+        """Its messages: now and then a pair half a second apart, and often another beside it."""
+        for _ in range(chance.randrange(10, 14)):
+            time = chance.randrange(self.first, self.last)
+            yield time, self.position(time, EVEN)
+            if chance.randrange(8):
+                yield time + 500, self.position(time + 500, ODD)
+            if chance.randrange(2):
+                yield time + 700, traffic.velocity(self.head, self.aa, *self.knots, chance.randrange(-9, 9) * 64)
+            elif chance.randrange(4) == 0:
+                yield time + 900, traffic.identification(self.head, self.aa, self.name)
+
+
+def flights(chance):
+    """300 aircraft, some without a transponder, some of the other kind; some addresses are both."""
+    addresses = chance.sample(range(2**24), 285)
+    for aa in addresses[:270]:
+        yield Flight(chance, chance.choices((TRANSPONDER, NO_TRANSPONDER, OTHER), (20, 1, 2))[0], aa)
+    for aa in addresses[270:]:
+        yield Flight(chance, TRANSPONDER, aa)
+        yield Flight(chance, OTHER, aa)
+
+
+def roll_call(chance, all_flights):
+    """In the middle of the hour every one is heard within 100 seconds: more than there are places."""
+    for flight in all_flights:
+        time = 30 * MINUTE + chance.randrange(100_000)
+        yield time, traffic.identification(flight.head, flight.aa, flight.name)
+
+
+def with_faults(chance, records):
+    """Some messages damaged, some that are not taken, some records late."""
+    for place in chance.sample(range(len(records)), 100):
+        time, string = records[place]
+        records[place] = time, flipped(string, chance.randrange(1, 113))
+    for _ in range(60):
+        place = chance.randrange(len(records))
+        aa = int.from_bytes(records[place][1][1:4], "big")
+        strange = sealed_message(18, chance.randrange(2, 8), aa, 11, 0), sealed_message(17, 5, aa, 31, 0), bytes(14)
+        records.insert(place, (records[place][0], chance.choice(strange)))
+    for _ in range(60):
+        place = chance.randrange(len(records) - 40)
+        records.insert(place + chance.randrange(2, 30), records.pop(place))
+    return records
+
+
+def resealed(good, at, value):
+    """The block with another byte at an offset, its parity made right again."""
+    changed = bytearray(good[: BLOCK - SEAL])
+    changed[at] = value
+    return sealed(bytes(changed))
+
+
+def blocks_of(chance, records):
+    """The blocks; now and then one that is not full."""
+    made, at = [], 0
+    while at < len(records):
+        count = MOST_RECORDS if chance.randrange(12) else chance.randrange(1, MOST_RECORDS)
+        made.append(block(len(made), records[at : at + count]))
+        at += count
+    return made
+
+
+def with_bad_blocks(chance, made):
+    """Wrong bits; counts of 0 and 24; an unused record that is not zero; zeros; a part block at the end: 11."""
+    no_count, high_count = 60, 120
+    unused = next(place for place, one in enumerate(made) if one[0] < MOST_RECORDS)
+    sound = [place for place in range(len(made)) if place not in (no_count, high_count, unused)]
+    for place in chance.sample(sound, 6):
+        made[place] = flipped(made[place], chance.randrange(1, 8 * BLOCK + 1))
+    made[no_count] = resealed(made[no_count], 0, 0)
+    made[high_count] = resealed(made[high_count], 0, MOST_RECORDS + 1)
+    made[unused] = resealed(made[unused], BLOCK - SEAL - 1, 1)
+    part = made[-1][:300]
+    return b"".join([*made[:200], bytes(BLOCK), *made[200:], part])
+
+
+def busy_hour():
+    """300 aircraft in an hour, on the surface and airborne, with faults of every sort."""
+    chance = Random(71)
+    all_flights = list(flights(chance))
+    records = [row for flight in all_flights for row in flight.heard(chance)]
+    records += roll_call(chance, all_flights)
+    records.sort()
+    return with_bad_blocks(chance, blocks_of(chance, with_faults(chance, records)))
+
+
+SAMPLES = {"example": example, "busy-hour": busy_hour}
+
+
+def files():
+    """Every file of samples/, with what it holds."""
+    for name, made in SAMPLES.items():
+        whole = made()
+        yield f"{name}.capture", whole
+        yield f"{name}.listing", listing(whole).encode("ascii")
+
+
+def main():
+    parser = argparse.ArgumentParser(description="The samples: captures and their listings.")
+    parser.add_argument("--check", action="store_true", help="write nothing, compare")
+    parser.add_argument("--root", type=Path, default=Path(__file__).resolve().parent.parent)
+    arguments = parser.parse_args()
+    folder = arguments.root / "samples"
+    for name, content in files():
+        path = folder / name
+        if not arguments.check:
+            folder.mkdir(exist_ok=True)
+            path.write_bytes(content)
+        elif not path.is_file() or path.read_bytes() != content:
+            print(f"samples/{name}: {'differs' if path.is_file() else 'missing'}")
+            return 1
+        print(f"samples/{name}: {len(content)} bytes {'as made' if arguments.check else 'written'}")
+    return 0
+
+
+if __name__ == "__main__":
+    sys.exit(main())

@@ -1,0 +1,140 @@
+"""The paper, "Tracks": one track, and its step by one message. Times are whole milliseconds."""
+
+from typing import NamedTuple
+
+from messages import AIRBORNE as AIRBORNE_FIELDS
+from messages import IDENTIFICATION, decode, layout
+from messages import SURFACE as SURFACE_FIELDS
+from positions import AIRBORNE, EVEN, ODD, SURFACE, pair, single
+from refusals import Refused
+
+STALE = 125_000  # a track goes when clock minus last heard is this or more
+PARTNER = 10_000  # paired with the other one if that is at most this old
+REFERENCE = 120_000  # read against the track's position if at most this old
+
+I, O = 1, 2  # the kinds, in the order of the listing
+
+
+class Saved(NamedTuple):
+    """An encoded position, airborne: its counts and its time."""
+
+    known: int = 0
+    latitude: int = 0
+    longitude: int = 0
+    time: int = 0
+
+
+class Position(NamedTuple):
+    """A position in 2^-32 of a turn, with its time."""
+
+    known: int = 0
+    latitude: int = 0
+    longitude: int = 0
+    time: int = 0
+
+
+class Track(NamedTuple):
+    """What a track holds. Of three groups the ME that gave it, 0 for none; of two heights the code."""
+
+    heard: int = 0
+    identification: int = 0
+    velocity: int = 0
+    surface: int = 0
+    pressure: int = 0
+    height: int = 0
+    position: Position = Position()
+    saved: tuple = (Saved(), Saved())  # the latest even and the latest odd one, by F
+
+
+def key_of(message):
+    """A track's key is AA with its kind: I for DF 17 and for DF 18 CF 0, O for CF 1."""
+    kind = O if message["DF"] == 18 and message["CA or CF"] == 1 else I
+    return kind << 24 | message["AA"]
+
+
+def age(time, clock):
+    """A time after the clock has age 0."""
+    return max(clock - time, 0)
+
+
+def is_stale(heard, clock):
+    """A track goes when clock minus last heard is 125,000 or more."""
+    return age(heard, clock) >= STALE
+
+
+# Where a message puts its aircraft: a latitude and a longitude, or None
+
+
+def unless_refused(question, *arguments):
+    """The place, or None on 9 or 10."""
+    try:
+        return question(*arguments)
+    except Refused as refusal:
+        assert refusal.number in (9, 10)
+        return None
+
+
+def paired(saved, i, time):
+    """Paired with the other one if that is at most 10,000 old; the message is the later one."""
+    other = saved[1 - i]
+    if not other.known or age(other.time, time) > PARTNER:
+        return None
+    even, odd = saved
+    return unless_refused(pair, i, even.latitude, even.longitude, odd.latitude, odd.longitude)
+
+
+def usable(position, time):
+    """The track's position if at most 120,000 old, else None."""
+    if position.known and age(position.time, time) <= REFERENCE:
+        return position.latitude, position.longitude
+    return None
+
+
+def read_singly(turn, message, reference):
+    """Read singly against the reference, if there is one."""
+    if reference is None:
+        return None
+    return unless_refused(single, turn, message["F"], message["latitude"], message["longitude"], *reference)
+
+
+def settled(position, place, time):
+    """A position found takes the message's time; otherwise the position stays."""
+    return position if place is None else Position(1, *place, time)
+
+
+# The step
+
+
+def airborne(track, message, time):
+    """Saved by its F, then paired; failing that, or on 9 or 10, read singly."""
+    i = message["F"]
+    mine = Saved(1, message["latitude"], message["longitude"], time)
+    saved = (mine, track.saved[ODD]) if i == EVEN else (track.saved[EVEN], mine)
+    place = paired(saved, i, time)
+    if place is None:
+        place = read_singly(AIRBORNE, message, usable(track.position, time))
+    group = {"pressure": message["altitude"]} if message["TYPE"] <= 18 else {"height": message["altitude"]}
+    return track._replace(saved=saved, position=settled(track.position, place, time), **group)
+
+
+def on_surface(track, message, me, site, time):
+    """Clears the two saved ones; read against the track's position within 120,000, else the site."""
+    reference = usable(track.position, time)
+    place = read_singly(SURFACE, message, site if reference is None else reference)
+    position = settled(track.position, place, time)
+    return track._replace(saved=(Saved(), Saved()), position=position, surface=me)
+
+
+def step(track, string, site, time):
+    """The track after an acceptable message, of 14 bytes; site is a latitude and a longitude, or None."""
+    message = decode(string)
+    me = int.from_bytes(string[4:11], "big")  # ME is bits 33-88
+    track = track._replace(heard=time)
+    fields = layout(message["TYPE"], message.get("subtype"))
+    if fields is AIRBORNE_FIELDS:
+        return airborne(track, message, time)
+    if fields is SURFACE_FIELDS:
+        return on_surface(track, message, me, site, time)
+    if fields is IDENTIFICATION:
+        return track._replace(identification=me)
+    return track._replace(velocity=me)

@@ -1,0 +1,62 @@
+"""Messages of aircraft, for runs of the table and for captures."""
+
+from messages import HEAD, encode, layout
+from positions import AIRBORNE, SURFACE
+from positions import encode as counts_of
+
+TRANSPONDER, NO_TRANSPONDER, OTHER = (17, 5), (18, 0), (18, 1)  # DF, and CA or CF: kinds I, I and O
+
+
+def message(head, aa, type_code, **fields):
+    """14 bytes of remainder 0; the fields of ME by name, 0 where none is given."""
+    names = [name for name, _, _ in layout(type_code, fields.get("subtype"))]
+    assert set(fields) <= set(names)
+    values = [*head, aa, type_code, *(fields.get(name, 0) for name in names)]
+    return encode(dict(zip([name for name, _, _ in HEAD] + names, values)))
+
+
+def altitude_code(feet):
+    """The code with Q 1 of an altitude: N is seven bits, Q and four bits more."""
+    n = (feet + 1000) // 25
+    return n >> 4 << 5 | 1 << 4 | n & 15
+
+
+def airborne(head, aa, i, place, type_code=11, altitude=888):
+    """An airborne message from a place, in 2^-32 of a turn."""
+    latitude, longitude = counts_of(AIRBORNE, i, *place)
+    return message(head, aa, type_code, altitude=altitude, F=i, latitude=latitude, longitude=longitude)
+
+
+def airborne_counts(head, aa, i, counts, type_code=11, altitude=888):
+    """An airborne message of these two counts."""
+    return message(head, aa, type_code, altitude=altitude, F=i, latitude=counts[0], longitude=counts[1])
+
+
+def surface(head, aa, i, place, type_code=7, movement=42, heading=50):
+    """A surface message from a place."""
+    latitude, longitude = counts_of(SURFACE, i, *place)
+    fields = {"movement": movement, "status": 1, "heading": heading}
+    return message(head, aa, type_code, **fields, F=i, latitude=latitude, longitude=longitude)
+
+
+def code_of(letter):
+    """The code of a letter, a digit or a space."""
+    if letter.isalpha():
+        return ord(letter) - ord("A") + 1
+    return ord(letter)  # 32 space, 48-57 digits
+
+
+def identification(head, aa, text, type_code=4, category=3):
+    """An identification; the text is padded with spaces to eight characters."""
+    characters = 0
+    for letter in text.ljust(8):
+        characters = characters << 6 | code_of(letter)
+    return message(head, aa, type_code, category=category, characters=characters)
+
+
+def velocity(head, aa, east, north, rate=0):
+    """A velocity over ground of these knots, and a rate in ft/min; east, north and up are above zero."""
+    speeds = {"east-west direction": int(east < 0), "east-west speed": abs(east) + 1}
+    speeds |= {"north-south direction": int(north < 0), "north-south speed": abs(north) + 1}
+    rates = {"rate source": 1, "rate sign": int(rate < 0), "rate": abs(rate) // 64 + 1}
+    return message(head, aa, 19, subtype=1, NACv=2, **speeds, **rates)

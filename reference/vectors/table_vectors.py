@@ -1,0 +1,728 @@
+"""Cases of table_vectors: scripted runs of the lent table. vectors/bench.py has the records and the answers."""
+
+from fractions import Fraction
+from itertools import product
+from math import floor
+from random import Random
+
+import published
+from positions import AIRBORNE, COUNTS, EVEN, FIGURES, ODD, SURFACE, UNIT, zones
+from positions import encode as counts_of
+from table import BODY, POLE, body_of, key_at, length_of
+from tracks import Position, Saved, Track
+from traffic import (
+    NO_TRANSPONDER,
+    OTHER,
+    TRANSPONDER,
+    airborne,
+    airborne_counts,
+    identification,
+    message,
+    surface,
+    velocity,
+)
+from vectors.bench import SPACE, Bench
+from vectors.message_vectors import flipped, random_valid, sealed_message
+from vectors.position_vectors import random_counts, random_latitude, random_longitude
+
+I, O = 1 << 24, 2 << 24  # the kinds, above the address
+ONE, TWO, THREE = 0xABCDEF, 0x4840D6, 0x000001  # addresses
+HEADS = [TRANSPONDER, NO_TRANSPONDER, OTHER]
+HERE = 2**29, 2**30  # 45 N 90 E
+NEAR = 2**29 + 2**20, 2**30 + 2**20  # a tenth of a degree away
+LAST = 2**64 - 1
+BOTH = (EVEN, ODD)
+
+
+def new(bench, places, site):
+    """A table that is set up, with a site or without."""
+    if site is None:
+        bench.set_up(places)
+    else:
+        bench.set_up_at(places, site)
+
+
+def both(bench, aa, place, time, head=TRANSPONDER):
+    """An even and an odd message from a place, 400 apart: the pair gives a position."""
+    bench.receive(airborne(head, aa, EVEN, place), time)
+    bench.receive(airborne(head, aa, ODD, place), time + 400)
+
+
+def kept(bench, aa, start, end):
+    """Velocity messages that keep the track, every 50,000."""
+    for time in range(start, end, 50_000):
+        bench.receive(velocity(TRANSPONDER, aa, 100, -50), time)
+
+
+def seen(bench):
+    """All that can be seen of a small table."""
+    bench.walk()
+    bench.whole()
+
+
+def damaged(string):
+    """The same message with a wrong bit."""
+    return flipped(string, 60)
+
+
+# Ages
+
+
+def listing_example(bench):
+    """The paper's listing: I ABCDEF, even at 1,000, odd at 1,400."""
+    bench.set_up(256)
+    both(bench, ONE, HERE, 1_000)
+    bench.look_up(I | ONE, O | ONE, ONE)
+    seen(bench)
+
+
+def partner_ages(bench):
+    """Partner age 10,000 pairs, 10,001 doesn't; then the single reading, if there is a position."""
+    for first, gap in product(BOTH, (0, 1, 400, 9_999, 10_000, 10_001, 10_002, 60_000)):
+        bench.set_up(1)
+        bench.receive(airborne(TRANSPONDER, ONE, first, HERE), 1_000)
+        bench.receive(airborne(TRANSPONDER, ONE, 1 - first, HERE), 1_000 + gap)
+        seen(bench)
+        bench.set_up(2)
+        both(bench, ONE, HERE, 1_000)
+        bench.receive(airborne(TRANSPONDER, ONE, first, NEAR), 50_000)
+        bench.receive(airborne(TRANSPONDER, ONE, 1 - first, NEAR), 50_000 + gap)
+        seen(bench)
+
+
+def reference_ages(bench):
+    """A reference at 120,000 and not at 120,001: airborne, and on the surface with and without a site."""
+    gaps = (0, 10_001, 119_999, 120_000, 120_001, 120_002, 200_000)
+    for gap, site, ground in product(gaps, (None, NEAR), (False, True)):
+        new(bench, 1, site)
+        both(bench, ONE, HERE, 1_000)
+        kept(bench, ONE, 1_400, 1_400 + gap)
+        made = surface if ground else airborne
+        bench.receive(made(TRANSPONDER, ONE, EVEN, NEAR), 1_400 + gap)
+        seen(bench)
+
+
+def holding_ages(bench):
+    """Heard at 1,000: held at 125,999, gone at 126,000."""
+    for gap in (0, 124_998, 124_999, 125_000, 125_001, 10**9):
+        bench.set_up(2)
+        both(bench, ONE, HERE, 600)
+        bench.receive(identification(TRANSPONDER, TWO, "KLM1023"), 1_000 + gap)
+        bench.look_up(I | ONE, I | TWO)
+        bench.next(0, I | TWO, I | ONE)
+        seen(bench)
+        bench.receive(velocity(TRANSPONDER, ONE, 0, 0), 1_000 + gap)
+        seen(bench)
+
+
+def nothing_refreshes(bench):
+    """A refused message refreshes no track: bad parity, DF, TYPE, length, late."""
+    good = airborne(TRANSPONDER, ONE, EVEN, NEAR)
+    bad = [damaged(good), sealed_message(18, 2, ONE, 11, 0), sealed_message(17, 5, ONE, 31, 0)]
+    bad += [sealed_message(17, 5, ONE, 0, 0), sealed_message(17, 5, ONE, 19, 5 << 48), good[:13], good + b"\0"]
+    for string, end in product(bad, (125_999, 126_000)):
+        bench.set_up(2)
+        both(bench, ONE, HERE, 600)
+        bench.receive(string, 100_000)
+        bench.receive(good, 999)
+        bench.walk()
+        bench.receive(string, end)
+        seen(bench)
+        bench.receive(velocity(TRANSPONDER, TWO, 1, 1), end)
+        bench.receive(velocity(TRANSPONDER, THREE, 1, 1), end)
+        seen(bench)
+
+
+def late_messages(bench):
+    """A time below the clock leaves everything; an equal time is not late."""
+    bench.set_up(2)
+    both(bench, ONE, HERE, 5_000)
+    for time in (5_399, 0, 5_400, 5_399, 5_401, 5_400, LAST, LAST - 1, LAST):
+        bench.receive(airborne(TRANSPONDER, ONE, EVEN, NEAR), time)
+        bench.receive(damaged(airborne(TRANSPONDER, ONE, EVEN, NEAR)), time)
+        seen(bench)
+
+
+def clock_of_a_stranger(bench):
+    """A damaged message of the last time moves the clock, and so empties the table."""
+    bench.set_up(2)
+    both(bench, ONE, HERE, 5_000)
+    bench.receive(damaged(airborne(TRANSPONDER, TWO, EVEN, NEAR)), LAST)
+    seen(bench)
+    bench.receive(airborne(TRANSPONDER, ONE, EVEN, NEAR), LAST - 1)
+    bench.receive(airborne(TRANSPONDER, ONE, EVEN, NEAR), LAST)
+    seen(bench)
+
+
+# Groups and positions
+
+
+def surface_and_back(bench):
+    """Airborne, surface and airborne again, with and without a site."""
+    for site in (None, HERE, (-HERE[0], 0)):
+        new(bench, 3, site)
+        bench.receive(surface(TRANSPONDER, ONE, EVEN, NEAR), 1_000)
+        bench.receive(surface(TRANSPONDER, ONE, ODD, NEAR), 2_000)
+        both(bench, ONE, NEAR, 3_000)
+        bench.receive(surface(TRANSPONDER, ONE, ODD, HERE), 4_000)
+        bench.receive(airborne(TRANSPONDER, ONE, ODD, HERE), 5_000)
+        bench.receive(airborne(TRANSPONDER, ONE, EVEN, HERE), 5_000)
+        bench.receive(surface(OTHER, ONE, ODD, HERE), 6_000)
+        bench.receive(surface(NO_TRANSPONDER, TWO, EVEN, HERE, type_code=5), 6_000)
+        bench.receive(airborne(NO_TRANSPONDER, TWO, EVEN, HERE, type_code=18), 7_000)
+        bench.receive(surface(NO_TRANSPONDER, TWO, EVEN, HERE, type_code=8, movement=0), 7_500)
+        bench.receive(airborne(NO_TRANSPONDER, TWO, ODD, HERE, type_code=18), 8_000)
+        seen(bench)
+
+
+def surface_beyond_the_pole(bench):
+    """On 9 the position stays, and the site is not tried instead."""
+    high = POLE - 2**18, 2**30
+    for site, turn, i, more in product((None, HERE), (SURFACE, AIRBORNE), BOTH, (-1, 0, 1, 9_000)):
+        new(bench, 1, site)
+        both(bench, ONE, high, 1_000)
+        pole = (Fraction(90 * zones(i) * COUNTS, turn) + more) % COUNTS
+        fields = {"F": i, "latitude": floor(pole), "longitude": 77}
+        bench.receive(message(TRANSPONDER, ONE, 6 if turn == SURFACE else 12, **fields), 20_000)
+        seen(bench)
+
+
+def one_site(bench):
+    """Sites at the edges, used by a first surface message; 8 outside, and the table stays."""
+    for latitude, longitude in product((0, 1, -1, POLE, -POLE, HERE[0]), (0, 2**31, 2**32 - 1, 12345)):
+        bench.set_up_at(2, (latitude, longitude))
+        bench.whole()
+        bench.receive(surface(TRANSPONDER, ONE, EVEN, (latitude, longitude)), 1)
+        bench.receive(surface(TRANSPONDER, TWO, ODD, (latitude // 2, 0)), 1)
+        seen(bench)
+    for latitude, length in product((POLE + 1, -POLE - 1, 2**31 - 1, -(2**31)), (length_of(2), length_of(2) - 1)):
+        bench.set_up_bytes_at(length, (latitude, 7))
+        bench.lend(length_of(2))
+        seen(bench)
+
+
+def site_not_used(bench):
+    """The site is no reference for an airborne message, nor while the track's position can be used."""
+    bench.set_up_at(2, HERE)
+    bench.receive(airborne(TRANSPONDER, ONE, EVEN, NEAR), 1_000)
+    bench.walk()
+    far = -HERE[0], 3 * 2**30
+    both(bench, ONE, far, 20_000)
+    bench.receive(surface(TRANSPONDER, ONE, EVEN, far), 30_000)
+    kept(bench, ONE, 30_000, 160_000)
+    bench.receive(surface(TRANSPONDER, ONE, EVEN, far), 160_000)
+    seen(bench)
+
+
+def every_group(bench):
+    """Each TYPE in one track, in several orders: a message replaces its own group whole, and no other."""
+    chance = Random(21)
+    for _ in range(4):
+        bench.set_up(1)
+        types, time = [*range(1, 23)] * 2, 0
+        chance.shuffle(types)
+        for type_code in types:
+            rest = chance.getrandbits(51)
+            if type_code == 19:
+                rest = rest % 2**48 | chance.randrange(1, 5) << 48
+            time += chance.randrange(3_000)
+            bench.receive(sealed_message(17, 5, ONE, type_code, rest), time)
+        seen(bench)
+
+
+def unknown_heights(bench):
+    """Code 0 replaces a known height, pressure and GNSS, each its own; so do codes of unknown meaning."""
+    bench.set_up(1)
+    time, codes = 0, [(11, 888), (20, 1), (11, 0), (20, 4095), (9, 4095), (22, 0), (18, 16), (21, 2688), (10, 0)]
+    for type_code, altitude in codes:
+        time += 500
+        bench.receive(airborne(TRANSPONDER, ONE, time // 500 % 2, HERE, type_code, altitude), time)
+        bench.walk()
+    bench.receive(surface(TRANSPONDER, ONE, EVEN, HERE, movement=0, heading=0), time)
+    bench.receive(message(TRANSPONDER, ONE, 19, subtype=3), time)
+    bench.receive(message(TRANSPONDER, ONE, 1), time)
+    seen(bench)
+
+
+def both_kinds(bench):
+    """One address of both kinds is two tracks; DF 18 CF 0 is the kind of DF 17."""
+    bench.set_up(3)
+    for time, head in enumerate([OTHER, TRANSPONDER, NO_TRANSPONDER, OTHER, (17, 0), (17, 7)]):
+        bench.receive(airborne(head, ONE, time % 2, HERE, altitude=16 + time), 1_000 * time)
+        bench.look_up(I | ONE, O | ONE)
+    for aa in (0, 2**24 - 1):
+        bench.receive(airborne(OTHER, aa, EVEN, HERE), 7_000)
+    seen(bench)
+    bench.next(0, I, I | ONE, I | 2**24 - 1, O - 1, O, O | ONE, O | 2**24 - 1, 2**32 - 1)
+
+
+def zone_edges(bench):
+    """Pairs on either side of each transition: refused with 10, they are read singly if they can be."""
+    chance = Random(22)
+    for figure, sign in product(FIGURES, (1, -1)):
+        entry = Fraction(figure, 10**8)
+        below = [floor(entry * zones(i) / AIRBORNE * COUNTS) for i in BOTH]
+        longitudes = random_counts(chance, 2)
+        counts = [[(sign * (below[i] + more) % COUNTS, longitudes[i]) for more in (0, 1)] for i in BOTH]
+        bench.set_up(1)
+        steps = [(EVEN, 0), (ODD, 1), (ODD, 0), (EVEN, 1), (ODD, 1), (EVEN, 0), (ODD, 0)]
+        for time, (i, more) in enumerate(steps[chance.randrange(3) :]):
+            bench.receive(airborne_counts(TRANSPONDER, ONE, i, counts[i][more]), 1_000 * time)
+    seen(bench)
+
+
+def refused_pairs(bench):
+    """Pairs of random counts, many of them refused with 9 or 10, with a position and without."""
+    chance = Random(23)
+    for start in (None, HERE, (POLE - 5, 0), (-POLE, 2**31)):
+        bench.set_up(1)
+        if start:
+            both(bench, ONE, start, 0)
+        time = 20_000
+        for _ in range(40):
+            time += chance.choice((10, 400, 9_999, 10_000, 10_001))
+            i = chance.choice(BOTH)
+            latitude = chance.choice([0, 32768, 65536, 98304, 98305, chance.randrange(COUNTS)])
+            bench.receive(airborne_counts(TRANSPONDER, ONE, i, (latitude, chance.randrange(COUNTS))), time)
+        seen(bench)
+
+
+def published_runs(bench):
+    """The published messages in order, each twice, a second apart."""
+    bench.set_up_at(8, published.units("51.99", "4.375"))
+    for time, string in enumerate(published.messages() * 2):
+        bench.receive(string, 1_000 * time)
+    seen(bench)
+
+
+# Refusals
+
+
+def refused_message(bad_length, bad_parity, bad_df, bad_type):
+    """A message with some of these faults."""
+    string = sealed_message(18 if bad_df else 17, 2, TWO, 0 if bad_type else 11, 12345)
+    if bad_parity:
+        string = damaged(string)
+    return string[:13] if bad_length else string
+
+
+def order(bench):
+    """Every set of faults: 1, 7, 2, 3, 4, 5, 6 in that order, and what each leaves."""
+    for faults in product((False, True), repeat=7):
+        bad_length, bad_table, late, bad_parity, bad_df, bad_type, full = faults
+        bench.set_up(1)
+        bench.receive(identification(TRANSPONDER, ONE, "EZY85MH"), 1_000 if full else 0)
+        bench.receive(damaged(bytes(14)), 125_000)
+        if bad_table:
+            bench.lend(length_of(1) - 1)
+        string = refused_message(bad_length, bad_parity, bad_df, bad_type)
+        bench.receive(string, 124_999 if late else 125_999)
+        bench.lend(length_of(1))
+        seen(bench)
+
+
+def lengths(bench):
+    """Tables of whole places and just off them; every call earns 7 for the latter."""
+    whole = [length_of(count) for count in (1, 2, 3, 255, 256, 257, 1023, 1024)]
+    off = [0, 1, 8, 15, 16, 17, 78, 79, 94, 96, length_of(2) - 16, length_of(1025), SPACE]
+    for length in sorted({*off, *whole, *(size + more for size in whole for more in (-1, 1))}):
+        bench.set_up_bytes(length)
+        bench.set_up_bytes_at(length, HERE)
+        if length < 2**15 or length % 2 == 0:
+            bench.whole()
+        bench.receive(identification(OTHER, TWO, "KLM1023"), 77)
+        bench.receive(b"", 77)
+        bench.look_up(O | TWO, I | TWO)
+        bench.next(0, O | TWO)
+        bench.walk()
+        bench.set_up_bytes_at(length, (POLE + 1, 0))
+        bench.set_up_bytes(length)
+        bench.walk()
+
+
+def message_lengths(bench):
+    """1 for every length but 14, and nothing changed."""
+    bench.set_up(1)
+    for length in (*range(21), 28, 255):
+        bench.receive((airborne(TRANSPONDER, ONE, EVEN, HERE) * 20)[:length], 1_000 + length)
+    seen(bench)
+
+
+# Full tables
+
+
+def newcomer(head, aa):
+    """A short message that starts a track."""
+    return message(head, aa, 19, subtype=1)
+
+
+def full_small(bench):
+    """1 and 2 places: full, freed by time, refilled at the lowest place."""
+    for places in (1, 2):
+        bench.set_up(places)
+        for aa in range(places):
+            both(bench, aa, HERE, 1_000 * aa)
+        for time in (2_000, 125_399, 125_400, 126_399, 126_400, 250_398, 250_399, 251_400):
+            for head, aa in ((OTHER, 0), (TRANSPONDER, 7), (TRANSPONDER, 0)):
+                bench.receive(airborne(head, aa, EVEN, NEAR), time)
+            seen(bench)
+
+
+def full_large(bench, places, seed):
+    """256 and 1,024 places, filled to the last; freed here and there by time, the lowest taken first."""
+    chance = Random(seed)
+    bench.set_up(places)
+    addresses = chance.sample(range(2**24), places // 2)
+    names = [(head, aa) for aa in addresses for head in (TRANSPONDER, OTHER)]
+    chance.shuffle(names)
+    for time, (head, aa) in enumerate(names):
+        bench.receive(newcomer(head, aa), time)
+    bench.whole()
+    for aa in (1, 2):
+        bench.receive(newcomer(TRANSPONDER, aa), places)
+    time = places
+    for head, aa in chance.sample(names, places // 8):  # these stay
+        time += chance.randrange(100)
+        bench.receive(identification(head, aa, "STAYS"), time)
+    bench.walk()
+    bench.whole()
+    for place in (0, places // 2, places - 1):  # the first is stale, the rest one after the other
+        bench.receive(newcomer(TRANSPONDER, 3), 124_999 + place)
+        bench.receive(newcomer(NO_TRANSPONDER, 4 + place), 125_000 + place)
+        bench.receive(newcomer(OTHER, 5 + place), 125_000 + place)
+        bench.whole()
+    for aa in range(10_000, 10_000 + places // 4):
+        bench.receive(newcomer(OTHER, aa), 125_000 + places)
+    for _, aa in names[: places // 16]:
+        bench.look_up(I | aa, O | aa)
+        bench.next(I | aa)
+    bench.whole()
+
+
+# Random traffic
+
+
+STEPS = (0, 1, 7, 400, 500, 1_000, 4_000, 9_999, 10_000, 10_001, 119_999, 120_000, 120_001, 124_999, 125_000, 125_001)
+WEIGHTS = (6, 3, 3, 9, 9, 9, 6, 3, 3, 3, 1, 1, 1, 1, 1, 1)
+
+
+def random_message(chance, head, aa, place):
+    """A message of any layout, now and then one with random fields."""
+    i, kind = chance.choice(BOTH), chance.randrange(12)
+    if kind < 5:
+        type_code = chance.choice([*range(9, 19), 20, 21, 22])
+        return airborne(head, aa, i, place, type_code, chance.choice((0, 888, chance.randrange(4096))))
+    if kind < 8:
+        return surface(head, aa, i, place, chance.randrange(5, 9), chance.randrange(128), chance.randrange(128))
+    if kind == 8:
+        return identification(head, aa, chance.choice(("KLM1023", "EZY85MH", "")), chance.randrange(1, 5))
+    if kind == 9:
+        east, north = chance.randrange(-500, 500), chance.randrange(-500, 500)
+        return velocity(head, aa, east, north, chance.randrange(-9, 9) * 64)
+    if kind == 10:
+        return airborne_counts(head, aa, i, random_counts(chance, 2))
+    string = random_valid(chance)
+    return sealed_message(*head, aa, string[4] >> 3, int.from_bytes(string[4:11], "big") % 2**51)
+
+
+def moved(chance, place):
+    """A place up to a tenth of a degree further on."""
+    latitude = place[0] + chance.randrange(-(2**20), 2**20)
+    return max(-POLE, min(POLE, latitude)), (place[1] + chance.randrange(-(2**20), 2**20)) % 2**32
+
+
+def random_run(bench, seed, places, steps):
+    """A few aircraft and fewer places; times that step by the edges; faults now and then."""
+    chance = Random(seed)
+    spots = {}
+    for aa in chance.sample(range(2**24), places + 1):
+        spots[aa] = random_latitude(chance), random_longitude(chance)
+    if chance.randrange(2):
+        bench.set_up_at(places, moved(chance, chance.choice([*spots.values()])))
+    else:
+        bench.set_up(places)
+    time = chance.choice((0, 10**12, 2**63))
+    for step in range(steps):
+        time += chance.choices(STEPS, WEIGHTS)[0]
+        aa, head = chance.choice([*spots]), chance.choices(HEADS, (6, 1, 2))[0]
+        spots[aa] = moved(chance, spots[aa])
+        string, now, fault = random_message(chance, head, aa, spots[aa]), time, chance.randrange(30)
+        if fault == 0:
+            string = flipped(string, chance.randrange(1, 113))
+        elif fault == 1 and time:
+            now = max(0, time - chance.choice((1, 500, 10_000)))
+        elif fault == 2:
+            string = sealed_message(18, chance.randrange(2, 8), aa, 11, 0)
+        elif fault == 3:
+            string = sealed_message(17, 0, aa, chance.randrange(23, 32), 0)
+        bench.receive(string, now)
+        if step % 8 == 7:
+            bench.whole()
+    seen(bench)
+
+
+# Tables that no set-up made
+
+
+def poke_number(bench, at, size, number):
+    """A number, low byte first."""
+    bench.poke(at, number.to_bytes(size, "little"))
+
+
+def body_start(places, place):
+    """Where the body of a place stands."""
+    return key_at(places) + BODY * place
+
+
+def poke_place(bench, places, place, key, track):
+    """A key and a track, into a place."""
+    poke_number(bench, key_at(place), 4, key)
+    bench.poke(body_start(places, place), bytes(body_of(track)))
+
+
+def random_time(chance, clock):
+    """A time at an edge before the clock, or after it."""
+    back = chance.choice((0, 1, 9_999, 10_000, 10_001, 119_999, 120_000, 120_001, 124_999, 125_000, 200_000))
+    time = chance.choice((clock - back, clock - back, clock - back, clock + 1, clock + back, LAST, 0))
+    return max(0, min(LAST, time))
+
+
+def random_track(chance, clock):
+    """A track of any values, its times about the clock."""
+    latitude = chance.choice((-POLE, POLE, 0, random_latitude(chance), random_latitude(chance)))
+    saved = [Saved(chance.randrange(4) > 0, *random_counts(chance, 2), random_time(chance, clock)) for _ in BOTH]
+    return Track(
+        *(random_time(chance, clock), chance.getrandbits(56), chance.getrandbits(56), chance.getrandbits(56)),
+        *(chance.getrandbits(12), chance.getrandbits(12)),
+        Position(chance.randrange(4) > 0, latitude, random_longitude(chance), random_time(chance, clock)),
+        tuple(saved),
+    )
+
+
+def any_track_stepped(bench):
+    """Tracks of any values, each stepped by one message, with and without a site."""
+    chance = Random(31)
+    for _ in range(350):
+        clock = chance.choice((0, 5, 130_000, 10**9, 2**40 + 7, LAST - 5))
+        if chance.randrange(3):
+            bench.set_up_at(1, (random_latitude(chance), random_longitude(chance)))
+        else:
+            bench.set_up(1)
+        time = min(LAST, clock + chance.choice((0, 0, 1, 5)))
+        poke_number(bench, 0, 8, clock)
+        track = random_track(chance, time)
+        poke_place(bench, 1, 0, I | ONE, track)
+        spot = moved(chance, (track.position.latitude, track.position.longitude))
+        bench.look_up(I | ONE)
+        bench.receive(random_message(chance, TRANSPONDER, ONE, spot), time)
+        bench.whole()
+
+
+def three(bench):
+    """A table of three places, each held, at clock 5,400: two keys of one address, and another."""
+    bench.set_up(3)
+    for i, time in ((EVEN, 5_000), (ODD, 5_400)):
+        for head, aa in ((TRANSPONDER, ONE), (OTHER, ONE), (TRANSPONDER, TWO)):
+            bench.receive(airborne(head, aa, i, HERE), time)
+
+
+def used(bench):
+    """Walks, then hears each of the three and a newcomer, and walks again."""
+    seen(bench)
+    bench.look_up(I | ONE, O | ONE, I | TWO)
+    for head, aa in ((TRANSPONDER, TWO), (TRANSPONDER, THREE), (OTHER, ONE), (TRANSPONDER, ONE)):
+        bench.receive(airborne(head, aa, EVEN, NEAR), 6_000)
+    seen(bench)
+
+
+def one_value_off(bench):
+    """A table of three places with one value out of its range, or just in it."""
+    for place in range(3):
+        for key in (ONE, I | ONE, O | ONE, 3 << 24 | ONE, 255 << 24 | ONE, I - 1, I, 3 << 24, (3 << 24) - 1):
+            three(bench)
+            poke_number(bench, key_at(place), 4, key)
+            used(bench)
+            bench.look_up(key)
+        for number in (0, 1, 2**31 - 1, 2**31, 2**31 + 1, 2**32 - 1):
+            three(bench)
+            poke_number(bench, body_start(3, place) + 33, 4, number)
+            used(bench)
+
+
+def off_and_unknown(bench):
+    """A latitude out of its range frees the place also where no position is known."""
+    for number in (2**31, 2**31 + 1):
+        three(bench)
+        at = body_start(3, 1)
+        poke_number(bench, at + 29, 4, 888)
+        poke_number(bench, at + 33, 4, number)
+        used(bench)
+
+
+def bits_without_value(bench):
+    """Bits that no value has are ignored when read, and 0 when written."""
+    for offset, size in ((29, 4), (49, 5), (62, 5)):
+        three(bench)
+        at = body_start(3, 1) + offset
+        old = int.from_bytes(bench.buffer[at : at + size], "little")
+        free = 0xFE000000 if size == 4 else 0xF800000000
+        poke_number(bench, at, size, old | free)
+        used(bench)
+    three(bench)
+    bench.poke(body_start(3, 1) + 29, bytes([255] * 4))
+    bench.poke(body_start(3, 1) + 49, bytes([255] * 26))
+    used(bench)
+
+
+def values_that_nobody_has(bench):
+    """A position, or a saved one, whose mark says that there is none: it is not used, and stays as it is."""
+    for at, size, bit in ((29, 4, 24), (49, 5, 34), (62, 5, 34)):
+        three(bench)
+        start = body_start(3, 0) + at
+        old = int.from_bytes(bench.buffer[start : start + size], "little")
+        poke_number(bench, start, size, old & ~(1 << bit))
+        bench.look_up(I | ONE)
+        bench.receive(velocity(TRANSPONDER, ONE, 5, 5), 5_400)
+        bench.whole()
+        bench.receive(airborne(TRANSPONDER, ONE, ODD, NEAR), 5_500)
+        bench.receive(surface(TRANSPONDER, ONE, ODD, NEAR), 5_600)
+        seen(bench)
+
+
+def twins(bench):
+    """Twins of a key: the lowest held one is the track; a free place below it is not taken."""
+    for first, second in ((5_000, 5_001), (5_001, 5_000), (0, 130_000), (130_000, 0), (0, 0), (LAST, 130_000)):
+        for places in (2, 3, 4):
+            bench.set_up(places)
+            poke_number(bench, 0, 8, 130_000)
+            one = Track(heard=first, identification=1, position=Position(1, *HERE, 129_000))
+            two = Track(heard=second, identification=2, position=Position(1, *NEAR, 129_000))
+            poke_place(bench, places, places - 2, I | ONE, one)
+            poke_place(bench, places, places - 1, I | ONE, two)
+            seen(bench)
+            bench.look_up(I | ONE)
+            bench.next(0, I | ONE, (I | ONE) - 1)
+            bench.receive(airborne(TRANSPONDER, ONE, ODD, NEAR), 130_000)
+            bench.receive(airborne(TRANSPONDER, TWO, ODD, NEAR), 130_000)
+            seen(bench)
+            bench.receive(airborne(TRANSPONDER, ONE, EVEN, NEAR), 254_999)
+            bench.receive(airborne(TRANSPONDER, ONE, EVEN, NEAR), 255_000)
+            seen(bench)
+
+
+def times_after_the_clock(bench):
+    """A time after the clock has age 0: last heard, position, partner."""
+    for later in (5_401, 10**6, 2**63, LAST):
+        for offset in (0, 41, 54, 67):
+            three(bench)
+            poke_number(bench, body_start(3, 0) + offset, 8, later)
+            bench.look_up(I | ONE)
+            bench.receive(airborne(TRANSPONDER, ONE, EVEN, NEAR), 130_500)
+            bench.receive(airborne(TRANSPONDER, ONE, ODD, NEAR), 200_000)
+            bench.receive(surface(TRANSPONDER, ONE, ODD, NEAR), 320_001)
+            seen(bench)
+
+
+def odd_sites(bench):
+    """The site's number at the edges of its range; above it there is none."""
+    numbers = (0, 1, 2, POLE, POLE + 1, 2**31, 2**31 + 1, 2**31 + 2, 2**32 - 1)
+    for number, longitude in product(numbers, (0, 2**32 - 1)):
+        bench.set_up(1)
+        poke_number(bench, 8, 4, number)
+        poke_number(bench, 12, 4, longitude)
+        bench.receive(surface(TRANSPONDER, ONE, EVEN, HERE), 9)
+        bench.receive(surface(TRANSPONDER, ONE, ODD, HERE), 9)
+        seen(bench)
+
+
+def late_clocks(bench):
+    """A clock at its last value."""
+    three(bench)
+    poke_number(bench, 0, 8, LAST)
+    seen(bench)
+    for time in (0, LAST - 1, LAST):
+        bench.receive(airborne(TRANSPONDER, ONE, EVEN, NEAR), time)
+    seen(bench)
+
+
+def random_bytes(bench):
+    """Tables of random bytes; then with keys that are in range, and a clock that has not passed."""
+    chance = Random(41)
+    for places in (1, 1, 1, 2, 2, 3, 5, 16, 40, 256, 1024):
+        bench.fill(length_of(places), chance.getrandbits(32))
+        bench.walk()
+        bench.whole()
+        clock = int.from_bytes(bench.buffer[:8], "little")
+        for _ in range(6):
+            bench.receive(random_valid(chance), chance.choice((clock, clock - 1, min(LAST, clock + 5))))
+        bench.walk()
+        bench.whole()
+        poke_number(bench, 0, 8, chance.choice((0, 2**62)))
+        keys = b"".join(chance.randrange(I, 3 << 24).to_bytes(4, "little") for _ in range(min(places, 48)))
+        bench.poke(key_at(0), keys)
+        bench.walk()
+        for at in range(0, min(len(keys), 80), 4):
+            key = int.from_bytes(keys[at : at + 4], "little")
+            head = OTHER if key >= O else TRANSPONDER
+            bench.look_up(key)
+            bench.receive(random_message(chance, head, key % 2**24, moved(chance, HERE)), 2**62 + at)
+        bench.walk()
+        bench.whole()
+    for length in (94, 96, length_of(256) + 1):
+        bench.fill(length, chance.getrandbits(32))
+        bench.walk()
+        bench.receive(random_valid(chance), LAST)
+        bench.whole()
+
+
+SCRIPTS = [
+    listing_example,
+    partner_ages,
+    reference_ages,
+    holding_ages,
+    nothing_refreshes,
+    late_messages,
+    clock_of_a_stranger,
+    surface_and_back,
+    surface_beyond_the_pole,
+    one_site,
+    site_not_used,
+    every_group,
+    unknown_heights,
+    both_kinds,
+    zone_edges,
+    refused_pairs,
+    published_runs,
+    order,
+    lengths,
+    message_lengths,
+    full_small,
+    any_track_stepped,
+    one_value_off,
+    off_and_unknown,
+    bits_without_value,
+    values_that_nobody_has,
+    twins,
+    times_after_the_clock,
+    odd_sites,
+    late_clocks,
+    random_bytes,
+]
+RANDOM_RUNS = [(51, 1, 100), (52, 2, 150), (53, 3, 150), (54, 4, 150), (55, 8, 200), (56, 2, 150), (57, 5, 150)]
+
+
+def run():
+    """All scripts, one after the other, over one buffer."""
+    bench = Bench()
+    for script in SCRIPTS:
+        script(bench)
+    for seed, places, steps in RANDOM_RUNS:
+        random_run(bench, seed, places, steps)
+    full_large(bench, 256, 61)
+    full_large(bench, 1024, 62)
+    return bench
+
+
+def cases():
+    """Records and their lines."""
+    return run().cases
