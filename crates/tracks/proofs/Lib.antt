@@ -3,3 +3,5 @@ pub mod Filled
 pub mod Scanned
 pub mod Again
 pub mod Delivered
+pub mod Same
+pub mod Agreed

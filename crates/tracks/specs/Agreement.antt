@@ -1,0 +1,34 @@
+-- The two forms of the table agree: one in bytes, and one as a slice with its head, of which each place holds what the other's holds.
+use Prim.Native.Nat.{ℕ, _<_}
+use mathlib.Core.Bool.{true}
+use mathlib.Core.Path.{_≡_}
+use mathlib.Core.List.{List}
+use lib.ListN.{length, getD}
+use Rattle.fields.specs.Bytes.{Bytes}
+use Rattle.place.specs.Place.{trackOf}
+use Rattle.table.specs.Layout as layout
+use Rattle.table.specs.Table as table
+use Rattle.tracks.specs.declared.Place.{Place}
+use Rattle.tracks.specs.declared.Head.{Head}
+use Rattle.tracks.specs.Ranges.{noPlace, isHeld}
+use Rattle.tracks.specs.Tracks.{After, placesFit, siteOf}
+
+-- at a clock both places are held or neither is, and if they are, with the same key and the same track
+pub record Same (clock : ℕ) (b : layout.Place) (p : Place) : Type 0 where
+  pub held : layout.isHeld clock b ≡ isHeld clock p
+  pub key : isHeld clock p ≡ true → b .key ≡ p .key
+  pub track : isHeld clock p ≡ true → trackOf (b .body) ≡ p .track
+
+-- as many places, or too few or too many in both; one clock, one site, and the same held at each number
+pub record Agree (s : List ℕ) (head : Head) (ps : List Place) : Type 0 where
+  pub bytes : Bytes s
+  pub size : layout.wholePlaces (length s) ≡ placesFit (length ps)
+  pub count : layout.placesIn s ≡ length ps
+  pub clock : layout.clockOf s ≡ head .clock
+  pub site : layout.siteOf s ≡ siteOf head
+  pub same : (i : ℕ) → i < length ps → Same (head .clock) (layout.placeAt s (layout.placesIn s) i) (getD ps i noPlace)
+
+-- two calls answer the same, and what they leave agrees
+pub record Alike {A : Type 0} (b : table.After A) (r : After A) : Type 0 where
+  pub answer : b .answer ≡ r .answer
+  pub left : Agree (b .table) (r .head) (r .places)
