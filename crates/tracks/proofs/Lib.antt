@@ -5,3 +5,4 @@ pub mod Again
 pub mod Delivered
 pub mod Same
 pub mod Agreed
+pub mod AgreedSetUp

@@ -6,6 +6,8 @@ use mathlib.Core.List.{List}
 use lib.ListN.{length, getD}
 use Rattle.fields.specs.Bytes.{Bytes}
 use Rattle.place.specs.Place.{trackOf}
+use Rattle.table.specs.declared.SetUp.{SetUp}
+use Rattle.table.specs.declared.SetUp.the-variants.{Done}
 use Rattle.table.specs.Layout as layout
 use Rattle.table.specs.Table as table
 use Rattle.tracks.specs.declared.Place.{Place}
@@ -32,3 +34,8 @@ pub record Agree (s : List ℕ) (head : Head) (ps : List Place) : Type 0 where
 pub record Alike {A : Type 0} (b : table.After A) (r : After A) : Type 0 where
   pub answer : b .answer ≡ r .answer
   pub left : Agree (b .table) (r .head) (r .places)
+
+-- two set-ups answer the same, and where they are done what they leave agrees; where they are refused the caller's head stays as it was
+pub record AlikeSet (b : table.After SetUp) (r : After SetUp) : Type 0 where
+  pub answer : b .answer ≡ r .answer
+  pub left : r .answer ≡ Done → Agree (b .table) (r .head) (r .places)
