@@ -6,3 +6,4 @@ pub mod Delivered
 pub mod Same
 pub mod Agreed
 pub mod AgreedSetUp
+pub mod Unique
