@@ -2,16 +2,15 @@
 -- Assumes nothing.
 use Prim.Native.Nat.{ℕ, zero, suc, _+_, _*_, _-_, _/_, _%_, _^_, _≤_, _<_}
 use native.Mathlib.Omega.{arith}
-use mathlib.Core.Bool.{Bool, true, false, cond, not, _&&_, true≢false, false≢true}
+use mathlib.Core.Bool.{Bool, true, false, cond, not, _&&_}
 use mathlib.Core.Logic.{⊎-elim}
 use mathlib.Core.Path.{_≡_, refl, ap, sym, _∙_, subst}
 use mathlib.Core.List.{List}
 use lib.Dec.{eqb, ltb}
-use lib.ListN.{length, getD, set, take, drop, length-set}
+use lib.ListN.{length, getD, set, drop, length-set}
 use lib.Seq.{getD-set-same, getD-set-other}
-use borrow.Author.Tests.{ltb-true, ltb-false, not-true, not-false}
+use borrow.Author.Tests.{ltb-true, ltb-false, not-false}
 use Rattle.refusals.specs.declared.Refusal.{Refusal}
-use Rattle.fields.specs.Bytes.{Bytes}
 use Rattle.fields.proofs.Bools.{and-right}
 use Rattle.fields.proofs.Bytes.{bytes-take, bytes-drop}
 use Rattle.messages.specs.declared.Message.{Message}
@@ -19,7 +18,6 @@ use Rattle.messages.specs.declared.Decoded.{Decoded}
 use Rattle.messages.specs.declared.Decoded.the-variants as decode
 use Rattle.messages.specs.Message.{decoded, keyOf}
 use Rattle.track.specs.declared.Site.{Site}
-use Rattle.track.specs.declared.Stepped.{Stepped}
 use Rattle.track.specs.declared.Track.{Track}
 use Rattle.track.specs.Track.{newTrack, stepped}
 use Rattle.place.specs.Place.{trackOf, bodyOf, Fits}
@@ -35,7 +33,7 @@ use Rattle.table.proofs.Search.{alike, lowest-passes}
 use Rattle.tracks.specs.declared.Place.{Place}
 use Rattle.tracks.specs.declared.Head.{Head}
 use Rattle.tracks.specs.Ranges.{noPlace, isHeld, holds}
-use Rattle.tracks.specs.Tracks.{After, after, placesFit, moved, siteOf, placeOf, freePlace, placed, delivered, received, lookedUp}
+use Rattle.tracks.specs.Tracks.{After, placesFit, moved, siteOf, placeOf, freePlace, placed, delivered, received, lookedUp}
 use Rattle.tracks.specs.Parts.{looked}
 use Rattle.tracks.specs.Agreement.{Same, Agree, Alike}
 use Rattle.tracks.proofs.Same.{same-later, same-holds, same-stored}

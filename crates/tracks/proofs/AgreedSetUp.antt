@@ -5,22 +5,20 @@ use mathlib.Core.Bool.{Bool, true, false, cond, not, _&&_, true≢false}
 use mathlib.Core.Option.{Option, some, none}
 use mathlib.Core.Path.{_≡_, refl, ap, sym, _∙_, subst}
 use mathlib.Core.List.{List}
-use lib.Dec.{eqb, ltb}
-use lib.ListN.{length, getD, replicate, length-replicate, getD-replicate}
+use lib.Dec.{ltb}
+use lib.ListN.{length, getD, length-replicate, getD-replicate}
 use borrow.Author.Tests.{eq-eqb}
 use Rattle.refusals.specs.declared.Refusal.{Refusal}
 use Rattle.refusals.specs.declared.Refusal.the-variants.{Places, Field}
 use Rattle.positions.specs.Positions.{poleToPole}
 use Rattle.track.specs.declared.Site.{Site}
-use Rattle.track.specs.declared.Track.{Track}
-use Rattle.place.specs.Place.{trackOf}
 use Rattle.place.proofs.Put.{put-length}
 use Rattle.table.specs.declared.SetUp.{SetUp}
 use Rattle.table.specs.declared.SetUp.the-variants as setting
 use Rattle.table.specs.Layout as layout
 use Rattle.table.specs.Table as table
 use Rattle.table.specs.Table.{lowest}
-use Rattle.table.specs.View.{look, trackIn, viewAt, Fresh}
+use Rattle.table.specs.View.{trackIn, viewAt, Fresh}
 use Rattle.table.proofs.Search.{none-passes}
 use Rattle.table.proofs.Laws.{set-up-table, set-up-at-table}
 use Rattle.tracks.specs.declared.Place.{Place}

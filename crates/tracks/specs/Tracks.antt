@@ -1,6 +1,6 @@
 -- The lent table as a slice of places, with its head by value: set-up, what a received message does, and what can be read. The words are those of the bytes form.
 use Prim.Native.Nat.{ℕ}
-use mathlib.Core.Bool.{Bool, true, false, cond, not, _&&_}
+use mathlib.Core.Bool.{Bool, cond, not, _&&_}
 use mathlib.Core.List.{List}
 use lib.Dec.{eqb, leb, ltb}
 use lib.ListN.{length, getD, set, replicate}

@@ -23,7 +23,7 @@ ghost use Rattle.table.specs.declared.Holding.the-variants as holding;
 ghost use Rattle.table.specs.Layout.{noSite};
 ghost use Rattle.refusals.specs.declared.Refusal.the-variants.{Full, Places};
 ghost use Rattle.tracks.specs.Ranges.{noPlace};
-ghost use Rattle.tracks.specs.Tracks.{placesFit, headOf, siteOf};
+ghost use Rattle.tracks.specs.Tracks.{placesFit, siteOf};
 ghost use Rattle.tracks.specs.Parts.{sought, noneFound, further, visited, chosen, refusedWith, judged, isRefused, keyIn, soughtBy, trackIn, nextOf, notStarted, started, isDone, looked};
 
 pub(crate) fn no_place() -> Place
