@@ -6,4 +6,5 @@ pub mod Delivered
 pub mod Same
 pub mod Agreed
 pub mod AgreedSetUp
+pub mod Runs
 pub mod Unique
