@@ -21,7 +21,7 @@ use Rattle.table.specs.Table.{lowest}
 use Rattle.tracks.specs.declared.Place.{Place}
 use Rattle.tracks.specs.declared.Head.{Head}
 use Rattle.tracks.specs.declared.Received.{Received}
-use Rattle.tracks.specs.declared.Next.{Next}
+use Rattle.tracks.specs.declared.Renewal.{Renewal}
 use Rattle.tracks.specs.Ranges.{noPlace, isHeld, holds}
 use Rattle.tracks.specs.Tracks.{After, after, placesFit, moved, siteOf, placeOf, freePlace, placed, delivered, received}
 use Rattle.tracks.specs.Parts.{sought, scanned, chosen, refusedWith, judged, isRefused, keyIn, trackIn, soughtBy, nextOf}
@@ -59,7 +59,7 @@ chosen-is ps clock key = refl
 -- ---- the ways of a delivery
 
 -- what the code answers and leaves after the step of a place
-abbrev pub leftBy : List Place → ℕ → Next → After Decoded
+abbrev pub leftBy : List Place → ℕ → Renewal → After Decoded
 leftBy ps i r = after (r .received .answer) (r .received .head) (set ps i (r .place))
 
 module _ (ps : List Place) (head : Head) (m : Message) where
@@ -124,7 +124,7 @@ module _ (ps : List Place) (due : Received) where
   delivered-refused = refused-of ps (due .head) (due .answer)
 
   module _ (h : isRefused (due .answer) ≡ false) (i : ℕ) (e : i ≡ chosen (scanned ps (soughtBy due) (length ps)) (length ps)) where
-    pub delivered-at : i < length ps → (r : Next) → r ≡ nextOf due (getD ps i noPlace) → leftBy ps i r ≡ delivered ps (due .head) (due .answer)
+    pub delivered-at : i < length ps → (r : Renewal) → r ≡ nextOf due (getD ps i noPlace) → leftBy ps i r ≡ delivered ps (due .head) (due .answer)
     delivered-at l r f = ap (leftBy ps i) f ∙ place-of ps (due .head) (due .answer) h i e l
 
     pub delivered-full : length ps ≤ i → (r : Received) → r ≡ refusedWith Full (due .head) → after (r .answer) (r .head) ps ≡ delivered ps (due .head) (due .answer)

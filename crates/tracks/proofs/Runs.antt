@@ -1,15 +1,14 @@
 -- From one set-up on, the two forms of the table answer every call the same: so what is proved of the one in bytes, demand 3 with it, is true of the slice.
 -- Assumes nothing.
-use Prim.Native.Nat.{ℕ, _+_, _*_, _/_, _%_, _-_, _^_, _≤_, _<_}
+use Prim.Native.Nat.{ℕ, _+_, _*_, _%_, _^_, _≤_, _<_}
 use native.Mathlib.Omega.{arith}
-use mathlib.Core.Bool.{Bool, true, false, _&&_}
-use mathlib.Core.Path.{_≡_, ap, sym, _∙_}
+use mathlib.Core.Bool.{true, false}
+use mathlib.Core.Path.{_≡_, sym, _∙_}
 use mathlib.Core.List.{List, [], _∷_}
-use lib.Dec.{leb, eqb}
+use lib.Dec.{leb}
 use lib.ListN.{length, length-replicate}
 use borrow.Author.Tests.{le-leb, leb-true, eq-eqb}
 use Rattle.fields.proofs.Bools.{each, both}
-use Rattle.positions.specs.Positions.{poleToPole}
 use Rattle.track.specs.declared.Site.{Site}
 use Rattle.table.specs.declared.SetUp.the-variants as setting
 use Rattle.table.specs.Layout as layout

@@ -16,13 +16,15 @@ use Rattle.track.specs.Track.{newTrack}
 use Rattle.table.specs.declared.SetUp.{SetUp}
 use Rattle.table.specs.declared.SetUp.the-variants as setting
 use Rattle.table.specs.declared.Holding.the-variants as holding
+use Rattle.table.specs.declared.NextKey.the-variants as key-after
 use Rattle.table.specs.Layout.{noSite}
+use Rattle.table.specs.Table.{keyOrEnd}
 use Rattle.tracks.specs.declared.Place.{Place}
 use Rattle.tracks.specs.declared.Head.{Head}
 use Rattle.tracks.specs.declared.Received.{Received}
 use Rattle.tracks.specs.declared.Started.{Started}
 use Rattle.tracks.specs.Ranges.{noPlace}
-use Rattle.tracks.specs.Tracks.{After, after, placesFit, headOf, moved, emptied, setUp, placeOf, lookedUp}
+use Rattle.tracks.specs.Tracks.{After, after, placesFit, headOf, moved, emptied, setUp, placeOf, lookedUp, smallest, nextAbove}
 use Rattle.tracks.specs.Parts.{judged, notStarted, started, isDone, sought, scanned, looked}
 
 -- no test of three passes
@@ -94,3 +96,13 @@ module _ (ps : List Place) (head : Head) (key : ℕ) (f : not (placesFit (length
   pub looked-none : length ps ≤ i → looked holding.Unheld newTrack ≡ lookedUp ps head key
   unfolding lookedUp
   looked-none h = rw (f, ← own-is, le-ltb i (length ps) h)
+
+-- ---- the next key
+
+pub next-not : (ps : List Place) (head : Head) (above : ℕ) → not (placesFit (length ps)) ≡ true → key-after.Refused Places ≡ nextAbove ps head above
+unfolding nextAbove
+next-not ps head above h = rw h
+
+pub next-is : (ps : List Place) (head : Head) (above : ℕ) → not (placesFit (length ps)) ≡ false → keyOrEnd (smallest ps (head .clock) above (length ps)) ≡ nextAbove ps head above
+unfolding nextAbove
+next-is ps head above h = rw h

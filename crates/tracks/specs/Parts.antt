@@ -26,7 +26,7 @@ use Rattle.tracks.specs.declared.Received.{Received}
 use Rattle.tracks.specs.declared.Started.{Started}
 use Rattle.tracks.specs.declared.Sought.{Sought}
 use Rattle.tracks.specs.declared.Found.{Found}
-use Rattle.tracks.specs.declared.Next.{Next}
+use Rattle.tracks.specs.declared.Renewal.{Renewal}
 use Rattle.tracks.specs.Ranges.{noPlace, isHeld, holds}
 use Rattle.tracks.specs.Tracks.{placesFit, headOf, moved, siteOf}
 
@@ -90,11 +90,11 @@ trackIn s p = cond (holds (s .clock) (s .key) p) (p .track) newTrack
 abbrev pub soughtBy : Received → Sought
 soughtBy due = sought (due .head .clock) (keyIn (due .answer))
 
-abbrev pub nextFrom : Head → ℕ → Stepped → Next
+abbrev pub nextFrom : Head → ℕ → Stepped → Renewal
 nextFrom head key t = record { received = record { answer = t .answer; head = head }; place = record { key = key; track = t .track } }
 
 -- the step of the place that was chosen
-unfoldable pub nextOf : Received → Place → Next
+unfoldable pub nextOf : Received → Place → Renewal
 nextOf due p = nextFrom (due .head) (keyIn (due .answer)) (stepped (trackIn (soughtBy due) p) (due .answer) (siteOf (due .head)) (due .head .clock))
 
 -- ---- set-up

@@ -1,6 +1,6 @@
 -- The lent table as a slice of places, with its head by value: set-up, what a received message does, and what can be read. The words are those of the bytes form.
-use Prim.Native.Nat.{ℕ}
-use mathlib.Core.Bool.{Bool, cond, not, _&&_}
+use Prim.Native.Nat.{ℕ, zero, suc}
+use mathlib.Core.Bool.{Bool, cond, not, _&&_, _||_}
 use mathlib.Core.List.{List}
 use lib.Dec.{eqb, leb, ltb}
 use lib.ListN.{length, getD, set, replicate}
@@ -16,8 +16,10 @@ use Rattle.table.specs.declared.SetUp.{SetUp}
 use Rattle.table.specs.declared.SetUp.the-variants as setting
 use Rattle.table.specs.declared.Holding.the-variants as holding
 use Rattle.table.specs.declared.Looked.{Looked}
+use Rattle.table.specs.declared.NextKey.{NextKey}
+use Rattle.table.specs.declared.NextKey.the-variants as next
 use Rattle.table.specs.Layout.{noSite}
-use Rattle.table.specs.Table.{lowest}
+use Rattle.table.specs.Table.{lowest, keyOrEnd}
 use Rattle.tracks.specs.declared.Place.{Place}
 use Rattle.tracks.specs.declared.Head.{Head}
 use Rattle.tracks.specs.Ranges.{noPlace, isHeld, holds}
@@ -104,3 +106,17 @@ lookedUp ps head key =
     (cond (ltb (placeOf ps (head .clock) key) (length ps))
     (record { answer = holding.Held; track = getD ps (placeOf ps (head .clock) key) noPlace .track })
     (record { answer = holding.Unheld; track = newTrack }))
+
+-- the lesser of the best key so far, 0 for none, and the place's, if that is held and above
+unfoldable pub better : ℕ → ℕ → ℕ → Place → ℕ
+better clock above best p = cond (ltb above (p .key) && (eqb best 0 || ltb (p .key) best) && isHeld clock p) (p .key) best
+
+-- the smallest key above that the first n places hold; 0 if there is none
+abbrev pub smallest : List Place → ℕ → ℕ → ℕ → ℕ
+smallest ps clock above zero = 0
+smallest ps clock above (suc n) = better clock above (smallest ps clock above n) (getD ps n noPlace)
+
+unfoldable pub nextAbove : List Place → Head → ℕ → NextKey
+nextAbove ps head above =
+    cond (not (placesFit (length ps))) (next.Refused Places)
+    (keyOrEnd (smallest ps (head .clock) above (length ps)))

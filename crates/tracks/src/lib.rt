@@ -4,12 +4,13 @@ mod ranges;
 
 use messages::Decoded;
 use table::Looked;
+use table::NextKey;
 use table::SetUp;
 use track::Site;
 use track::Track;
 ghost use mathlib.Core.Path.{_≡_};
 ghost use lib.ListN.{length};
-ghost use Rattle.tracks.specs.Tracks.{after, emptied, setUp, delivered, received, lookedUp};
+ghost use Rattle.tracks.specs.Tracks.{after, emptied, setUp, delivered, received, lookedUp, smallest, nextAbove};
 ghost use Rattle.tracks.specs.Parts.{scanned};
 
 // A track and its key; the key 0 is nobody's.
@@ -49,7 +50,7 @@ pub(crate) struct Found {
 }
 
 // What a step answers, and what it puts at its place.
-pub(crate) struct Next {
+pub(crate) struct Renewal {
     pub received: Received,
     pub place: Place,
 }
@@ -127,4 +128,27 @@ pub fn look_up(places: &[Place], head: Head, key: u32) -> Looked
         return parts::look_at(places[i]);
     }
     parts::unheld()
+}
+
+fn smallest_above(places: &[Place], s: Sought) -> u32
+    ensures { λ r. ⌜ r ≡ smallest (now (places .entry)) (s .clock) (s .key) (length (now (places .entry))) ⌝ }
+{
+    let mut best = 0;
+    let mut i = 0;
+    while i < places.len() {
+        let p = places[i];
+        best = parts::better_of(best, p, s);
+        i += 1;
+    }
+    best
+}
+
+// The smallest key held above a given one: from 0 on, this walks the places in the order of their keys.
+pub fn next(places: &[Place], head: Head, above: u32) -> NextKey
+    ensures { λ r. ⌜ r ≡ nextAbove (now (places .entry)) head above ⌝ }
+{
+    if parts::misfits(places.len()) {
+        return parts::no_next();
+    }
+    parts::key_or_end(smallest_above(places, parts::seek(head, above)))
 }

@@ -1,9 +1,9 @@
 // All that is decided, by value: the functions that touch the slice only read, call and store.
 use crate::Found;
 use crate::Head;
-use crate::Next;
 use crate::Place;
 use crate::Received;
+use crate::Renewal;
 use crate::Sought;
 use crate::Started;
 use crate::ranges;
@@ -12,6 +12,7 @@ use positions::Spot;
 use refusals::Refusal;
 use table::Holding;
 use table::Looked;
+use table::NextKey;
 use table::SetUp;
 use track::Site;
 use track::Track;
@@ -20,10 +21,12 @@ ghost use mathlib.Core.Bool.{not};
 ghost use Prim.Native.Nat.{_<_};
 ghost use Rattle.track.specs.Track.{newTrack};
 ghost use Rattle.table.specs.declared.Holding.the-variants as holding;
+ghost use Rattle.table.specs.declared.NextKey.the-variants as next;
 ghost use Rattle.table.specs.Layout.{noSite};
+ghost use Rattle.table.specs.Table.{keyOrEnd};
 ghost use Rattle.refusals.specs.declared.Refusal.the-variants.{Full, Places};
 ghost use Rattle.tracks.specs.Ranges.{noPlace};
-ghost use Rattle.tracks.specs.Tracks.{placesFit, siteOf};
+ghost use Rattle.tracks.specs.Tracks.{placesFit, siteOf, better};
 ghost use Rattle.tracks.specs.Parts.{sought, noneFound, further, visited, chosen, refusedWith, judged, isRefused, keyIn, soughtBy, trackIn, nextOf, notStarted, started, isDone, looked};
 
 pub(crate) fn no_place() -> Place
@@ -191,7 +194,7 @@ fn track_in(s: Sought, p: Place) -> Track
 }
 
 // The step of the place that was chosen: of its track if it holds the key, or of a new one.
-pub(crate) fn next_of(due: Received, p: Place) -> Next
+pub(crate) fn next_of(due: Received, p: Place) -> Renewal
     ensures { λ r. ⌜ r ≡ nextOf due p ⌝ }
 {
     let head = due.head;
@@ -200,7 +203,7 @@ pub(crate) fn next_of(due: Received, p: Place) -> Next
     let stepped = track::step(track_in(s, p), answer, site_of(head), head.clock);
     let passed = stepped.answer;
     let track = stepped.track;
-    Next {
+    Renewal {
         received: Received {
             answer: passed,
             head: head,
@@ -212,14 +215,14 @@ pub(crate) fn next_of(due: Received, p: Place) -> Next
     }
 }
 
-pub(crate) fn place_in(next: Next) -> Place
+pub(crate) fn place_in(next: Renewal) -> Place
     ensures { λ r. ⌜ r ≡ next .place ⌝ }
 {
     let p = next.place;
     p
 }
 
-pub(crate) fn received_in(next: Next) -> Received
+pub(crate) fn received_in(next: Renewal) -> Received
     ensures { λ r. ⌜ r ≡ next .received ⌝ }
 {
     let received = next.received;
@@ -301,4 +304,33 @@ pub(crate) fn not_looked() -> Looked
         answer: Holding::Refused(Refusal::Places),
         track: track::new_track(),
     }
+}
+
+// The lesser of the best key so far, 0 for none, and the place's, if that is held and above.
+pub(crate) fn better_of(best: u32, p: Place, s: Sought) -> u32
+    ensures { λ r. ⌜ r ≡ better (s .clock) (s .key) best p ⌝ }
+{
+    let key = p.key;
+    if (s.key < key) & ((best == 0) | (key < best)) {
+        if ranges::is_held(s.clock, p) {
+            return key;
+        }
+    }
+    best
+}
+
+pub(crate) fn key_or_end(key: u32) -> NextKey
+    ensures { λ r. ⌜ r ≡ keyOrEnd key ⌝ }
+{
+    if key == 0 {
+        NextKey::End
+    } else {
+        NextKey::Key(key)
+    }
+}
+
+pub(crate) fn no_next() -> NextKey
+    ensures { λ r. ⌜ r ≡ next.Refused Places ⌝ }
+{
+    NextKey::Refused(Refusal::Places)
 }

@@ -50,7 +50,7 @@ use Rattle.tracks.specs.declared.Place.{Place}
 use Rattle.tracks.specs.declared.Received.{Received}
 use Rattle.tracks.specs.declared.Sought.{Sought}
 use Rattle.tracks.specs.declared.Found.{Found}
-use Rattle.tracks.specs.declared.Next.{Next}
+use Rattle.tracks.specs.declared.Renewal.{Renewal}
 use Rattle.tracks.specs.Ranges.{noPlace}
 use Rattle.tracks.specs.Tracks.{after, delivered}
 use Rattle.tracks.specs.Parts.{isRefused, soughtBy, scanned, chosen, nextOf, refusedWith}
@@ -64,8 +64,8 @@ use Rattle.tracks.proofs.Sought as S
 use Rattle.tracks.proofs.Sought.Laws as S′
 use Rattle.tracks.proofs.Found as F
 use Rattle.tracks.proofs.Found.Laws as F′
-use Rattle.tracks.proofs.Next as X
-use Rattle.tracks.proofs.Next.Laws as X′
+use Rattle.tracks.proofs.Renewal as X
+use Rattle.tracks.proofs.Renewal.Laws as X′
 use Rattle.tracks.proofs.parts.is_refused as refused
 use Rattle.tracks.proofs.parts.is_refused.Symbol as refused-def
 use Rattle.tracks.proofs.parts.is_refused.Symbol.{name as #refused}
@@ -185,19 +185,19 @@ module _ {M : Type 1} (𝓤 : URA M) (H : Heap 𝓤) (A : Atoms 𝓤) (mem : Mem
   abbrev NextOf : Contract 𝓤
   NextOf = tripleOf 𝓤 H A next-of.signature (next-of.spec 𝓤 H A mem run)
 
-  next-is : (d : Received) (p : Place) (r : Next) → ent 𝓤 (ensured 𝓤 H A next-of.ended (next-of.clauses 𝓤 H A mem run) tt (d, (p, tt)) tt r) (fact 𝓤 (r ≡ nextOf d p))
+  next-is : (d : Received) (p : Place) (r : Renewal) → ent 𝓤 (ensured 𝓤 H A next-of.ended (next-of.clauses 𝓤 H A mem run) tt (d, (p, tt)) tt r) (fact 𝓤 (r ≡ nextOf d p))
   next-is d p r = exE 𝓤 _ (λ ws. snd∗ 𝓤 (sem 𝓤 H A (lasts next-of.ended tt (d, (p, tt)) ws)) (fact 𝓤 (r ≡ nextOf d p)))
 
   abbrev PlaceIn : Contract 𝓤
   PlaceIn = tripleOf 𝓤 H A place-in.signature (place-in.spec 𝓤 H A mem run)
 
-  place-is′ : (y : Next) (r : Place) → ent 𝓤 (ensured 𝓤 H A place-in.ended (place-in.clauses 𝓤 H A mem run) tt (y, tt) tt r) (fact 𝓤 (r ≡ y .place))
+  place-is′ : (y : Renewal) (r : Place) → ent 𝓤 (ensured 𝓤 H A place-in.ended (place-in.clauses 𝓤 H A mem run) tt (y, tt) tt r) (fact 𝓤 (r ≡ y .place))
   place-is′ y r = exE 𝓤 _ (λ ws. snd∗ 𝓤 (sem 𝓤 H A (lasts place-in.ended tt (y, tt) ws)) (fact 𝓤 (r ≡ y .place)))
 
   abbrev ReceivedIn : Contract 𝓤
   ReceivedIn = tripleOf 𝓤 H A received-in.signature (received-in.spec 𝓤 H A mem run)
 
-  received-is : (y : Next) (r : Received) → ent 𝓤 (ensured 𝓤 H A received-in.ended (received-in.clauses 𝓤 H A mem run) tt (y, tt) tt r) (fact 𝓤 (r ≡ y .received))
+  received-is : (y : Renewal) (r : Received) → ent 𝓤 (ensured 𝓤 H A received-in.ended (received-in.clauses 𝓤 H A mem run) tt (y, tt) tt r) (fact 𝓤 (r ≡ y .received))
   received-is y r = exE 𝓤 _ (λ ws. snd∗ 𝓤 (sem 𝓤 H A (lasts received-in.ended tt (y, tt) ws)) (fact 𝓤 (r ≡ y .received)))
 
   abbrev IsFull : Contract 𝓤
@@ -279,16 +279,16 @@ module _ {M : Type 1} (𝓤 : URA M) (H : Heap 𝓤) (A : Atoms 𝓤) (W : Given
   goes-full : ent 𝓤 (sem 𝓤 H A ftrue) (IsFull 𝓤 H A mem run .pre to-full)
   goes-full = qed W (‵ ftrue ∷ []) ∵ nothing ! $ owned ! Y.the-row (Is Y.the-row) (LL.makes Y.the-type Y′.the-plain 𝓤 H A) due _ gv $ fjoin ! $ move ! (1 ∷ 0 ∷ []) $ join ! $ frame ! $ done !
 
-  abbrev to-place : Next → Val → PlaceIn 𝓤 H A mem run .Ghost
+  abbrev to-place : Renewal → Val → PlaceIn 𝓤 H A mem run .Ghost
   to-place r v = ((tt, tt, tt, (r, tt), (v ∷ [], tt)), tt)
 
-  goes-place : (r : Next) (v : Val) → Is X.the-row r (v ∷ []) → ent 𝓤 (sem 𝓤 H A ftrue) (PlaceIn 𝓤 H A mem run .pre (to-place r v))
+  goes-place : (r : Renewal) (v : Val) → Is X.the-row r (v ∷ []) → ent 𝓤 (sem 𝓤 H A ftrue) (PlaceIn 𝓤 H A mem run .pre (to-place r v))
   goes-place r v is = qed W (‵ ftrue ∷ []) ∵ nothing ! $ owned ! X.the-row (Is X.the-row) (LL.makes X.the-type X′.the-plain 𝓤 H A) r _ is $ fjoin ! $ move ! (1 ∷ 0 ∷ []) $ join ! $ frame ! $ done !
 
-  abbrev to-received : Next → Val → ReceivedIn 𝓤 H A mem run .Ghost
+  abbrev to-received : Renewal → Val → ReceivedIn 𝓤 H A mem run .Ghost
   to-received r v = ((tt, tt, tt, (r, tt), (v ∷ [], tt)), tt)
 
-  goes-received : (r : Next) (v : Val) → Is X.the-row r (v ∷ []) → ent 𝓤 (sem 𝓤 H A ftrue) (ReceivedIn 𝓤 H A mem run .pre (to-received r v))
+  goes-received : (r : Renewal) (v : Val) → Is X.the-row r (v ∷ []) → ent 𝓤 (sem 𝓤 H A ftrue) (ReceivedIn 𝓤 H A mem run .pre (to-received r v))
   goes-received r v is = qed W (‵ ftrue ∷ []) ∵ nothing ! $ owned ! X.the-row (Is X.the-row) (LL.makes X.the-type X′.the-plain 𝓤 H A) r _ is $ fjoin ! $ move ! (1 ∷ 0 ∷ []) $ join ! $ frame ! $ done !
 
   abbrev Locals : (l₀ l₁ l₂ l₃ l₄ l₅ l₆ l₇ l₈ l₉ l₁₀ l₁₁ l₁₂ l₁₃ l₁₄ l₁₅ : ℕ) → Env 𝓤 H
@@ -300,7 +300,7 @@ module _ {M : Type 1} (𝓤 : URA M) (H : Heap 𝓤) (A : Atoms 𝓤) (W : Given
     Beyond l₀ l₁ l₂ l₃ l₄ l₅ l₆ l₇ l₈ l₉ l₁₀ l₁₁ l₁₂ l₁₃ l₁₄ l₁₅ = afterSeq 𝓤 H (Wp 𝓤 H (𝓣 .C) (𝓣 .Λ) (Locals l₀ l₁ l₂ l₃ l₄ l₅ l₆ l₇ l₈ l₉ l₁₀ l₁₁ l₁₂ l₁₃ l₁₄ l₁₅) Mir.t-12 (atReturn 𝓤 H (Locals l₀ l₁ l₂ l₃ l₄ l₅ l₆ l₇ l₈ l₉ l₁₀ l₁₁ l₁₂ l₁₃ l₁₄ l₁₅) Post)) (atReturn 𝓤 H (Locals l₀ l₁ l₂ l₃ l₄ l₅ l₆ l₇ l₈ l₉ l₁₀ l₁₁ l₁₂ l₁₃ l₁₄ l₁₅) Post)
 
     -- what was received is answered
-    answers : Triple 𝓤 (𝓣 .C #received-in) (ReceivedIn 𝓤 H A mem run) → (l₀ l₁ l₂ l₃ l₄ l₅ l₆ l₇ l₈ l₉ l₁₀ l₁₁ l₁₂ l₁₃ l₁₄ l₁₅ : ℕ) (t : Bool) (vf vs : Val) (i : ℕ) (r : Next) (v : Val) → Is X.the-row r (v ∷ []) → (rp : Place) (vp : Val)
+    answers : Triple 𝓤 (𝓣 .C #received-in) (ReceivedIn 𝓤 H A mem run) → (l₀ l₁ l₂ l₃ l₄ l₅ l₆ l₇ l₈ l₉ l₁₀ l₁₁ l₁₂ l₁₃ l₁₄ l₁₅ : ℕ) (t : Bool) (vf vs : Val) (i : ℕ) (r : Renewal) (v : Val) → Is X.the-row r (v ∷ []) → (rp : Place) (vp : Val)
         → after (r .received .answer) (r .received .head) (set xs i rp) ≡ delivered xs (due .head) (due .answer)
         → Sq W (‵ (row R fullShare (set xs i rp) b o) ∷ ‵ (fobor κ q (Held R (length xs) b o γ)) ∷ ‵ (fobs γ (codedHoleys R .code (heres R xs))) ∷ ‵ (fauth γ (codedHoleys R .code (heres R xs))) ∷ ‵ (fat fullShare tyPtr l₁₅ 0 (vptr b (place 120 o i))) ∷ ‵ (fdies tyPtr l₁₅) ∷ ‵ (fat fullShare T′.mir l₁₄ 0 vp) ∷ ‵ (fdies T′.mir l₁₄) ∷ ‵ (fat fullShare tyPtr l₁₃ 0 (vptr b (place 120 o i))) ∷ ‵ (fdies tyPtr l₁₃) ∷ ‵ (fat fullShare word l₁₂ 0 (vint w64 (i * 120))) ∷ ‵ (fdies word l₁₂)
         ∷ ‵ (fat fullShare tyBool l₁₁ 0 (vbool (ltb i (length xs)))) ∷ ‵ (fdies tyBool l₁₁) ∷ ‵ (fat fullShare word l₁₀ 0 (vint w64 (length xs))) ∷ ‵ (fdies word l₁₀) ∷ ‵ (fat fullShare S′.mir l₉ 0 vs) ∷ ‵ (fdies S′.mir l₉) ∷ ‵ (fat fullShare slice′ l₈ 0 (s xs)) ∷ ‵ (fdies slice′ l₈)
@@ -320,7 +320,7 @@ module _ {M : Type 1} (𝓤 : URA M) (H : Heap 𝓤) (A : Atoms 𝓤) (W : Given
         fjoin ! $ pureI ! (at-slice R (x γ (set xs i rp)) (s xs ∷ [])) (tt, (tt, tt)) (ap (λ (m : ℕ). sliceVal (b, o) m ∷ []) (sym (length-set xs i rp)), subst (Room R) (sym (length-set xs i rp)) gn) $ fjoin ! $ by ! (exits rk vk isk (set xs i rp) (length-set xs i rp) (ap (λ (y : Received). after (y .answer) (y .head) (set xs i rp)) ek ∙ ok))))))
 
     -- the stepped place is put where the place was
-    puts : Triple 𝓤 (𝓣 .C #received-in) (ReceivedIn 𝓤 H A mem run) → (l₀ l₁ l₂ l₃ l₄ l₅ l₆ l₇ l₈ l₉ l₁₀ l₁₁ l₁₂ l₁₃ l₁₄ l₁₅ : ℕ) (t : Bool) (vf vs : Val) (i : ℕ) → i < length xs → (r : Next) (v : Val) → Is X.the-row r (v ∷ []) → (rp : Place) (vp : Val) → Is R rp (vp ∷ [])
+    puts : Triple 𝓤 (𝓣 .C #received-in) (ReceivedIn 𝓤 H A mem run) → (l₀ l₁ l₂ l₃ l₄ l₅ l₆ l₇ l₈ l₉ l₁₀ l₁₁ l₁₂ l₁₃ l₁₄ l₁₅ : ℕ) (t : Bool) (vf vs : Val) (i : ℕ) → i < length xs → (r : Renewal) (v : Val) → Is X.the-row r (v ∷ []) → (rp : Place) (vp : Val) → Is R rp (vp ∷ [])
         → after (r .received .answer) (r .received .head) (set xs i rp) ≡ delivered xs (due .head) (due .answer)
         → Sq W (‵ (row R fullShare xs b o) ∷ ‵ (fobor κ q (Held R (length xs) b o γ)) ∷ ‵ (fobs γ (codedHoleys R .code (heres R xs))) ∷ ‵ (fauth γ (codedHoleys R .code (heres R xs))) ∷ ‵ (froom tyPtr l₁₅ 0) ∷ ‵ (fdies tyPtr l₁₅) ∷ ‵ (fat fullShare T′.mir l₁₄ 0 vp) ∷ ‵ (fdies T′.mir l₁₄) ∷ ‵ (fat fullShare tyPtr l₁₃ 0 (vptr b (place 120 o i))) ∷ ‵ (fdies tyPtr l₁₃) ∷ ‵ (fat fullShare word l₁₂ 0 (vint w64 (i * 120))) ∷ ‵ (fdies word l₁₂)
         ∷ ‵ (fat fullShare tyBool l₁₁ 0 (vbool (ltb i (length xs)))) ∷ ‵ (fdies tyBool l₁₁) ∷ ‵ (fat fullShare word l₁₀ 0 (vint w64 (length xs))) ∷ ‵ (fdies word l₁₀) ∷ ‵ (fat fullShare S′.mir l₉ 0 vs) ∷ ‵ (fdies S′.mir l₉) ∷ ‵ (fat fullShare slice′ l₈ 0 (s xs)) ∷ ‵ (fdies slice′ l₈)
@@ -336,7 +336,7 @@ module _ {M : Type 1} (𝓤 : URA M) (H : Heap 𝓤) (A : Atoms 𝓤) (W : Given
         move ! (1 ∷ []) $ drop ! $ owned ! R (Is R) (LL.makes T.the-type T′.the-plain 𝓤 H A) rp _ isp $ move ! (1 ∷ 0 ∷ []) $ elem-put ! R fullShare xs i rp (vp ∷ []) b o l $
         answers known-received l₀ l₁ l₂ l₃ l₄ l₅ l₆ l₇ l₈ l₉ l₁₀ l₁₁ l₁₂ l₁₃ l₁₄ l₁₅ t vf vs i r v is rp vp ok)
 
-    takes : Triple 𝓤 (𝓣 .C #place-in) (PlaceIn 𝓤 H A mem run) → Triple 𝓤 (𝓣 .C #received-in) (ReceivedIn 𝓤 H A mem run) → (l₀ l₁ l₂ l₃ l₄ l₅ l₆ l₇ l₈ l₉ l₁₀ l₁₁ l₁₂ l₁₃ l₁₄ l₁₅ : ℕ) (t : Bool) (vf vs : Val) (i : ℕ) → i < length xs → (r : Next) (v : Val) → Is X.the-row r (v ∷ [])
+    takes : Triple 𝓤 (𝓣 .C #place-in) (PlaceIn 𝓤 H A mem run) → Triple 𝓤 (𝓣 .C #received-in) (ReceivedIn 𝓤 H A mem run) → (l₀ l₁ l₂ l₃ l₄ l₅ l₆ l₇ l₈ l₉ l₁₀ l₁₁ l₁₂ l₁₃ l₁₄ l₁₅ : ℕ) (t : Bool) (vf vs : Val) (i : ℕ) → i < length xs → (r : Renewal) (v : Val) → Is X.the-row r (v ∷ [])
         → after (r .received .answer) (r .received .head) (set xs i (r .place)) ≡ delivered xs (due .head) (due .answer)
         → Sq W (‵ (row R fullShare xs b o) ∷ ‵ (fobor κ q (Held R (length xs) b o γ)) ∷ ‵ (fobs γ (codedHoleys R .code (heres R xs))) ∷ ‵ (fauth γ (codedHoleys R .code (heres R xs))) ∷ ‵ (froom tyPtr l₁₅ 0) ∷ ‵ (fdies tyPtr l₁₅) ∷ ‵ (fat fullShare T′.mir l₁₄ 0 (mach (elem i))) ∷ ‵ (fdies T′.mir l₁₄) ∷ ‵ (fat fullShare tyPtr l₁₃ 0 (vptr b (place 120 o i))) ∷ ‵ (fdies tyPtr l₁₃) ∷ ‵ (fat fullShare word l₁₂ 0 (vint w64 (i * 120))) ∷ ‵ (fdies word l₁₂)
         ∷ ‵ (fat fullShare tyBool l₁₁ 0 (vbool (ltb i (length xs)))) ∷ ‵ (fdies tyBool l₁₁) ∷ ‵ (fat fullShare word l₁₀ 0 (vint w64 (length xs))) ∷ ‵ (fdies word l₁₀) ∷ ‵ (fat fullShare S′.mir l₉ 0 vs) ∷ ‵ (fdies S′.mir l₉) ∷ ‵ (fat fullShare slice′ l₈ 0 (s xs)) ∷ ‵ (fdies slice′ l₈)
@@ -362,7 +362,7 @@ module _ {M : Type 1} (𝓤 : URA M) (H : Heap 𝓤) (A : Atoms 𝓤) (W : Given
     steps known-next known-place known-received l₀ l₁ l₂ l₃ l₄ l₅ l₆ l₇ l₈ l₉ l₁₀ l₁₁ l₁₂ l₁₃ l₁₄ l₁₅ t vf vs h i e l g =
         nothing ! $ use1 W (raw (NextOf 𝓤 H A mem run .pre (to-next i))) (goes-next i g) $
         calls-at ! fm (NextOf 𝓤 H A mem run) known-next (to-next i) (and-then ! (load ! (from ! (stop !)) (look ! 31 refl)) (and-then ! (load ! (from ! (stop !)) (look ! 7 refl)) (no-more !))) (λ vx.
-        use1 W (later (some (λ (rx : Next). (‵ ftrue ⊛ ‵ (X.the-row .own rx (vx ∷ []))) ⊛ raw (ensured 𝓤 H A next-of.ended (next-of.clauses 𝓤 H A mem run) tt (due, (elem i, tt)) tt rx)))) (id⊢ 𝓤 _) $ await ! tt $ pick ! (λ rx.
+        use1 W (later (some (λ (rx : Renewal). (‵ ftrue ⊛ ‵ (X.the-row .own rx (vx ∷ []))) ⊛ raw (ensured 𝓤 H A next-of.ended (next-of.clauses 𝓤 H A mem run) tt (due, (elem i, tt)) tt rx)))) (id⊢ 𝓤 _) $ await ! tt $ pick ! (λ rx.
         split ! $ move ! (1 ∷ []) $ use1 W (raw (fact 𝓤 (rx ≡ nextOf due (elem i)))) (next-is 𝓤 H A mem run due (elem i) rx) $ heard ! (rx ≡ nextOf due (elem i)) (λ ex. split ! $ drop ! $
         peeks ! X.the-row (Is X.the-row) (shows 𝓤 H A X.the-row) rx (vx ∷ []) (λ isx. drop ! $
         land ! (from ! (stop !)) (init ! 26 refl (LL.lawful X.the-type X′.the-laws 𝓤 H A W .typed rx _ isx .0)) $
