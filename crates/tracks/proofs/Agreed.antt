@@ -1,6 +1,7 @@
 -- The two forms of the table take the same calls alike: the clock moves in both, both searches find the same numbers, and the same track is stored at one of them.
 -- Assumes nothing.
 use Prim.Native.Nat.{ℕ, zero, suc, _+_, _*_, _-_, _/_, _%_, _^_, _≤_, _<_}
+use native.Mathlib.Nat.{le-refl}
 use native.Mathlib.Omega.{arith}
 use mathlib.Core.Bool.{Bool, true, false, cond, not, _&&_}
 use mathlib.Core.Logic.{⊎-elim}
@@ -26,17 +27,17 @@ use Rattle.place.proofs.Steps.{new-fits, stepped-fits}
 use Rattle.table.specs.declared.Holding.the-variants as holding
 use Rattle.table.specs.Layout as layout
 use Rattle.table.specs.Table as table
-use Rattle.table.specs.Table.{lowest}
+use Rattle.table.specs.Table.{lowest, keyOrEnd}
 use Rattle.table.proofs.Parts.{sized}
 use Rattle.table.proofs.Places as places
 use Rattle.table.proofs.Search.{alike, lowest-passes}
 use Rattle.tracks.specs.declared.Place.{Place}
 use Rattle.tracks.specs.declared.Head.{Head}
 use Rattle.tracks.specs.Ranges.{noPlace, isHeld, holds}
-use Rattle.tracks.specs.Tracks.{After, placesFit, moved, siteOf, placeOf, freePlace, placed, delivered, received, lookedUp}
+use Rattle.tracks.specs.Tracks.{After, placesFit, moved, siteOf, placeOf, freePlace, placed, delivered, received, lookedUp, smallest, nextAbove}
 use Rattle.tracks.specs.Parts.{looked}
 use Rattle.tracks.specs.Agreement.{Same, Agree, Alike}
-use Rattle.tracks.proofs.Same.{same-later, same-holds, same-stored}
+use Rattle.tracks.proofs.Same.{same-later, same-holds, same-better, same-stored}
 
 -- every key is of kind 1 or 2
 kind-range : (b : Bool) (a : ℕ) → let k = cond b 2 1 * 2 ^ 24 + a % 2 ^ 24 in (16777216 ≤ k) × (k < 50331648)
@@ -243,3 +244,19 @@ module _ (s : List ℕ) (head : Head) (ps : List Place) (a : Agree s head ps) wh
       track-at : (key : ℕ) → placeOf ps (head .clock) key < length ps
           → trackOf (layout.bodyAt s (layout.placesIn s) (table.placeOf s (layout.clockOf s) key)) ≡ getD ps (placeOf ps (head .clock) key) noPlace .track
       track-at key h = ap (λ (c : ℕ). trackOf (layout.bodyAt s (layout.placesIn s) (table.placeOf s c key))) (a .clock) ∙ own-track s head ps a key h
+
+  least-same : (above m : ℕ) → m ≤ length ps → table.smallest (layout.placeAt s (layout.placesIn s)) (head .clock) above m ≡ smallest ps (head .clock) above m
+  least-same above zero h = refl
+  least-same above (suc m) h =
+      ap (λ (k : ℕ). table.better (head .clock) above k (layout.placeAt s (layout.placesIn s) m)) (least-same above m (omega arith))
+      ∙ same-better (head .clock) above (smallest ps (head .clock) above m) (layout.placeAt s (layout.placesIn s) m) (getD ps m noPlace) (a .same m (omega arith))
+
+  -- .. and so is the next key
+  pub next-agrees : (above : ℕ) → table.nextAbove s above ≡ nextAbove ps head above
+  unfolding table.nextAbove nextAbove
+  next-agrees above =
+      chosen-alike _ _ _ _ (ap not (a .size)) (λ _. refl)
+      (λ _. ap keyOrEnd
+      (ap (λ (c : ℕ). table.smallest (layout.placeAt s (layout.placesIn s)) c above (layout.placesIn s)) (a .clock)
+      ∙ ap (table.smallest (layout.placeAt s (layout.placesIn s)) (head .clock) above) (a .count)
+      ∙ least-same above (length ps) (le-refl (length ps))))

@@ -2,7 +2,7 @@
 -- Assumes nothing.
 use Prim.Native.Nat.{ℕ, _-_, _≤_, _<_}
 use native.Mathlib.Omega.{arith}
-use mathlib.Core.Bool.{Bool, true, false, _&&_}
+use mathlib.Core.Bool.{Bool, true, false, cond, _&&_, _||_}
 use mathlib.Core.Path.{_≡_, refl, ap, sym, _∙_}
 use lib.Dec.{eqb, ltb}
 use lib.ListN.{getD}
@@ -16,8 +16,10 @@ use Rattle.place.specs.Bytes.{numberAt}
 use Rattle.place.specs.Place.{trackOf, bodyOf, held, Fits, FitsGroups, FitsSaved}
 use Rattle.place.proofs.BothWays.{read-written, written-in-range, held-later}
 use Rattle.table.specs.Layout as layout
+use Rattle.table.specs.Table as table
 use Rattle.tracks.specs.declared.Place.{Place}
 use Rattle.tracks.specs.Ranges.{groupsFit, countsFit, trackFits, inRange, isHeld, holds}
+use Rattle.tracks.specs.Tracks.{better}
 use Rattle.tracks.specs.Agreement.{Same}
 
 -- ---- at a later clock
@@ -68,6 +70,24 @@ pub same-holds : (clock key : ℕ) (b : layout.Place) (p : Place) → Same clock
 unfolding layout.holds holds
 same-holds clock key b p same =
     keyed (layout.isHeld clock b) (isHeld clock p) (eqb (b .key) key) (eqb (p .key) key) (same .held) (λ e. ap (λ (k : ℕ). eqb k key) (same .key e))
+
+-- ---- as the next key
+
+module _ (clock above best : ℕ) (b : layout.Place) (p : Place) (same : Same clock b p) where
+  abbrev passes : ℕ → Bool
+  passes k = ltb above k && (eqb best 0 || ltb k best)
+
+  by-holding : (h : Bool) → isHeld clock p ≡ h → cond (passes (b .key) && layout.isHeld clock b) (b .key) best ≡ cond (passes (p .key) && isHeld clock p) (p .key) best
+  by-holding true e =
+      ap (λ (k : ℕ). cond (passes k && layout.isHeld clock b) k best) (same .key e)
+      ∙ ap (λ (h : Bool). cond (passes (p .key) && h) (p .key) best) (same .held)
+  by-holding false e =
+      ap (λ (h : Bool). cond h (b .key) best) (ap (λ (h : Bool). passes (b .key) && h) (same .held ∙ e) ∙ and-false (passes (b .key)))
+      ∙ sym (ap (λ (h : Bool). cond h (p .key) best) (ap (λ (h : Bool). passes (p .key) && h) e ∙ and-false (passes (p .key))))
+
+  pub same-better : table.better clock above best b ≡ better clock above best p
+  unfolding table.better better
+  same-better = by-holding (isHeld clock p) refl
 
 -- ---- after a store
 

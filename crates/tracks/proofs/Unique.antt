@@ -17,10 +17,12 @@ use denote.Triple.Walked.{needs}
 use Rattle.messages.specs.declared.Decoded.{Decoded}
 use Rattle.table.specs.declared.SetUp.{SetUp}
 use Rattle.table.specs.declared.Looked.{Looked}
+use Rattle.table.specs.declared.NextKey.{NextKey}
 use Rattle.tracks.specs.Tracks.{After, after}
 use Rattle.tracks.proofs.set_up as set-up
 use Rattle.tracks.proofs.receive as receive
 use Rattle.tracks.proofs.look_up as look-up
+use Rattle.tracks.proofs.next as next
 
 -- of a contract in a model, for the same arguments: two results that both satisfy its clause are one, in all that the caller sees of a call
 abbrev pub OneSeen : {M : Type 1} (𝓤 : URA M) (T : Ended) → Clauses 𝓤 T → (B : Type 0) → ((κs : Lfts (T .signature .lifetimes)) → Res (T .signature) κs → AtExit T κs → B) → Type 1
@@ -40,3 +42,6 @@ module _ {M : Type 1} (𝓤 : URA M) (H : Heap 𝓤) (A : Atoms 𝓤) (mem : Mem
 
   pub look-up-once : OneSeen 𝓤 look-up.ended (look-up.clauses 𝓤 H A mem run) Looked (λ κs x left. x)
   look-up-once κs a g x y left left′ = both-facts 𝓤 _ _ _ (λ p q. p ∙ sym q)
+
+  pub next-once : OneSeen 𝓤 next.ended (next.clauses 𝓤 H A mem run) NextKey (λ κs x left. x)
+  next-once κs a g x y left left′ = both-facts 𝓤 _ _ _ (λ p q. p ∙ sym q)
