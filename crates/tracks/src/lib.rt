@@ -1,4 +1,15 @@
-// The lent table as a slice of places, 1 to 1,024 of them, with its head by value.
+// The lent table as a slice of places, 1 to 1,024 of them, with its head by value. The calls are those of the bytes form, and both answer the same.
+//
+// value of a place                       range
+// key                                    its kind, 1 or 2, above 24 bits
+// the three ME of the groups             below 2^56
+// the two altitude codes                 below 2^12
+// latitude of the position               from -2^30 to 2^30
+// counts of the two saved positions      below 2^17
+// all else                               any
+//
+// A place with any value out of its range is free. A site whose latitude is out of its range counts as none.
+// The functions below are thin, since their proofs follow each step by hand: they read, call by value and store.
 mod parts;
 mod ranges;
 

@@ -1,4 +1,5 @@
 -- `tracks::deliver` meets its contract: a walk of its MIR, by hand, in parts: one for each call. The slice is open from the scan on.
+-- Assumes nothing.
 use mathlib.Core.Path.{_≡_, refl, sym, ap, subst, _∙_}
 use Prim.Native.Nat.{ℕ, _*_, _<_, _^_}
 use native.Mathlib.Omega.{arith}

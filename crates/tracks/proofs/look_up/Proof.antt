@@ -1,4 +1,5 @@
 -- `tracks::look_up` meets its contract: a walk of its MIR, by hand, in parts: one for each call.
+-- Assumes nothing.
 use mathlib.Core.Path.{_≡_, refl, sym, ap, _∙_}
 use Prim.Native.Nat.{ℕ, _*_, _≤_, _<_, _^_}
 use native.Mathlib.Omega.{arith}

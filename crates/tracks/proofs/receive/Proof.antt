@@ -1,4 +1,5 @@
 -- `tracks::receive` meets its contract: a walk of its MIR, by hand, in parts: the message is judged, and the places are lent on to `deliver`.
+-- Assumes nothing.
 use mathlib.Core.Path.{_≡_, refl, _∙_}
 use Prim.Native.Nat.{ℕ, _<_, _^_}
 use mathlib.Core.List.{List, [], _∷_}

@@ -1,4 +1,5 @@
 -- `tracks::set_up` meets its contract: a walk of its MIR, by hand. What `start` answers says whether the places are lent to `clear`.
+-- Assumes nothing.
 use mathlib.Core.Path.{_≡_, refl, sym, ap, _∙_}
 use Prim.Native.Nat.{ℕ}
 use mathlib.Core.Bool.{Bool, true}
