@@ -1,0 +1,108 @@
+-- The ways through a call, over variables: each test in its order.
+-- Assumes nothing.
+use Prim.Native.Nat.{ℕ, _≤_, _<_}
+use mathlib.Core.Bool.{Bool, true, false, cond, not, _&&_, true≢false, false≢true}
+use mathlib.Core.Path.{_≡_, refl, ap, sym, _∙_}
+use mathlib.Core.List.{List}
+use lib.Dec.{T as Holds}
+use lib.ListN.{length, getD}
+use borrow.Author.Tests.{lt-ltb, le-ltb, eq-eqb}
+use Rattle.refusals.specs.declared.Refusal.the-variants.{Places, Field}
+use Rattle.positions.specs.Positions.{poleToPole}
+use Rattle.messages.specs.declared.Decoded.{Decoded}
+use Rattle.messages.specs.Message.{decoded}
+use Rattle.track.specs.declared.Site.{Site}
+use Rattle.track.specs.Track.{newTrack}
+use Rattle.table.specs.declared.SetUp.{SetUp}
+use Rattle.table.specs.declared.SetUp.the-variants as setting
+use Rattle.table.specs.declared.Holding.the-variants as holding
+use Rattle.table.specs.declared.NextKey.the-variants as key-after
+use Rattle.table.specs.Layout.{noSite}
+use Rattle.table.specs.Table.{keyOrEnd}
+use Rattle.tracks.specs.declared.Place.{Place}
+use Rattle.tracks.specs.declared.Head.{Head}
+use Rattle.tracks.specs.declared.Received.{Received}
+use Rattle.tracks.specs.declared.Started.{Started}
+use Rattle.tracks.specs.Ranges.{noPlace}
+use Rattle.tracks.specs.Tracks.{After, after, placesFit, headOf, moved, emptied, setUp, placeOf, lookedUp, smallest, nextAbove}
+use Rattle.tracks.specs.Parts.{judged, notStarted, started, isDone, sought, scanned, looked}
+
+-- no test of three passes
+last-of : {A : Type 0} {a b c : Bool} (w x y z : A) → a ≡ false → b ≡ false → c ≡ false → z ≡ cond a w (cond b x (cond c y z))
+last-of w x y z p q r = rw (p, q, r)
+
+pub judged-on : (n : ℕ) (head : Head) (message : List ℕ) (time : ℕ) {r : Decoded} → length message ≡ 14 → placesFit n ≡ true → head .clock ≤ time → r ≡ decoded message
+    → _≡_ {A = Received} (record { answer = r; head = moved head time }) (judged n head message time)
+unfolding judged
+judged-on n head message time l f h e =
+    ap (λ (x : Decoded). record { answer = x; head = moved head time }) e
+    ∙ last-of _ _ _ _ (ap not (eq-eqb (length message) 14 l)) (ap not f) (le-ltb time (head .clock) h)
+
+-- ---- how a test of the machine came out
+
+pub passed : (t : Bool) → Holds t → t ≡ true
+passed true h = refl
+passed false h = absurd h
+
+pub failed : (t : Bool) → Holds (not t) → t ≡ false
+failed true h = absurd h
+failed false h = refl
+
+-- ---- set-up
+
+abbrev startedBy : Bool → Bool → Site → Started
+startedBy a b site = cond a (notStarted Places) (cond b (notStarted Field) (record { answer = setting.Done; head = headOf 0 site }))
+
+abbrev setBy : Bool → Bool → List Place → List Place → Site → After SetUp
+setBy a b ps zs site = cond a (after (setting.Refused Places) (headOf 0 noSite) ps) (cond b (after (setting.Refused Field) (headOf 0 noSite) ps) (after setting.Done (headOf 0 site) zs))
+
+on-of : (a b : Bool) (ps zs : List Place) (site : Site) → isDone (startedBy a b site .answer) ≡ true → after (startedBy a b site .answer) (startedBy a b site .head) zs ≡ setBy a b ps zs site
+on-of true b ps zs site h = absurd (false≢true h)
+on-of false true ps zs site h = absurd (false≢true h)
+on-of false false ps zs site h = refl
+
+off-of : (a b : Bool) (ps zs : List Place) (site : Site) → isDone (startedBy a b site .answer) ≡ false → after (startedBy a b site .answer) (startedBy a b site .head) ps ≡ setBy a b ps zs site
+off-of true b ps zs site h = refl
+off-of false true ps zs site h = refl
+off-of false false ps zs site h = absurd (true≢false h)
+
+pub set-on : (ps : List Place) (site : Site) {r : Started} → r ≡ started (length ps) site → isDone (r .answer) ≡ true → after (r .answer) (r .head) (emptied ps) ≡ setUp ps site
+unfolding started setUp
+set-on ps site e h =
+    ap (λ (x : Started). after (x .answer) (x .head) (emptied ps)) e
+    ∙ on-of (not (placesFit (length ps))) (site .known && not (poleToPole (site .spot .latitude))) ps (emptied ps) site (ap (λ (x : Started). isDone (x .answer)) (sym e) ∙ h)
+
+pub set-off : (ps : List Place) (site : Site) {r : Started} → r ≡ started (length ps) site → isDone (r .answer) ≡ false → after (r .answer) (r .head) ps ≡ setUp ps site
+unfolding started setUp
+set-off ps site e h =
+    ap (λ (x : Started). after (x .answer) (x .head) ps) e
+    ∙ off-of (not (placesFit (length ps))) (site .known && not (poleToPole (site .spot .latitude))) ps (emptied ps) site (ap (λ (x : Started). isDone (x .answer)) (sym e) ∙ h)
+
+-- ---- a look
+
+pub looked-not : (ps : List Place) (head : Head) (key : ℕ) → not (placesFit (length ps)) ≡ true → looked (holding.Refused Places) newTrack ≡ lookedUp ps head key
+unfolding lookedUp
+looked-not ps head key h = rw h
+
+module _ (ps : List Place) (head : Head) (key : ℕ) (f : not (placesFit (length ps)) ≡ false) (i : ℕ) (e : i ≡ scanned ps (sought (head .clock) key) (length ps) .own) where
+  own-is : i ≡ placeOf ps (head .clock) key
+  unfolding scanned placeOf
+  own-is = e
+
+  pub looked-held : i < length ps → looked holding.Held (getD ps i noPlace .track) ≡ lookedUp ps head key
+  unfolding lookedUp
+  looked-held h = rw (f, ← own-is, lt-ltb i (length ps) h)
+
+  pub looked-none : length ps ≤ i → looked holding.Unheld newTrack ≡ lookedUp ps head key
+  unfolding lookedUp
+  looked-none h = rw (f, ← own-is, le-ltb i (length ps) h)
+
+-- ---- the next key
+
+pub next-not : (ps : List Place) (head : Head) (above : ℕ) → not (placesFit (length ps)) ≡ true → key-after.Refused Places ≡ nextAbove ps head above
+unfolding nextAbove
+next-not ps head above h = rw h
+
+pub next-is : (ps : List Place) (head : Head) (above : ℕ) → not (placesFit (length ps)) ≡ false → keyOrEnd (smallest ps (head .clock) above (length ps)) ≡ nextAbove ps head above
+unfolding nextAbove
+next-is ps head above h = rw h

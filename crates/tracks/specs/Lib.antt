@@ -1,0 +1,4 @@
+pub mod Ranges
+pub mod Tracks
+pub mod Parts
+pub mod Agreement
