@@ -1,0 +1,40 @@
+-- Each function has one answer: two that satisfy its contract both equal its definition. Of one that is lent an array to fill or a table to change, the answer is with what that holds afterwards.
+-- Assumes nothing.
+use mathlib.Core.Path.{sym, _∙_}
+use Rattle.refusals.specs.Answers.{OneAnswer, OneOutcome}
+use Rattle.addercoil.specs.Sent.{Sent, sent}
+use Rattle.addercoil.proofs.tables.addercoil_table_bytes.Kinds as table-bytes-kinds
+use Rattle.addercoil.proofs.tables.addercoil_table_bytes.Reads as table-bytes
+use Rattle.addercoil.proofs.tables.addercoil_set_up.Kinds as set-up-kinds
+use Rattle.addercoil.proofs.tables.addercoil_set_up.Reads as set-up
+use Rattle.addercoil.proofs.tables.addercoil_set_up_at.Kinds as set-up-at-kinds
+use Rattle.addercoil.proofs.tables.addercoil_set_up_at.Reads as set-up-at
+use Rattle.addercoil.proofs.tables.addercoil_receive.Kinds as receive-kinds
+use Rattle.addercoil.proofs.tables.addercoil_receive.Reads as receive
+use Rattle.addercoil.proofs.tables.addercoil_clock.Kinds as clock-kinds
+use Rattle.addercoil.proofs.tables.addercoil_clock.Reads as clock
+use Rattle.addercoil.proofs.tables.addercoil_site.Kinds as site-kinds
+use Rattle.addercoil.proofs.tables.addercoil_site.Reads as site
+use Rattle.addercoil.proofs.tables.addercoil_next.Kinds as next-kinds
+use Rattle.addercoil.proofs.tables.addercoil_next.Reads as next
+
+pub table-bytes-once : OneAnswer 0 table-bytes-kinds.ps table-bytes-kinds.r table-bytes.Post
+table-bytes-once κs args x y left left′ p q = p ∙ sym q
+
+pub set-up-once : OneOutcome 1 set-up-kinds.ps set-up-kinds.r Sent (λ κs x left. sent x (left .0 .now)) set-up.Post
+set-up-once κs args x y left left′ p q = p ∙ sym q
+
+pub set-up-at-once : OneOutcome 1 set-up-at-kinds.ps set-up-at-kinds.r Sent (λ κs x left. sent x (left .0 .now)) set-up-at.Post
+set-up-at-once κs args x y left left′ p q = p ∙ sym q
+
+pub receive-once : OneOutcome 2 receive-kinds.ps receive-kinds.r Sent (λ κs x left. sent x (left .0 .now)) receive.Post
+receive-once κs args x y left left′ p q = p ∙ sym q
+
+pub clock-once : OneOutcome 2 clock-kinds.ps clock-kinds.r Sent (λ κs x left. sent x (left .1 .0 .now)) clock.Post
+clock-once κs args x y left left′ p q = p ∙ sym q
+
+pub site-once : OneOutcome 2 site-kinds.ps site-kinds.r Sent (λ κs x left. sent x (left .1 .0 .now)) site.Post
+site-once κs args x y left left′ p q = p ∙ sym q
+
+pub next-once : OneOutcome 2 next-kinds.ps next-kinds.r Sent (λ κs x left. sent x (left .1 .1 .0 .now)) next.Post
+next-once κs args x y left left′ p q = p ∙ sym q
