@@ -1,2 +1,4 @@
+pub mod Reported
+pub mod Placed
 pub mod Unique
 pub mod Ways

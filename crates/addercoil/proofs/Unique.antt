@@ -2,6 +2,7 @@
 -- Assumes nothing.
 use mathlib.Core.Path.{sym, _∙_}
 use Rattle.refusals.specs.Answers.{OneAnswer, OneOutcome}
+use Rattle.addercoil.specs.Lines.{Both, both}
 use Rattle.addercoil.specs.Sent.{Sent, sent}
 use Rattle.addercoil.proofs.tables.addercoil_table_bytes.Kinds as table-bytes-kinds
 use Rattle.addercoil.proofs.tables.addercoil_table_bytes.Reads as table-bytes
@@ -17,6 +18,18 @@ use Rattle.addercoil.proofs.tables.addercoil_site.Kinds as site-kinds
 use Rattle.addercoil.proofs.tables.addercoil_site.Reads as site
 use Rattle.addercoil.proofs.tables.addercoil_next.Kinds as next-kinds
 use Rattle.addercoil.proofs.tables.addercoil_next.Reads as next
+use Rattle.addercoil.proofs.lines.addercoil_header.Kinds as header-kinds
+use Rattle.addercoil.proofs.lines.addercoil_header.Reads as header
+use Rattle.addercoil.proofs.lines.addercoil_line.Kinds as line-kinds
+use Rattle.addercoil.proofs.lines.addercoil_line.Reads as line
+use Rattle.addercoil.proofs.lines.addercoil_feed_block.Kinds as feed-block-kinds
+use Rattle.addercoil.proofs.lines.addercoil_feed_block.Reads as feed-block
+use Rattle.addercoil.proofs.places.addercoil_encode_position.Kinds as encode-position-kinds
+use Rattle.addercoil.proofs.places.addercoil_encode_position.Reads as encode-position
+use Rattle.addercoil.proofs.places.addercoil_pair.Kinds as pair-kinds
+use Rattle.addercoil.proofs.places.addercoil_pair.Reads as pair
+use Rattle.addercoil.proofs.places.addercoil_single.Kinds as single-kinds
+use Rattle.addercoil.proofs.places.addercoil_single.Reads as single
 
 pub table-bytes-once : OneAnswer 0 table-bytes-kinds.ps table-bytes-kinds.r table-bytes.Post
 table-bytes-once κs args x y left left′ p q = p ∙ sym q
@@ -38,3 +51,21 @@ site-once κs args x y left left′ p q = p ∙ sym q
 
 pub next-once : OneOutcome 2 next-kinds.ps next-kinds.r Sent (λ κs x left. sent x (left .1 .1 .0 .now)) next.Post
 next-once κs args x y left left′ p q = p ∙ sym q
+
+pub header-once : OneOutcome 2 header-kinds.ps header-kinds.r Sent (λ κs x left. sent x (left .1 .1 .0 .now)) header.Post
+header-once κs args x y left left′ p q = p ∙ sym q
+
+pub line-once : OneOutcome 2 line-kinds.ps line-kinds.r Sent (λ κs x left. sent x (left .1 .1 .0 .now)) line.Post
+line-once κs args x y left left′ p q = p ∙ sym q
+
+pub encode-position-once : OneOutcome 1 encode-position-kinds.ps encode-position-kinds.r Sent (λ κs x left. sent x (left .1 .1 .1 .1 .0 .now)) encode-position.Post
+encode-position-once κs args x y left left′ p q = p ∙ sym q
+
+pub pair-once : OneOutcome 1 pair-kinds.ps pair-kinds.r Sent (λ κs x left. sent x (left .1 .1 .1 .1 .1 .0 .now)) pair.Post
+pair-once κs args x y left left′ p q = p ∙ sym q
+
+pub single-once : OneOutcome 1 single-kinds.ps single-kinds.r Sent (λ κs x left. sent x (left .1 .1 .1 .1 .1 .1 .0 .now)) single.Post
+single-once κs args x y left left′ p q = p ∙ sym q
+
+pub feed-block-once : OneOutcome 3 feed-block-kinds.ps feed-block-kinds.r Both (λ κs x left. both (sent x (left .1 .1 .1 .0 .now)) (left .0 .now)) feed-block.Post
+feed-block-once κs args x y left left′ p q = p ∙ sym q

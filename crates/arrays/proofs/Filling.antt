@@ -4,7 +4,7 @@ use Prim.Native.Nat.{ℕ, zero, suc, _+_, _<_}
 use mathlib.Core.Path.{_≡_, refl, sym, ap, _∙_}
 use mathlib.Core.List.{List, [], _∷_, _++_}
 use native.Mathlib.Numerals.{add-one}
-use lib.ListN.{length, take, getD, set}
+use lib.ListN.{length, take, getD, set, replicate}
 use lib.Seq.{take-suc-set, take-length}
 use Rattle.arrays.specs.Arrays.{filled}
 
@@ -25,3 +25,10 @@ fill-more s values i v h q e =
 
 pub fill-whole : (s values : List ℕ) (i n : ℕ) → i ≡ length s → n ≡ length s → take i s ≡ filled i values → s ≡ filled n values
 fill-whole s values i n p q e = sym (take-length s) ∙ rw (← p) e ∙ ap (λ (m : ℕ). filled m values) (p ∙ sym q)
+
+-- zeros behind the values change nothing
+pub filled-zeros : (n : ℕ) (values : List ℕ) (k : ℕ) → filled n (values ++ replicate k 0) ≡ filled n values
+filled-zeros zero values k = refl
+filled-zeros (suc n) [] zero = refl
+filled-zeros (suc n) [] (suc k) = ap (λ (l : List ℕ). 0 ∷ l) (filled-zeros n [] k)
+filled-zeros (suc n) (x ∷ values) k = ap (λ (l : List ℕ). x ∷ l) (filled-zeros n values k)

@@ -32,10 +32,10 @@ same-length : tie.Need-same-length
 same-length c = search needs
 
 returns-2 : tie.Need-returns-2
-returns-2 c = into-right clockSaid 1 _ (c .before .before .before .before .before .before .before .before .before .if1 .left) (c .before .before .before .before .before .before .before .before .clock-of .ensures) (c .before .before .before .before .before .before .clock .given .1) (c .before .before .give .ensures)
+returns-2 c = into-right clockSaid _ (c .before .before .before .before .before .before .clock .given .1) 1 (c .before .before .before .before .before .before .before .before .before .if1 .left) (c .before .before .before .before .before .before .before .before .clock-of .ensures) (c .before .before .give .ensures)
 
 returns-3 : tie.Need-returns-3
-returns-3 c = into-refused clockSaid 1 _ (c .before .before .before .before .before .if1 .left) (c .before .before .before .before .clock-of .ensures) (c .before .before .clock2 .given .1) refl (c .number .ensures)
+returns-3 c = into-refused clockSaid _ (c .before .before .clock2 .given .1) 1 (c .before .before .before .before .before .if1 .left) (c .before .before .before .before .clock-of .ensures) refl (c .number .ensures)
 
 pub addercoil-clock-spec : {M : Type 1} → statement M
 addercoil-clock-spec =

@@ -44,16 +44,16 @@ same-length : tie.Need-same-length
 same-length c = search needs
 
 returns-2 : tie.Need-returns-2
-returns-2 c = into-right nextSaid 1 _ (c .before .before .before .before .before .before .before .before .before .if1 .left) (c .before .before .before .before .before .before .before .before .next .ensures) (c .before .before .before .before .before .before .next2 .given .1) (c .before .before .give .ensures)
+returns-2 c = into-right nextSaid _ (c .before .before .before .before .before .before .next2 .given .1) 1 (c .before .before .before .before .before .before .before .before .before .if1 .left) (c .before .before .before .before .before .before .before .before .next .ensures) (c .before .before .give .ensures)
 
 same-length-2 : tie.Need-same-length-2
 same-length-2 c = search needs
 
 returns-3 : tie.Need-returns-3
-returns-3 c = into-right nextSaid 1 _ (c .before .before .before .before .before .before .before .before .if1 .left) (c .before .before .before .before .before .before .before .next .ensures) (c .before .before .before .before .before .enum-told .given .1) (c .before .before .give2 .ensures)
+returns-3 c = into-right nextSaid _ (c .before .before .before .before .before .enum-told .given .1) 1 (c .before .before .before .before .before .before .before .before .if1 .left) (c .before .before .before .before .before .before .before .next .ensures) (c .before .before .give2 .ensures)
 
 returns-4 : tie.Need-returns-4
-returns-4 c = into-refused nextSaid 1 _ (c .before .before .before .before .before .if1 .left) (c .before .before .before .before .next .ensures) (c .before .before .next3 .given .1) refl (c .number .ensures)
+returns-4 c = into-refused nextSaid _ (c .before .before .next3 .given .1) 1 (c .before .before .before .before .before .if1 .left) (c .before .before .before .before .next .ensures) refl (c .number .ensures)
 
 pub addercoil-next-spec : {M : Type 1} → statement M
 addercoil-next-spec =

@@ -29,10 +29,10 @@ same-length : tie.Need-same-length
 same-length c = search needs
 
 returns-2 : tie.Need-returns-2
-returns-2 c = into-right siteSaid 3 _ (c .before .before .before .before .before .before .before .before .if1 .left) (c .before .before .before .before .before .before .before .site-of .ensures) (c .before .before .before .before .before .answer .given .1) (c .before .before .give-site .ensures)
+returns-2 c = into-right siteSaid _ (c .before .before .before .before .before .answer .given .1) 3 (c .before .before .before .before .before .before .before .before .if1 .left) (c .before .before .before .before .before .before .before .site-of .ensures) (c .before .before .give-site .ensures)
 
 returns-3 : tie.Need-returns-3
-returns-3 c = into-refused siteSaid 3 _ (c .before .before .before .before .before .if1 .left) (c .before .before .before .before .site-of .ensures) (c .before .before .answer2 .given .1) refl (c .number .ensures)
+returns-3 c = into-refused siteSaid _ (c .before .before .answer2 .given .1) 3 (c .before .before .before .before .before .if1 .left) (c .before .before .before .before .site-of .ensures) refl (c .number .ensures)
 
 pub addercoil-site-spec : {M : Type 1} → statement M
 addercoil-site-spec =
