@@ -4,7 +4,8 @@ ghost use lib.ListN.{length, getD};
 ghost use Rattle.arrays.specs.Arrays.{filled};
 ghost use Rattle.arrays.specs.Twos.{raised, twos};
 
-fn number_or_zero(values: &[u64], i: usize) -> u64
+// The entry i of an array; 0 past its end.
+pub fn entry(values: &[u64], i: usize) -> u64
     ensures { λ r. ⌜ r ≡ getD (now (values .entry)) i 0 ⌝ }
 {
     if i < values.len() { values[i] } else { 0 }
@@ -16,7 +17,7 @@ pub fn fill(out: &mut [u64], values: &[u64])
 {
     let mut i: usize = 0;
     while i < out.len() {
-        out[i] = number_or_zero(values, i);
+        out[i] = entry(values, i);
         i += 1;
     }
 }

@@ -19,8 +19,8 @@ abbrev μ-loop : tie.MeasureT-loop
 loop-holds : tie.Need-loop-holds Inv-loop μ-loop
 loop-holds c = (search needs, refl, refl)
 
-number-or-zero-requires : tie.Need-number-or-zero-requires Inv-loop μ-loop
-number-or-zero-requires c κs = search needs
+entry-requires : tie.Need-entry-requires Inv-loop μ-loop
+entry-requires c κs = search needs
 
 mul-out : tie.Need-mul-out Inv-loop μ-loop
 mul-out c = search needs
@@ -35,7 +35,7 @@ loop-less : tie.Need-loop-less Inv-loop μ-loop
 loop-less c = simp length-set (omega arith)
 
 loop-again : tie.Need-loop-again Inv-loop μ-loop
-loop-again c = (simp length-set (omega arith), simp length-set (search needs), fill-more _ _ _ _ (c .before .loop-test .taken) (c .number-or-zero .ensures) (c .before .before .loop .inv .2))
+loop-again c = (simp length-set (omega arith), simp length-set (search needs), fill-more _ _ _ _ (c .before .loop-test .taken) (c .entry .ensures) (c .before .before .loop .inv .2))
 
 same-length : tie.Need-same-length Inv-loop μ-loop
 same-length c = search needs
@@ -50,7 +50,7 @@ fill-spec =
     Inv-loop
     μ-loop
     loop-holds
-    number-or-zero-requires
+    entry-requires
     mul-out
     slice-write-out
     add-i

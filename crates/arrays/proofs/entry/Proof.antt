@@ -1,10 +1,10 @@
--- `arrays::number_or_zero` meets its contract: past the end the default is 0.
+-- `arrays::entry` meets its contract: past the end the default is 0.
 -- Assumes nothing.
 use mathlib.Core.Path.{sym}
 use lib.ListN.{List·getD-eq-default}
 use borrow.Author.Needs.{needs}
-use Rattle.arrays.proofs.number_or_zero.Statement.{statement}
-use Rattle.arrays.proofs.number_or_zero.Tie as tie
+use Rattle.arrays.proofs.entry.Statement.{statement}
+use Rattle.arrays.proofs.entry.Tie as tie
 
 mul-result : tie.Need-mul-result
 mul-result c = search needs
@@ -18,5 +18,5 @@ returns c = search needs
 returns-2 : tie.Need-returns-2
 returns-2 c = sym (List·getD-eq-default (c .before .args .values .now) 0 (c .if1 .left))
 
-pub number-or-zero-spec : {M : Type 1} → statement M
-number-or-zero-spec = tie.close (tie.spec mul-result shared-slice-read-result returns returns-2)
+pub entry-spec : {M : Type 1} → statement M
+entry-spec = tie.close (tie.spec mul-result shared-slice-read-result returns returns-2)
