@@ -30,6 +30,12 @@ use Rattle.addercoil.proofs.places.addercoil_pair.Kinds as pair-kinds
 use Rattle.addercoil.proofs.places.addercoil_pair.Reads as pair
 use Rattle.addercoil.proofs.places.addercoil_single.Kinds as single-kinds
 use Rattle.addercoil.proofs.places.addercoil_single.Reads as single
+use Rattle.addercoil.proofs.rows.addercoil_look_up.Kinds as look-up-kinds
+use Rattle.addercoil.proofs.rows.addercoil_look_up.Reads as look-up
+use Rattle.addercoil.proofs.rows.addercoil_decode.Kinds as decode-kinds
+use Rattle.addercoil.proofs.rows.addercoil_decode.Reads as decode
+use Rattle.addercoil.proofs.rows.addercoil_encode.Kinds as encode-kinds
+use Rattle.addercoil.proofs.rows.addercoil_encode.Reads as encode
 
 pub table-bytes-once : OneAnswer 0 table-bytes-kinds.ps table-bytes-kinds.r table-bytes.Post
 table-bytes-once κs args x y left left′ p q = p ∙ sym q
@@ -69,3 +75,12 @@ single-once κs args x y left left′ p q = p ∙ sym q
 
 pub feed-block-once : OneOutcome 3 feed-block-kinds.ps feed-block-kinds.r Both (λ κs x left. both (sent x (left .1 .1 .1 .0 .now)) (left .0 .now)) feed-block.Post
 feed-block-once κs args x y left left′ p q = p ∙ sym q
+
+pub look-up-once : OneOutcome 2 look-up-kinds.ps look-up-kinds.r Sent (λ κs x left. sent x (left .1 .1 .0 .now)) look-up.Post
+look-up-once κs args x y left left′ p q = p ∙ sym q
+
+pub decode-once : OneOutcome 2 decode-kinds.ps decode-kinds.r Sent (λ κs x left. sent x (left .1 .0 .now)) decode.Post
+decode-once κs args x y left left′ p q = p ∙ sym q
+
+pub encode-once : OneOutcome 2 encode-kinds.ps encode-kinds.r Sent (λ κs x left. sent x (left .1 .0 .now)) encode.Post
+encode-once κs args x y left left′ p q = p ∙ sym q

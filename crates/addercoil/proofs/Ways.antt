@@ -6,7 +6,7 @@ use mathlib.Core.Bool.{Bool, true, false, cond}
 use mathlib.Core.List.{List}
 use borrow.Author.Tests.{eq-eqb, ne-eqb}
 use lib.ListN.{length}
-use Rattle.messages.specs.Table.{Said, number}
+use Rattle.messages.specs.Table.{Said, number, values}
 use Rattle.table.specs.Table.{After, after}
 use Rattle.addercoil.specs.Sent.{Sent, sent, given, into}
 
@@ -33,6 +33,10 @@ module _ {A : Type 0} (f : A → Said) (out : List ℕ) {a x : A} (m : a ≡ x) 
 
     pub into-refused : {r k : ℕ} → f x ≡ number k → r ≡ k → sent r out ≡ into n out (f b)
     into-refused q p = into-given n out (f b) h (given-number q p ∙ ap (λ y. given out (f y)) e)
+
+-- a list that is another's
+pub given-list : (out : List ℕ) {l k : List ℕ} {s : Sent} → l ≡ k → s ≡ given out (values l) → s ≡ given out (values k)
+given-list out e p = p ∙ ap (λ (x : List ℕ). given out (values x)) e
 
 -- a test before the call below
 pub stopped : (out : List ℕ) (t : Bool) (k : ℕ) (said : Said) → t ≡ true → sent k out ≡ given out (cond t (number k) said)

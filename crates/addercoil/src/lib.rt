@@ -2,4 +2,5 @@
 mod give;
 mod lines;
 mod places;
+mod rows;
 mod tables;
