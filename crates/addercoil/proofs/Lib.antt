@@ -1,0 +1,5 @@
+pub mod Encoding
+pub mod Placed
+pub mod Reported
+pub mod Unique
+pub mod Ways

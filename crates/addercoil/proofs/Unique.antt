@@ -1,0 +1,86 @@
+-- Each function has one answer: two that satisfy its contract both equal its definition. Of one that is lent an array to fill or a table to change, the answer is with what that holds afterwards.
+-- Assumes nothing.
+use mathlib.Core.Path.{sym, _∙_}
+use Rattle.refusals.specs.Answers.{OneAnswer, OneOutcome}
+use Rattle.addercoil.specs.Lines.{Both, both}
+use Rattle.addercoil.specs.Sent.{Sent, sent}
+use Rattle.addercoil.proofs.tables.addercoil_table_bytes.Kinds as table-bytes-kinds
+use Rattle.addercoil.proofs.tables.addercoil_table_bytes.Reads as table-bytes
+use Rattle.addercoil.proofs.tables.addercoil_set_up.Kinds as set-up-kinds
+use Rattle.addercoil.proofs.tables.addercoil_set_up.Reads as set-up
+use Rattle.addercoil.proofs.tables.addercoil_set_up_at.Kinds as set-up-at-kinds
+use Rattle.addercoil.proofs.tables.addercoil_set_up_at.Reads as set-up-at
+use Rattle.addercoil.proofs.tables.addercoil_receive.Kinds as receive-kinds
+use Rattle.addercoil.proofs.tables.addercoil_receive.Reads as receive
+use Rattle.addercoil.proofs.tables.addercoil_clock.Kinds as clock-kinds
+use Rattle.addercoil.proofs.tables.addercoil_clock.Reads as clock
+use Rattle.addercoil.proofs.tables.addercoil_site.Kinds as site-kinds
+use Rattle.addercoil.proofs.tables.addercoil_site.Reads as site
+use Rattle.addercoil.proofs.tables.addercoil_next.Kinds as next-kinds
+use Rattle.addercoil.proofs.tables.addercoil_next.Reads as next
+use Rattle.addercoil.proofs.lines.addercoil_header.Kinds as header-kinds
+use Rattle.addercoil.proofs.lines.addercoil_header.Reads as header
+use Rattle.addercoil.proofs.lines.addercoil_line.Kinds as line-kinds
+use Rattle.addercoil.proofs.lines.addercoil_line.Reads as line
+use Rattle.addercoil.proofs.lines.addercoil_feed_block.Kinds as feed-block-kinds
+use Rattle.addercoil.proofs.lines.addercoil_feed_block.Reads as feed-block
+use Rattle.addercoil.proofs.places.addercoil_encode_position.Kinds as encode-position-kinds
+use Rattle.addercoil.proofs.places.addercoil_encode_position.Reads as encode-position
+use Rattle.addercoil.proofs.places.addercoil_pair.Kinds as pair-kinds
+use Rattle.addercoil.proofs.places.addercoil_pair.Reads as pair
+use Rattle.addercoil.proofs.places.addercoil_single.Kinds as single-kinds
+use Rattle.addercoil.proofs.places.addercoil_single.Reads as single
+use Rattle.addercoil.proofs.rows.addercoil_look_up.Kinds as look-up-kinds
+use Rattle.addercoil.proofs.rows.addercoil_look_up.Reads as look-up
+use Rattle.addercoil.proofs.rows.addercoil_decode.Kinds as decode-kinds
+use Rattle.addercoil.proofs.rows.addercoil_decode.Reads as decode
+use Rattle.addercoil.proofs.rows.addercoil_encode.Kinds as encode-kinds
+use Rattle.addercoil.proofs.rows.addercoil_encode.Reads as encode
+
+pub table-bytes-once : OneAnswer 0 table-bytes-kinds.ps table-bytes-kinds.r table-bytes.Post
+table-bytes-once κs args x y left left′ p q = p ∙ sym q
+
+pub set-up-once : OneOutcome 1 set-up-kinds.ps set-up-kinds.r Sent (λ κs x left. sent x (left .0 .now)) set-up.Post
+set-up-once κs args x y left left′ p q = p ∙ sym q
+
+pub set-up-at-once : OneOutcome 1 set-up-at-kinds.ps set-up-at-kinds.r Sent (λ κs x left. sent x (left .0 .now)) set-up-at.Post
+set-up-at-once κs args x y left left′ p q = p ∙ sym q
+
+pub receive-once : OneOutcome 2 receive-kinds.ps receive-kinds.r Sent (λ κs x left. sent x (left .0 .now)) receive.Post
+receive-once κs args x y left left′ p q = p ∙ sym q
+
+pub clock-once : OneOutcome 2 clock-kinds.ps clock-kinds.r Sent (λ κs x left. sent x (left .1 .0 .now)) clock.Post
+clock-once κs args x y left left′ p q = p ∙ sym q
+
+pub site-once : OneOutcome 2 site-kinds.ps site-kinds.r Sent (λ κs x left. sent x (left .1 .0 .now)) site.Post
+site-once κs args x y left left′ p q = p ∙ sym q
+
+pub next-once : OneOutcome 2 next-kinds.ps next-kinds.r Sent (λ κs x left. sent x (left .1 .1 .0 .now)) next.Post
+next-once κs args x y left left′ p q = p ∙ sym q
+
+pub header-once : OneOutcome 2 header-kinds.ps header-kinds.r Sent (λ κs x left. sent x (left .1 .1 .0 .now)) header.Post
+header-once κs args x y left left′ p q = p ∙ sym q
+
+pub line-once : OneOutcome 2 line-kinds.ps line-kinds.r Sent (λ κs x left. sent x (left .1 .1 .0 .now)) line.Post
+line-once κs args x y left left′ p q = p ∙ sym q
+
+pub encode-position-once : OneOutcome 1 encode-position-kinds.ps encode-position-kinds.r Sent (λ κs x left. sent x (left .1 .1 .1 .1 .0 .now)) encode-position.Post
+encode-position-once κs args x y left left′ p q = p ∙ sym q
+
+pub pair-once : OneOutcome 1 pair-kinds.ps pair-kinds.r Sent (λ κs x left. sent x (left .1 .1 .1 .1 .1 .0 .now)) pair.Post
+pair-once κs args x y left left′ p q = p ∙ sym q
+
+pub single-once : OneOutcome 1 single-kinds.ps single-kinds.r Sent (λ κs x left. sent x (left .1 .1 .1 .1 .1 .1 .0 .now)) single.Post
+single-once κs args x y left left′ p q = p ∙ sym q
+
+pub feed-block-once : OneOutcome 3 feed-block-kinds.ps feed-block-kinds.r Both (λ κs x left. both (sent x (left .1 .1 .1 .0 .now)) (left .0 .now)) feed-block.Post
+feed-block-once κs args x y left left′ p q = p ∙ sym q
+
+pub look-up-once : OneOutcome 2 look-up-kinds.ps look-up-kinds.r Sent (λ κs x left. sent x (left .1 .1 .0 .now)) look-up.Post
+look-up-once κs args x y left left′ p q = p ∙ sym q
+
+pub decode-once : OneOutcome 2 decode-kinds.ps decode-kinds.r Sent (λ κs x left. sent x (left .1 .0 .now)) decode.Post
+decode-once κs args x y left left′ p q = p ∙ sym q
+
+pub encode-once : OneOutcome 2 encode-kinds.ps encode-kinds.r Sent (λ κs x left. sent x (left .1 .0 .now)) encode.Post
+encode-once κs args x y left left′ p q = p ∙ sym q

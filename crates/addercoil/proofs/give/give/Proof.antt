@@ -1,0 +1,19 @@
+-- `addercoil::give::give` meets its contract: the array is filled with the list.
+-- Assumes nothing.
+use mathlib.Core.Path.{ap}
+use Rattle.addercoil.specs.Sent.{sent}
+use borrow.Author.Needs.{needs}
+use Rattle.addercoil.proofs.give.give.Statement.{statement}
+use Rattle.addercoil.proofs.give.give.Tie as tie
+
+fill-requires : tie.Need-fill-requires
+fill-requires c κs = search needs
+
+same-length : tie.Need-same-length
+same-length c = search needs
+
+returns : tie.Need-returns
+returns c = ap (sent 0) (c .before .before .fill .ensures)
+
+pub give-spec : {M : Type 1} → statement M
+give-spec = tie.close (tie.spec fill-requires same-length returns)

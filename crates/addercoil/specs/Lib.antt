@@ -1,0 +1,5 @@
+pub mod Lines
+pub mod Messages
+pub mod Places
+pub mod Sent
+pub mod Tables

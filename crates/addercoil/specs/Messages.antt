@@ -1,0 +1,48 @@
+-- A track and a message for another language, as the rows of numbers of the crate `values`.
+use Prim.Native.Nat.{ℕ}
+use mathlib.Core.Bool.{cond, not, _||_}
+use mathlib.Core.List.{List, [], _∷_}
+use lib.Dec.{eqb}
+use lib.ListN.{length}
+use Rattle.refusals.specs.Numbers.{numberOf}
+use Rattle.messages.specs.declared.Decoded.{Decoded}
+use Rattle.messages.specs.declared.Decoded.the-variants as decode
+use Rattle.messages.specs.declared.Encoded.{Encoded}
+use Rattle.messages.specs.declared.Encoded.the-variants as encode
+use Rattle.messages.specs.Message.{encoded, encodedBytes}
+use Rattle.messages.specs.Table.{Said, number, values}
+use Rattle.track.specs.declared.Track.{Track}
+use Rattle.table.specs.declared.Holding.{Holding}
+use Rattle.table.specs.declared.Holding.the-variants as holding
+use Rattle.table.specs.declared.Looked.{Looked}
+use Rattle.values.specs.From.{messageFrom}
+use Rattle.values.specs.Rows.{messageRow}
+use Rattle.values.specs.Tracks.{trackRow}
+use Rattle.addercoil.specs.Sent.{Sent, sent}
+
+-- the track of a key that is held; zeros for one that is not
+abbrev pub heldSaid : Track → Holding → Said
+heldSaid t holding.Held = values (trackRow t)
+heldSaid t holding.Unheld = values (0 ∷ [])
+heldSaid t (holding.Refused r) = number (numberOf r)
+
+abbrev pub lookedSaid : Looked → Said
+lookedSaid l = heldSaid (l .track) (l .answer)
+
+-- a decoded message
+abbrev pub messageSaid : Decoded → Said
+messageSaid (decode.Message m) = values (messageRow m)
+messageSaid (decode.Refused r) = number (numberOf r)
+
+-- the encoder's answer, and the bytes that it leaves
+abbrev pub encodedNumber : Encoded → ℕ
+encodedNumber encode.Written = 0
+encodedNumber (encode.Refused r) = numberOf r
+
+abbrev pub encodedAs : List ℕ → Decoded → Sent
+encodedAs out (decode.Message m) = sent (encodedNumber (encoded m out)) (encodedBytes m out)
+encodedAs out (decode.Refused r) = sent (numberOf r) out
+
+-- 1 for a wrong length of either, then 8
+unfoldable pub encodedFrom : List ℕ → List ℕ → Sent
+encodedFrom fields out = cond (not (eqb (length fields) 28) || not (eqb (length out) 14)) (sent 1 out) (encodedAs out (messageFrom fields))

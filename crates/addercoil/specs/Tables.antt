@@ -1,0 +1,66 @@
+-- The lent table for another language: each answer as a number of document 01's table, or as values.
+use Prim.Native.Nat.{ℕ, _+_, _*_}
+use mathlib.Core.Bool.{Bool, true, false, cond, _&&_}
+use mathlib.Core.List.{[], _∷_}
+use lib.Dec.{leb}
+use Rattle.refusals.specs.Numbers.{numberOf}
+use Rattle.arrays.specs.Twos.{twos}
+use Rattle.messages.specs.declared.Decoded.{Decoded}
+use Rattle.messages.specs.declared.Decoded.the-variants as decode
+use Rattle.messages.specs.Table.{Said, number, values}
+use Rattle.track.specs.declared.Site.{Site}
+use Rattle.table.specs.declared.SetUp.{SetUp}
+use Rattle.table.specs.declared.SetUp.the-variants as setting
+use Rattle.table.specs.declared.NextKey.{NextKey}
+use Rattle.table.specs.declared.NextKey.the-variants as next
+use Rattle.table.specs.declared.Clock.{Clock}
+use Rattle.table.specs.declared.Clock.the-variants as clock
+use Rattle.table.specs.declared.Sited.{Sited}
+use Rattle.table.specs.declared.Sited.the-variants as sited
+use Rattle.table.specs.Table.{After}
+use Rattle.addercoil.specs.Sent.{Sent, sent}
+
+-- how many bytes a table of so many places has; 0 if there is none
+abbrev pub bytesFor : ℕ → ℕ
+bytesFor places = cond (leb 1 places && leb places 1024) (16 + 79 * places) 0
+
+-- ---- a call that leaves a table: 0 or its number, and the table
+
+abbrev pub setUpNumber : SetUp → ℕ
+setUpNumber setting.Done = 0
+setUpNumber (setting.Refused r) = numberOf r
+
+unfoldable pub setUpSent : After SetUp → Sent
+setUpSent a = sent (setUpNumber (a .answer)) (a .table)
+
+abbrev pub decodedNumber : Decoded → ℕ
+decodedNumber (decode.Message m) = 0
+decodedNumber (decode.Refused r) = numberOf r
+
+unfoldable pub receivedSent : After Decoded → Sent
+receivedSent a = sent (decodedNumber (a .answer)) (a .table)
+
+-- ---- what can be read of it
+
+-- the clock
+abbrev pub clockSaid : Clock → Said
+clockSaid (clock.At time) = values (time ∷ [])
+clockSaid (clock.Refused r) = number (numberOf r)
+
+abbrev pub bit : Bool → ℕ
+bit true = 1
+bit false = 0
+
+-- whether there is a site, its latitude, its longitude
+abbrev pub siteValues : Site → Said
+siteValues s = values (bit (s .known) ∷ twos (s .spot .latitude) ∷ s .spot .longitude ∷ [])
+
+abbrev pub siteSaid : Sited → Said
+siteSaid (sited.Site s) = siteValues s
+siteSaid (sited.Refused r) = number (numberOf r)
+
+-- the key, or 0 at the end
+abbrev pub nextSaid : NextKey → Said
+nextSaid (next.Key key) = values (key ∷ [])
+nextSaid next.End = values (0 ∷ [])
+nextSaid (next.Refused r) = number (numberOf r)

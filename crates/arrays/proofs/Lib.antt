@@ -1,0 +1,3 @@
+pub mod Filling
+pub mod Raised
+pub mod Unique

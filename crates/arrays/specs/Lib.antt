@@ -1,0 +1,2 @@
+pub mod Arrays
+pub mod Twos

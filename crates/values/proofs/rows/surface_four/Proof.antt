@@ -1,0 +1,34 @@
+-- `values::rows::surface_four` meets its contract: each reading is the definition's.
+-- Assumes nothing.
+use borrow.Author.Needs.{needs}
+use Rattle.values.proofs.rows.surface_four.Statement.{statement}
+use Rattle.values.proofs.rows.surface_four.Tie as tie
+
+surface-readings-requires : tie.Need-surface-readings-requires
+surface-readings-requires c κs = search needs
+
+movement-reading-requires : tie.Need-movement-reading-requires
+movement-reading-requires c κs = search needs
+
+heading-reading-requires : tie.Need-heading-reading-requires
+heading-reading-requires c κs = search needs
+
+only-requires : tie.Need-only-requires
+only-requires c κs = search needs
+
+only-requires-2 : tie.Need-only-requires-2
+only-requires-2 c κs = search needs
+
+returns : tie.Need-returns
+returns c = rw (c .only2 .ensures, c .before .only .ensures, c .before .before .heading-reading .ensures, c .before .before .before .movement-reading .ensures, c .before .before .before .before .surface-readings .ensures)
+
+pub surface-four-spec : {M : Type 1} → statement M
+surface-four-spec =
+    tie.close
+    (tie.spec
+    surface-readings-requires
+    movement-reading-requires
+    heading-reading-requires
+    only-requires
+    only-requires-2
+    returns)

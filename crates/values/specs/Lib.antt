@@ -1,0 +1,4 @@
+pub mod From
+pub mod Means
+pub mod Rows
+pub mod Tracks

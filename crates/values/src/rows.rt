@@ -1,0 +1,307 @@
+// A message as 28 numbers, layout by layout.
+use crate::means::Reading;
+use crate::means::altitude_reading;
+use crate::means::bit;
+use crate::means::difference_reading;
+use crate::means::heading_reading;
+use crate::means::movement_reading;
+use crate::means::only;
+use crate::means::rate_reading;
+use crate::means::set_reading;
+use crate::means::speed_reading;
+use crate::means::text_reading;
+use layouts::Air;
+use layouts::Airborne;
+use layouts::Body;
+use layouts::Ground;
+use layouts::Identification;
+use layouts::Surface;
+use messages::Message;
+ghost use mathlib.Core.Path.{_≡_};
+ghost use Rattle.layouts.specs.Layouts.{identificationFields, surfaceFields, airborneFields, groundFields, airFields};
+ghost use Rattle.values.specs.Rows.{identificationFour, surfaceFour, airborneFour, groundFour, airFour, rowOf, messageRow};
+
+// The readings of a layout.
+pub struct Four {
+    pub first: Reading,
+    pub second: Reading,
+    pub third: Reading,
+    pub fourth: Reading,
+}
+
+fn identification_four(b: Identification) -> Four
+    ensures { λ r. ⌜ r ≡ identificationFour b ⌝ }
+{
+    let m = readings::identification_readings(b);
+    let set = m.set;
+    let text = m.text;
+    Four {
+        first: set_reading(set),
+        second: text_reading(text),
+        third: only(0),
+        fourth: only(0),
+    }
+}
+
+fn surface_four(b: Surface) -> Four
+    ensures { λ r. ⌜ r ≡ surfaceFour b ⌝ }
+{
+    let m = readings::surface_readings(b);
+    let movement = m.movement;
+    let heading = m.heading;
+    Four {
+        first: movement_reading(movement),
+        second: heading_reading(heading),
+        third: only(0),
+        fourth: only(0),
+    }
+}
+
+fn airborne_four(b: Airborne) -> Four
+    ensures { λ r. ⌜ r ≡ airborneFour b ⌝ }
+{
+    let m = readings::airborne_readings(b);
+    let altitude = m.altitude;
+    Four {
+        first: altitude_reading(altitude),
+        second: Reading {
+            what: 1,
+            value: bit(m.gnss),
+        },
+        third: only(0),
+        fourth: only(0),
+    }
+}
+
+fn ground_four(b: Ground) -> Four
+    ensures { λ r. ⌜ r ≡ groundFour b ⌝ }
+{
+    let m = readings::ground_readings(b);
+    let east = m.east;
+    let north = m.north;
+    let rate = m.rate;
+    let difference = m.difference;
+    Four {
+        first: speed_reading(east),
+        second: speed_reading(north),
+        third: rate_reading(rate),
+        fourth: difference_reading(difference),
+    }
+}
+
+fn air_four(b: Air) -> Four
+    ensures { λ r. ⌜ r ≡ airFour b ⌝ }
+{
+    let m = readings::air_readings(b);
+    let heading = m.heading;
+    let airspeed = m.airspeed;
+    let rate = m.rate;
+    let difference = m.difference;
+    Four {
+        first: heading_reading(heading),
+        second: speed_reading(airspeed),
+        third: rate_reading(rate),
+        fourth: difference_reading(difference),
+    }
+}
+
+fn identification_row(m: Message, b: Identification) -> [u64; 28]
+    ensures { λ r. ⌜ r ≡ rowOf 1 m (identificationFields b) (identificationFour b) ⌝ }
+{
+    let key = messages::key_of(m) as u64;
+    let r = identification_four(b);
+    [
+        1,
+        m.format as u64,
+        m.control as u64,
+        m.address as u64,
+        key,
+        b.typecode as u64,
+        b.category as u64,
+        b.characters,
+        0,
+        0,
+        0,
+        0,
+        0,
+        0,
+        0,
+        0,
+        0,
+        0,
+        0,
+        0,
+        r.first.what,
+        r.first.value,
+        r.second.what,
+        r.second.value,
+        r.third.what,
+        r.third.value,
+        r.fourth.what,
+        r.fourth.value,
+    ]
+}
+
+fn surface_row(m: Message, b: Surface) -> [u64; 28]
+    ensures { λ r. ⌜ r ≡ rowOf 2 m (surfaceFields b) (surfaceFour b) ⌝ }
+{
+    let key = messages::key_of(m) as u64;
+    let r = surface_four(b);
+    [
+        2,
+        m.format as u64,
+        m.control as u64,
+        m.address as u64,
+        key,
+        b.typecode as u64,
+        b.movement as u64,
+        b.status as u64,
+        b.heading as u64,
+        b.t as u64,
+        b.f as u64,
+        b.latitude.0 as u64,
+        b.longitude.0 as u64,
+        0,
+        0,
+        0,
+        0,
+        0,
+        0,
+        0,
+        r.first.what,
+        r.first.value,
+        r.second.what,
+        r.second.value,
+        r.third.what,
+        r.third.value,
+        r.fourth.what,
+        r.fourth.value,
+    ]
+}
+
+fn airborne_row(m: Message, b: Airborne) -> [u64; 28]
+    ensures { λ r. ⌜ r ≡ rowOf 3 m (airborneFields b) (airborneFour b) ⌝ }
+{
+    let key = messages::key_of(m) as u64;
+    let r = airborne_four(b);
+    [
+        3,
+        m.format as u64,
+        m.control as u64,
+        m.address as u64,
+        key,
+        b.typecode as u64,
+        b.surveillance as u64,
+        b.bit8 as u64,
+        b.altitude as u64,
+        b.t as u64,
+        b.f as u64,
+        b.latitude.0 as u64,
+        b.longitude.0 as u64,
+        0,
+        0,
+        0,
+        0,
+        0,
+        0,
+        0,
+        r.first.what,
+        r.first.value,
+        r.second.what,
+        r.second.value,
+        r.third.what,
+        r.third.value,
+        r.fourth.what,
+        r.fourth.value,
+    ]
+}
+
+fn ground_row(m: Message, b: Ground) -> [u64; 28]
+    ensures { λ r. ⌜ r ≡ rowOf 4 m (groundFields b) (groundFour b) ⌝ }
+{
+    let key = messages::key_of(m) as u64;
+    let r = ground_four(b);
+    let v = b.vertical;
+    [
+        4,
+        m.format as u64,
+        m.control as u64,
+        m.address as u64,
+        key,
+        b.typecode as u64,
+        b.subtype as u64,
+        b.bit9 as u64,
+        b.bit10 as u64,
+        b.nacv as u64,
+        b.west as u64,
+        b.eastward as u64,
+        b.south as u64,
+        b.northward as u64,
+        v.source as u64,
+        v.down as u64,
+        v.rate as u64,
+        v.reserved as u64,
+        v.below as u64,
+        v.difference as u64,
+        r.first.what,
+        r.first.value,
+        r.second.what,
+        r.second.value,
+        r.third.what,
+        r.third.value,
+        r.fourth.what,
+        r.fourth.value,
+    ]
+}
+
+fn air_row(m: Message, b: Air) -> [u64; 28]
+    ensures { λ r. ⌜ r ≡ rowOf 5 m (airFields b) (airFour b) ⌝ }
+{
+    let key = messages::key_of(m) as u64;
+    let r = air_four(b);
+    let v = b.vertical;
+    [
+        5,
+        m.format as u64,
+        m.control as u64,
+        m.address as u64,
+        key,
+        b.typecode as u64,
+        b.subtype as u64,
+        b.bit9 as u64,
+        b.bit10 as u64,
+        b.nacv as u64,
+        b.status as u64,
+        b.heading as u64,
+        b.airspeedkind as u64,
+        b.airspeed as u64,
+        v.source as u64,
+        v.down as u64,
+        v.rate as u64,
+        v.reserved as u64,
+        v.below as u64,
+        v.difference as u64,
+        r.first.what,
+        r.first.value,
+        r.second.what,
+        r.second.value,
+        r.third.what,
+        r.third.value,
+        r.fourth.what,
+        r.fourth.value,
+    ]
+}
+
+// A message as 28 numbers.
+pub fn message_values(m: Message) -> [u64; 28]
+    ensures { λ r. ⌜ r ≡ messageRow m ⌝ }
+{
+    let body = m.body;
+    match body {
+        Body::Identification(b) => identification_row(m, b),
+        Body::Surface(b) => surface_row(m, b),
+        Body::Airborne(b) => airborne_row(m, b),
+        Body::Ground(b) => ground_row(m, b),
+        Body::Air(b) => air_row(m, b),
+    }
+}

@@ -1,0 +1,327 @@
+/*
+ * Addercoil: ADS-B messages decoded, encoded and kept as tracks.
+ *
+ * Every function here is proved: for all arguments it ends, does nothing undefined, and gives the one answer that its
+ * contract states. Nothing is allocated, nothing is global, nothing is printed, and no call keeps a pointer.
+ *
+ * What the caller must keep
+ *   - A lent array is a pointer and a count of its elements, one after the other, and has at least as many elements as
+ *     the count says. The pointer may be null only with the count 0.
+ *   - It is aligned as its type is, and no two arrays of one call overlap.
+ *   - While a call runs, nobody else writes what it was lent, or reads what it was lent to write: one caller at a time
+ *     for one table. Two tables may be used at once.
+ *
+ * Results
+ *   - A function answers 0, or a number that says why it refused (ADDERCOIL_LENGTH and so on). Where it could refuse for
+ *     several reasons, it says the first in the order in which its comment lists them.
+ *   - A result goes into a lent array that has just as many elements as its comment says. An array of another length is
+ *     refused with ADDERCOIL_LENGTH. A call that refuses leaves its result array as it was.
+ *   - A number that can be below zero stands in a uint64_t in two's complement: (int64_t)out[i] is the number.
+ *   - Unused entries are 0.
+ *
+ * Units
+ *   - Latitude and longitude are in 2^-32 of a turn of 360 degrees. Latitude is signed, -2^30 (south pole) to 2^30.
+ *     Longitude runs from 0 to the east, so that 2^31 is 180 degrees.
+ *   - Times are in milliseconds, from whatever start the caller likes.
+ *   - A key is an aircraft: its kind, 1 for an ICAO address and 2 for another one, times 2^24, plus its 24-bit address.
+ *
+ * Link with libaddercoil.a, which `rt staticlib addercoil` writes to target/staticlib/.
+ */
+#ifndef ADDERCOIL_H
+#define ADDERCOIL_H
+
+#include <stddef.h>
+#include <stdint.h>
+
+#ifdef __cplusplus
+extern "C" {
+#endif
+
+/* The numbers that come back. */
+enum {
+    ADDERCOIL_OK = 0,
+    ADDERCOIL_LENGTH = 1,    /* a message that is not of 14 bytes, or a result array of a wrong length */
+    ADDERCOIL_LATE = 2,      /* a time below the table's clock */
+    ADDERCOIL_PARITY = 3,    /* a parity remainder that is not 0 */
+    ADDERCOIL_FORMAT = 4,    /* a DF or CF that is not taken: only DF 17, and DF 18 with CF 0 or 1, are */
+    ADDERCOIL_TYPE = 5,      /* a TYPE or subtype that is not taken */
+    ADDERCOIL_FULL = 6,      /* a new aircraft, and no place is free */
+    ADDERCOIL_PLACES = 7,    /* a table that is not of 1 to 1,024 whole places */
+    ADDERCOIL_FIELD = 8,     /* a field wider than its bits, a field that no such message has, a latitude beyond a pole */
+    ADDERCOIL_LATITUDE = 9,  /* a decoded latitude beyond a pole */
+    ADDERCOIL_ZONES = 10     /* two latitudes in different longitude zones */
+};
+
+/* ---- The table: tracks in bytes that the caller lends ---- */
+
+/* Bytes of a table of so many places, 1 to 1,024. As a function: addercoil_table_bytes. */
+#define ADDERCOIL_TABLE_BYTES(places) (16 + 79 * (size_t)(places))
+
+/* How many bytes a table of so many places has. 0 if it is not 1 to 1,024 places. */
+size_t addercoil_table_bytes(size_t places);
+
+/*
+ * Empties the table: no track, no site, clock 0. Bytes that never were a table may be handed over.
+ * Or ADDERCOIL_PLACES, which leaves the table as it was.
+ */
+uint32_t addercoil_set_up(uint8_t *table, size_t table_len);
+
+/*
+ * The same, with the site of the receiver: surface positions are read against it until the aircraft has one of its own.
+ * Or ADDERCOIL_PLACES, ADDERCOIL_FIELD for the latitude; each leaves the table as it was.
+ */
+uint32_t addercoil_set_up_at(uint8_t *table, size_t table_len, int32_t latitude, uint32_t longitude);
+
+/*
+ * A message of 14 bytes received at a time: starts or updates its aircraft's track, and moves the clock to the time.
+ * A track goes when it was last heard 125,000 ms ago.
+ * Or ADDERCOIL_LENGTH, ADDERCOIL_PLACES, ADDERCOIL_LATE, which leave the table as it was;
+ * or ADDERCOIL_PARITY, ADDERCOIL_FORMAT, ADDERCOIL_TYPE, ADDERCOIL_FULL, which move the clock and leave the tracks.
+ */
+uint32_t addercoil_receive(uint8_t *table, size_t table_len, const uint8_t *message, size_t message_len, uint64_t time);
+
+/* The clock: the latest time, into out of 1 entry. Or ADDERCOIL_LENGTH, ADDERCOIL_PLACES. */
+uint32_t addercoil_clock(const uint8_t *table, size_t table_len, uint64_t *out, size_t out_len);
+
+/* The entries of addercoil_site. */
+enum {
+    ADDERCOIL_SITE_KNOWN,     /* 0 or 1 */
+    ADDERCOIL_SITE_LATITUDE,  /* signed */
+    ADDERCOIL_SITE_LONGITUDE,
+    ADDERCOIL_SITE            /* how many there are */
+};
+
+/* The site, into out of ADDERCOIL_SITE entries. Or ADDERCOIL_LENGTH, ADDERCOIL_PLACES. */
+uint32_t addercoil_site(const uint8_t *table, size_t table_len, uint64_t *out, size_t out_len);
+
+/*
+ * The smallest key that is held above the given one, or 0 if there is none, into out of 1 entry. From key 0 on, this
+ * walks the table in the order of its keys. Or ADDERCOIL_LENGTH, ADDERCOIL_PLACES.
+ */
+uint32_t addercoil_next(const uint8_t *table, size_t table_len, uint32_t key, uint64_t *out, size_t out_len);
+
+/* The entries of addercoil_look_up. A reading is two entries: what it is (see ADDERCOIL_KNOWN below), and its value. */
+enum {
+    ADDERCOIL_TRACK_HELD,                  /* 0 or 1 */
+    ADDERCOIL_TRACK_HEARD,                 /* time of its last message */
+    ADDERCOIL_TRACK_IDENTIFICATION,        /* the 56 bits of ME of its last identification, 0 if there is none */
+    ADDERCOIL_TRACK_VELOCITY,              /* .. velocity */
+    ADDERCOIL_TRACK_SURFACE,               /* .. surface position */
+    ADDERCOIL_TRACK_PRESSURE_CODE,         /* 12 bits, 0 unknown */
+    ADDERCOIL_TRACK_HEIGHT_CODE,           /* 12 bits, 0 unknown */
+    ADDERCOIL_TRACK_POSITION_KNOWN,        /* 0 or 1 */
+    ADDERCOIL_TRACK_LATITUDE,              /* signed */
+    ADDERCOIL_TRACK_LONGITUDE,
+    ADDERCOIL_TRACK_POSITION_TIME,
+    ADDERCOIL_TRACK_EVEN_KNOWN,            /* the latest even encoded position: 0 or 1 */
+    ADDERCOIL_TRACK_EVEN_LATITUDE_COUNT,
+    ADDERCOIL_TRACK_EVEN_LONGITUDE_COUNT,
+    ADDERCOIL_TRACK_EVEN_TIME,
+    ADDERCOIL_TRACK_ODD_KNOWN,             /* the latest odd one: 0 or 1 */
+    ADDERCOIL_TRACK_ODD_LATITUDE_COUNT,
+    ADDERCOIL_TRACK_ODD_LONGITUDE_COUNT,
+    ADDERCOIL_TRACK_ODD_TIME,
+    ADDERCOIL_TRACK_ALTITUDE_IS,           /* pressure altitude: a reading, in feet, signed */
+    ADDERCOIL_TRACK_ALTITUDE,
+    ADDERCOIL_TRACK_GNSS_HEIGHT_IS,        /* GNSS height: a reading, in feet, signed */
+    ADDERCOIL_TRACK_GNSS_HEIGHT,
+    ADDERCOIL_TRACK                        /* how many there are */
+};
+
+/*
+ * The track of a key, into out of ADDERCOIL_TRACK entries: all 0 if it is not held. Or ADDERCOIL_LENGTH,
+ * ADDERCOIL_PLACES.
+ */
+uint32_t addercoil_look_up(const uint8_t *table, size_t table_len, uint32_t key, uint64_t *out, size_t out_len);
+
+/* ---- The listing: a header, then a line for each key ---- */
+
+/* Bytes of a buffer for one line: 96 of text at most, and a zero, so that it is always a C string. */
+#define ADDERCOIL_LINE 97
+
+/*
+ * The listing's first line, "clock C tracks T bad-blocks B" and a newline, then zeros, into out of ADDERCOIL_LINE bytes;
+ * bad is the number that it prints. Or ADDERCOIL_LENGTH, ADDERCOIL_PLACES.
+ */
+uint32_t addercoil_header(const uint8_t *table, size_t table_len, uint64_t bad, uint8_t *out, size_t out_len);
+
+/*
+ * The line of a key, "I ABCDEF 1400 536870912 1073741824 10000" and a newline, then zeros, into out of ADDERCOIL_LINE
+ * bytes: kind I or O, address, last heard, latitude, longitude, pressure altitude, "-" for what is unknown. All zeros,
+ * the empty string, if the key is not held. Or ADDERCOIL_LENGTH, ADDERCOIL_PLACES.
+ */
+uint32_t addercoil_line(const uint8_t *table, size_t table_len, uint32_t key, uint8_t *out, size_t out_len);
+
+/* Bytes of a block of a capture. */
+#define ADDERCOIL_BLOCK 512
+
+/*
+ * One block of a capture: each of its records is received, and what is refused of them is passed over. bad is the
+ * number of bad blocks before it, and that number after it goes into out of 1 entry; a block that fails its rules, also
+ * one that is not of ADDERCOIL_BLOCK bytes, counts one more (never above 2^64 - 1) and leaves the table as it was.
+ * Or ADDERCOIL_LENGTH, ADDERCOIL_PLACES, which leave the table as it was.
+ */
+uint32_t addercoil_feed_block(uint8_t *table, size_t table_len, const uint8_t *block, size_t block_len, uint64_t bad,
+                              uint64_t *out, size_t out_len);
+
+/* ---- Positions ---- */
+
+/* The entries of a place, and of its two counts of 17 bits. */
+enum { ADDERCOIL_PLACE_LATITUDE /* signed */, ADDERCOIL_PLACE_LONGITUDE, ADDERCOIL_PLACE /* how many there are */ };
+enum { ADDERCOIL_COUNT_LATITUDE, ADDERCOIL_COUNT_LONGITUDE, ADDERCOIL_COUNTS /* how many there are */ };
+
+/*
+ * The counts that a message says of a place, into out of ADDERCOIL_COUNTS entries. surface: 0 airborne, 1 surface.
+ * odd: 0 even, 1 odd. Or ADDERCOIL_LENGTH, ADDERCOIL_FIELD for surface or odd above 1 or a latitude beyond a pole.
+ */
+uint32_t addercoil_encode_position(int32_t latitude, uint32_t longitude, uint32_t surface, uint32_t odd, uint64_t *out,
+                                   size_t out_len);
+
+/*
+ * The place of two airborne messages, an even and an odd one, into out of ADDERCOIL_PLACE entries: that of the later
+ * one, which is the odd one if later_odd is 1. Or ADDERCOIL_LENGTH, ADDERCOIL_FIELD for a count above 131,071 or
+ * later_odd above 1, ADDERCOIL_LATITUDE, ADDERCOIL_ZONES.
+ */
+uint32_t addercoil_pair(uint32_t even_latitude, uint32_t even_longitude, uint32_t odd_latitude, uint32_t odd_longitude,
+                        uint32_t later_odd, uint64_t *out, size_t out_len);
+
+/*
+ * The place of one message near a reference, latitude and longitude, into out of ADDERCOIL_PLACE entries. Or
+ * ADDERCOIL_LENGTH, ADDERCOIL_FIELD for a count above 131,071, surface or odd above 1 or a latitude beyond a pole,
+ * ADDERCOIL_LATITUDE.
+ */
+uint32_t addercoil_single(int32_t latitude, uint32_t longitude, uint32_t count_latitude, uint32_t count_longitude,
+                          uint32_t surface, uint32_t odd, uint64_t *out, size_t out_len);
+
+/* ---- Messages ---- */
+
+/* Bytes of a message. */
+#define ADDERCOIL_MESSAGE 14
+
+/* What a reading is. Its value stands in the next entry, and is 0 where nothing else is said. */
+enum {
+    ADDERCOIL_UNKNOWN = 0,
+    ADDERCOIL_KNOWN = 1,
+    ADDERCOIL_OVER = 2,    /* above what the code can say; of a surface movement the value is where that begins */
+    ADDERCOIL_NONE = 3,    /* a reserved code */
+    ADDERCOIL_STOPPED = 4  /* of a surface movement */
+};
+
+/* The layouts, in entry 0 of the fields. */
+enum {
+    ADDERCOIL_IDENTIFICATION = 1,  /* TYPE 1-4 */
+    ADDERCOIL_SURFACE = 2,         /* TYPE 5-8 */
+    ADDERCOIL_AIRBORNE = 3,        /* TYPE 9-18 and 20-22 */
+    ADDERCOIL_GROUND = 4,          /* TYPE 19, subtypes 1 and 2: velocity over ground */
+    ADDERCOIL_AIR = 5              /* TYPE 19, subtypes 3 and 4: velocity through air */
+};
+
+/* How many entries the fields of a message have. */
+#define ADDERCOIL_FIELDS 28
+
+/* The first five entries, alike in all layouts. */
+enum {
+    ADDERCOIL_LAYOUT = 0,
+    ADDERCOIL_DF = 1,
+    ADDERCOIL_CA = 2,   /* of DF 17; CF of DF 18 */
+    ADDERCOIL_AA = 3,   /* the address */
+    ADDERCOIL_KEY = 4,  /* the encoder does not read it */
+    ADDERCOIL_TYPECODE = 5
+};
+
+/* From entry 5 on the fields of ME in the order of their bits; from entry 20 on readings, which the encoder does not read. */
+enum {
+    ADDERCOIL_IDENTIFICATION_CATEGORY = 6,
+    ADDERCOIL_IDENTIFICATION_CHARACTERS = 7,  /* eight of 6 bits, the first the highest */
+    ADDERCOIL_IDENTIFICATION_SET_IS = 20,     /* category set: 'A' to 'D' */
+    ADDERCOIL_IDENTIFICATION_SET = 21,
+    ADDERCOIL_IDENTIFICATION_TEXT_IS = 22,    /* eight bytes of ASCII as one number, the first the highest */
+    ADDERCOIL_IDENTIFICATION_TEXT = 23
+};
+enum {
+    ADDERCOIL_SURFACE_MOVEMENT = 6,
+    ADDERCOIL_SURFACE_STATUS = 7,  /* 1 if the heading is valid */
+    ADDERCOIL_SURFACE_HEADING = 8,
+    ADDERCOIL_SURFACE_T = 9,
+    ADDERCOIL_SURFACE_F = 10,  /* 0 even, 1 odd */
+    ADDERCOIL_SURFACE_LATITUDE_COUNT = 11,
+    ADDERCOIL_SURFACE_LONGITUDE_COUNT = 12,
+    ADDERCOIL_SURFACE_SPEED_IS = 20,  /* 48ths of a knot, the lower edge */
+    ADDERCOIL_SURFACE_SPEED = 21,
+    ADDERCOIL_SURFACE_TURN_IS = 22,  /* heading in 2^-32 of a turn, whatever the status says */
+    ADDERCOIL_SURFACE_TURN = 23
+};
+enum {
+    ADDERCOIL_AIRBORNE_SURVEILLANCE = 6,
+    ADDERCOIL_AIRBORNE_BIT8 = 7,
+    ADDERCOIL_AIRBORNE_ALTITUDE_CODE = 8,
+    ADDERCOIL_AIRBORNE_T = 9,
+    ADDERCOIL_AIRBORNE_F = 10,  /* 0 even, 1 odd */
+    ADDERCOIL_AIRBORNE_LATITUDE_COUNT = 11,
+    ADDERCOIL_AIRBORNE_LONGITUDE_COUNT = 12,
+    ADDERCOIL_AIRBORNE_ALTITUDE_IS = 20,  /* feet, signed */
+    ADDERCOIL_AIRBORNE_ALTITUDE = 21,
+    ADDERCOIL_AIRBORNE_GNSS_IS = 22,  /* always known: 1 if the altitude is a GNSS height, 0 if by pressure */
+    ADDERCOIL_AIRBORNE_GNSS = 23
+};
+enum {
+    ADDERCOIL_GROUND_SUBTYPE = 6,
+    ADDERCOIL_GROUND_BIT9 = 7,
+    ADDERCOIL_GROUND_BIT10 = 8,
+    ADDERCOIL_GROUND_NACV = 9,
+    ADDERCOIL_GROUND_WEST = 10,
+    ADDERCOIL_GROUND_EASTWARD = 11,
+    ADDERCOIL_GROUND_SOUTH = 12,
+    ADDERCOIL_GROUND_NORTHWARD = 13,
+    ADDERCOIL_GROUND_EAST_IS = 20,  /* knots, signed: west is below zero */
+    ADDERCOIL_GROUND_EAST = 21,
+    ADDERCOIL_GROUND_NORTH_IS = 22,  /* knots, signed: south is below zero */
+    ADDERCOIL_GROUND_NORTH = 23
+};
+enum {
+    ADDERCOIL_AIR_SUBTYPE = 6,
+    ADDERCOIL_AIR_BIT9 = 7,
+    ADDERCOIL_AIR_BIT10 = 8,
+    ADDERCOIL_AIR_NACV = 9,
+    ADDERCOIL_AIR_STATUS = 10,  /* 1 if the heading is valid */
+    ADDERCOIL_AIR_HEADING = 11,
+    ADDERCOIL_AIR_AIRSPEED_KIND = 12,
+    ADDERCOIL_AIR_AIRSPEED = 13,
+    ADDERCOIL_AIR_TURN_IS = 20,  /* heading in 2^-32 of a turn, whatever the status says */
+    ADDERCOIL_AIR_TURN = 21,
+    ADDERCOIL_AIR_SPEED_IS = 22,  /* knots */
+    ADDERCOIL_AIR_SPEED = 23
+};
+/* Both velocities end alike. */
+enum {
+    ADDERCOIL_VERTICAL_SOURCE = 14,
+    ADDERCOIL_VERTICAL_DOWN = 15,
+    ADDERCOIL_VERTICAL_RATE_CODE = 16,
+    ADDERCOIL_VERTICAL_RESERVED = 17,
+    ADDERCOIL_VERTICAL_BELOW = 18,
+    ADDERCOIL_VERTICAL_DIFFERENCE_CODE = 19,
+    ADDERCOIL_VERTICAL_RATE_IS = 24,  /* feet per minute, signed: down is below zero */
+    ADDERCOIL_VERTICAL_RATE = 25,
+    ADDERCOIL_VERTICAL_DIFFERENCE_IS = 26,  /* feet, signed: GNSS height less pressure altitude */
+    ADDERCOIL_VERTICAL_DIFFERENCE = 27
+};
+
+/*
+ * What a message of ADDERCOIL_MESSAGE bytes says, into fields of ADDERCOIL_FIELDS entries. Or ADDERCOIL_LENGTH,
+ * ADDERCOIL_PARITY, ADDERCOIL_FORMAT, ADDERCOIL_TYPE.
+ */
+uint32_t addercoil_decode(const uint8_t *message, size_t message_len, uint64_t *fields, size_t fields_len);
+
+/*
+ * The message that says the fields, its parity included, into message of ADDERCOIL_MESSAGE bytes. It reads the layout,
+ * DF, CA or CF, AA and the fields of ME of that layout, and no other entry. Or ADDERCOIL_LENGTH for either array,
+ * ADDERCOIL_FIELD for a layout that is not 1 to 5, a field wider than its bits, or fields that addercoil_decode would
+ * refuse; each leaves message as it was.
+ */
+uint32_t addercoil_encode(const uint64_t *fields, size_t fields_len, uint8_t *message, size_t message_len);
+
+#ifdef __cplusplus
+}
+#endif
+
+#endif
