@@ -1,4 +1,5 @@
 pub mod Encoding
+pub mod Laws
 pub mod Placed
 pub mod Reported
 pub mod Unique

@@ -3,6 +3,7 @@
 use Prim.Native.Nat.{ℕ, zero, suc, _+_, _<_}
 use mathlib.Core.Path.{_≡_, refl, sym, ap, _∙_}
 use mathlib.Core.List.{List, [], _∷_, _++_}
+use native.Mathlib.Nat.{not-suc-le-zero, le-of-suc-le-suc}
 use native.Mathlib.Numerals.{add-one}
 use lib.ListN.{length, take, getD, set, replicate}
 use lib.Seq.{take-suc-set, take-length}
@@ -32,3 +33,11 @@ filled-zeros zero values k = refl
 filled-zeros (suc n) [] zero = refl
 filled-zeros (suc n) [] (suc k) = ap (λ (l : List ℕ). 0 ∷ l) (filled-zeros n [] k)
 filled-zeros (suc n) (x ∷ values) k = ap (λ (l : List ℕ). x ∷ l) (filled-zeros n values k)
+
+-- an entry of the array is that of the values
+pub filled-at : (n : ℕ) (values : List ℕ) (i : ℕ) → i < n → getD (filled n values) i 0 ≡ getD values i 0
+filled-at zero values i h = absurd (not-suc-le-zero h)
+filled-at (suc n) [] zero h = refl
+filled-at (suc n) [] (suc i) h = filled-at n [] i (le-of-suc-le-suc h)
+filled-at (suc n) (x ∷ values) zero h = refl
+filled-at (suc n) (x ∷ values) (suc i) h = filled-at n values i (le-of-suc-le-suc h)

@@ -1,1 +1,3 @@
+pub mod BothWays
+pub mod ReadBack
 pub mod Unique

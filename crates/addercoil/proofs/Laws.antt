@@ -1,0 +1,126 @@
+-- Laws of the interface: decoding then encoding gives the same 14 bytes, encoding then decoding the same fields, and every line ends in a zero. Each follows from the law of the crate below.
+-- Assumes nothing.
+use Prim.Native.Nat.{ℕ, _≤_}
+use mathlib.Core.Path.{_≡_, refl, sym, ap, ap₂, _∙_}
+use mathlib.Core.Bool.{Bool, true, false, cond, not, _||_}
+use mathlib.Core.List.{List, []}
+use mathlib.Core.Option.{Option, some, none}
+use native.Mathlib.Omega.{arith}
+use borrow.Author.Tests.{eq-eqb}
+use lib.Dec.{eqb}
+use lib.ListN.{length, getD, List·getD-eq-default}
+use Rattle.refusals.specs.declared.Refusal.{Refusal}
+use Rattle.refusals.specs.declared.Refusal.the-variants.{Length, Late, Parity, Format, TypeCode, Full, Places, Field, Latitude, Zones, Block}
+use Rattle.refusals.specs.Numbers.{numberOf}
+use Rattle.arrays.specs.Arrays.{filled}
+use Rattle.arrays.proofs.Filling.{filled-at}
+use Rattle.fields.specs.Bytes.{Bytes}
+use Rattle.fields.proofs.Bools.{by-test}
+use Rattle.layouts.specs.declared.bodies.Body.{Body}
+use Rattle.layouts.specs.declared.bodies.Body.the-variants as body
+use Rattle.messages.specs.declared.Message.{Message}
+use Rattle.messages.specs.declared.Decoded.{Decoded}
+use Rattle.messages.specs.declared.Decoded.the-variants as decode
+use Rattle.messages.specs.declared.Encoded.the-variants as encode
+use Rattle.messages.specs.Message.{decoded, messageFits, encoded, encodedBytes}
+use Rattle.messages.specs.Table.{values}
+use Rattle.messages.proofs.BothWays as messages
+use Rattle.track.specs.declared.Track.{Track}
+use Rattle.text.proofs.Fits.{header-most, row-most}
+use Rattle.table.specs.Layout.{clockOf}
+use Rattle.report.specs.Listing.{rowOf as lineRow, counted, headerFor, lineFor}
+use Rattle.values.specs.From.{messageFrom}
+use Rattle.values.specs.Rows.{rowOf, bodyRow, messageRow}
+use Rattle.values.specs.Same.{Same}
+use Rattle.values.proofs.BothWays.{from-row}
+use Rattle.values.proofs.ReadBack.{from-same}
+use Rattle.addercoil.specs.Sent.{Sent, sent, into}
+use Rattle.addercoil.specs.Messages.{messageSaid, encodedNumber, encodedAs, encodedFrom}
+use Rattle.addercoil.proofs.Encoding.{encode-right}
+
+-- ---- a row fills its array
+
+row-length : (m : Message) (b : Body) → length (bodyRow m b) ≡ 28
+unfolding rowOf
+row-length m (body.Identification b) = refl
+row-length m (body.Surface b) = refl
+row-length m (body.Airborne b) = refl
+row-length m (body.Ground b) = refl
+row-length m (body.Air b) = refl
+
+row-filled : (m : Message) (b : Body) → filled 28 (bodyRow m b) ≡ bodyRow m b
+unfolding rowOf
+row-filled m (body.Identification b) = refl
+row-filled m (body.Surface b) = refl
+row-filled m (body.Airborne b) = refl
+row-filled m (body.Ground b) = refl
+row-filled m (body.Air b) = refl
+
+row-into : (out : List ℕ) (m : Message) → length out ≡ 28 → into 28 out (values (messageRow m)) ≡ sent 0 (messageRow m)
+unfolding into
+row-into out m h = rw (eq-eqb _ _ h) (ap (sent 0) (ap (λ (n : ℕ). filled n (messageRow m)) h ∙ row-filled m (m .body)))
+
+decoded-into : (s out : List ℕ) (m : Message) → length out ≡ 28 → decoded s ≡ decode.Message m → into 28 out (messageSaid (decoded s)) ≡ sent 0 (messageRow m)
+decoded-into s out m h d = ap (λ (x : Decoded). into 28 out (messageSaid x)) d ∙ row-into out m h
+
+-- ---- an accepted message, decoded into fields and encoded from them, is the same 14 bytes
+
+pub decoded-encoded : (s fields out : List ℕ) (m : Message) → Bytes s → length fields ≡ 28 → length out ≡ 14 → decoded s ≡ decode.Message m
+    → encodedFrom (into 28 fields (messageSaid (decoded s)) .array) out ≡ sent 0 s
+decoded-encoded s fields out m h f l d =
+    let g = messages.decoded-encoded s out m h l d in
+    let fit = messages.decoded-good s m h d .0 in
+    ap (λ (x : Sent). encodedFrom (x .array) out) (decoded-into s fields m f d)
+    ∙ sym (encode-right out (messageRow m) (rw (eq-eqb _ _ (row-length m (m .body)), eq-eqb _ _ l)) (sym (from-row m fit)) (sym (ap₂ sent (ap encodedNumber (g .0)) (g .1))))
+
+-- ---- fields that are accepted, encoded and decoded, come back equal
+
+some-number : (r : Refusal) → numberOf r ≡ 0 → ⊥
+some-number Length e = omega arith
+some-number Late e = omega arith
+some-number Parity e = omega arith
+some-number Format e = omega arith
+some-number TypeCode e = omega arith
+some-number Full e = omega arith
+some-number Places e = omega arith
+some-number Field e = omega arith
+some-number Latitude e = omega arith
+some-number Zones e = omega arith
+some-number Block e = omega arith
+
+if-written : (a b : Bool) → encodedNumber (cond (not a) (encode.Refused Length) (cond (not b) (encode.Refused Field) encode.Written)) ≡ 0 → (a ≡ true) × (b ≡ true)
+if-written true true e = (refl, refl)
+if-written true false e = absurd (some-number Field e)
+if-written false b e = absurd (some-number Length e)
+
+module _ (fields out other : List ℕ) (h : length other ≡ 28) where
+  abbrev Back : Sent → Type 0
+  Back x = x .number ≡ 0 → (m : Message) × (into 28 other (messageSaid (decoded (x .array))) ≡ sent 0 (messageRow m)) × Same fields m
+
+  back : (d : Decoded) → messageFrom fields ≡ d → Back (encodedAs out d)
+  back (decode.Message m) e n =
+      let g = if-written (eqb (length out) 14) (messageFits m) n in
+      let d : decoded (encodedBytes m out) ≡ decode.Message m = rw (g .0, g .1) (messages.encoded-decoded m (g .1)) in
+      (m, decoded-into (encodedBytes m out) other m h d, from-same fields m e (g .1))
+  back (decode.Refused r) e n = absurd (some-number r n)
+
+  pub encoded-decoded : Back (encodedFrom fields out)
+  unfolding encodedFrom
+  encoded-decoded =
+      by-test Back (not (eqb (length fields) 28) || not (eqb (length out) 14)) (sent 1 out) (encodedAs out (messageFrom fields))
+      (λ e n. absurd (some-number Length n))
+      (λ e. back (messageFrom fields) refl)
+
+-- ---- the last byte of a line's buffer is 0
+
+ends : (text : List ℕ) → length text ≤ 96 → getD (filled 97 text) 96 0 ≡ 0
+ends text h = filled-at 97 text 96 (omega arith) ∙ List·getD-eq-default text 0 h
+
+pub header-ends : (s : List ℕ) (bad : ℕ) → getD (filled 97 (headerFor s bad)) 96 0 ≡ 0
+unfolding headerFor
+header-ends s bad = ends (headerFor s bad) (omega (arith, header-most (clockOf s) (counted s 50331648) bad))
+
+pub line-ends : (key : ℕ) (v : Option Track) → getD (filled 97 (lineFor key v)) 96 0 ≡ 0
+unfolding lineFor
+line-ends key none = ends [] (omega arith)
+line-ends key (some t) = ends (lineFor key (some t)) (row-most (lineRow key t))
