@@ -22,7 +22,7 @@ use Rattle.messages.specs.declared.Message.{Message}
 use Rattle.messages.specs.declared.Decoded.{Decoded}
 use Rattle.messages.specs.declared.Decoded.the-variants as decode
 use Rattle.messages.specs.declared.Encoded.the-variants as encode
-use Rattle.messages.specs.Message.{decoded, messageFits, encoded, encodedBytes}
+use Rattle.messages.specs.Message.{decoded, messageFits, encodedBytes}
 use Rattle.messages.specs.Table.{values}
 use Rattle.messages.proofs.BothWays as messages
 use Rattle.track.specs.declared.Track.{Track}

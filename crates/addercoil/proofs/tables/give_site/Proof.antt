@@ -1,10 +1,9 @@
 -- `addercoil::tables::give_site` meets its contract: the three values are the site's.
 -- Assumes nothing.
 use native.Mathlib.Omega.{arith}
-use mathlib.Core.Path.{ap, _∙_}
+use mathlib.Core.Path.{_∙_}
 use mir.Facts.{toZ-ofZ}
 use mir.Syntax.{w32}
-use Rattle.arrays.specs.Twos.{twos}
 use borrow.Author.Needs.{needs}
 use Rattle.addercoil.proofs.tables.give_site.Statement.{statement}
 use Rattle.addercoil.proofs.tables.give_site.Tie as tie
