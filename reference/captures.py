@@ -91,9 +91,13 @@ def line(key, track):
     return f"{KINDS[key >> 24]} {key % 2**24:06X} {track.heard} {place} {altitude}"
 
 
-def listing(whole):
-    """What the program "listing" prints. Lines run by kind, I first, then address."""
-    made, bad = fold(whole)
+def listing_of(made, bad):
+    """The lines of a table, by kind, I first, then address."""
     held = table.walk(made)
     head = f"clock {table.clock_of(made)} tracks {len(held)} bad-blocks {bad}"
     return "".join(f"{text}\n" for text in [head, *(line(key, track) for key, track in held)])
+
+
+def listing(whole):
+    """What the program "listing" prints."""
+    return listing_of(*fold(whole))

@@ -1,4 +1,5 @@
-"""Writes the samples, captures with the listing that each must give, or compares them with those that stand. One of them is what the program listing is run on.
+"""Writes the samples, each with the listing that it must give, or compares them with those that stand: captures, one of which the program listing
+is run on, and lines in hex for the example in C.
 
     python3 reference/make_samples.py [--check] [--root FOLDER]
 
@@ -11,7 +12,8 @@ from pathlib import Path
 from random import Random
 
 import traffic
-from captures import BLOCK, MOST_RECORDS, SEAL, block, capture, listing
+import table
+from captures import BLOCK, MOST_RECORDS, PLACES, SEAL, block, capture, listing, listing_of, offer
 from parity import sealed
 from positions import EVEN, ODD
 from traffic import NO_TRANSPONDER, OTHER, TRANSPONDER
@@ -152,6 +154,47 @@ def busy_hour():
     return with_bad_blocks(chance, blocks_of(chance, with_faults(chance, records)))
 
 
+# A minute, in hex
+
+
+STEP = 100  # milliseconds from line to line
+
+
+def said(chance, flight, time, i):
+    """A message of an aircraft: 45 in 100 a position, 40 a velocity, 15 an identification."""
+    kind = chance.randrange(100)
+    if kind < 45:
+        return flight.position(time, i)
+    if kind < 85:
+        return traffic.velocity(flight.head, flight.aa, *flight.knots, chance.randrange(-9, 9) * 64)
+    return traffic.identification(flight.head, flight.aa, flight.name)
+
+
+def minute():
+    """The messages of 24 aircraft; every 50th is damaged, and every 50th is one of the short ones of 56 bits."""
+    chance = Random(72)
+    heads = TRANSPONDER, NO_TRANSPONDER, OTHER
+    all_flights = [Flight(chance, chance.choices(heads, (20, 1, 2))[0], aa) for aa in chance.sample(range(2**24), 24)]
+    for k in range(MINUTE // STEP):
+        string = said(chance, chance.choice(all_flights), k * STEP, chance.choice((EVEN, ODD)))
+        if k % 50 == 20:
+            string = flipped(string, chance.randrange(1, 113))
+        yield string if k % 50 != 40 else chance.randbytes(7)
+
+
+def hex_lines(strings):
+    """A line for each message, as receivers print them."""
+    return "".join(f"*{string.hex().upper()};\n" for string in strings).encode("ascii")
+
+
+def hex_listing(strings, step):
+    """What the example in C prints: message k, from 0, arrives at k times the step."""
+    made = bytearray(table.length_of(PLACES))
+    for k, string in enumerate(strings):
+        offer(made, string, k * step)
+    return listing_of(made, 0).encode("ascii")
+
+
 SAMPLES = {"example": example, "busy-hour": busy_hour}
 RUN = "example"
 
@@ -166,10 +209,13 @@ def files():
         if name == RUN:
             yield "crates/listing/stdin", whole
             yield "crates/listing/stdout", text
+    strings = list(minute())
+    yield "samples/minute.hex", hex_lines(strings)
+    yield "samples/minute.listing", hex_listing(strings, STEP)
 
 
 def main():
-    parser = argparse.ArgumentParser(description="The samples: captures and their listings.")
+    parser = argparse.ArgumentParser(description="The samples and their listings.")
     parser.add_argument("--check", action="store_true", help="write nothing, compare")
     parser.add_argument("--root", type=Path, default=Path(__file__).resolve().parent.parent)
     arguments = parser.parse_args()

@@ -5,20 +5,17 @@
 The program must have been built: target/bin/listing. The first difference is named, and the status is 1.
 """
 
-import subprocess
 import sys
-from pathlib import Path
 from random import Random
 
 import traffic
 from captures import BLOCK, MOST_RECORDS, SEAL, block, listing
 from make_samples import SAMPLES, resealed
 from positions import EVEN, ODD
+from programs import ran
 from traffic import NO_TRANSPONDER, OTHER, TRANSPONDER
 from vectors.message_vectors import flipped, random_valid
 
-ROOT = Path(__file__).resolve().parent.parent
-COMMAND = [ROOT / "tools/run", ROOT / "target/bin/listing"]
 RANDOM_CAPTURES = 200
 
 
@@ -85,11 +82,11 @@ def captures():
 def main():
     count = 0
     for name, whole in captures():
-        ran = subprocess.run(COMMAND, input=whole, capture_output=True, timeout=60, check=False)
+        done = ran("bin/listing", given=whole, seconds=60)
         expected = listing(whole).encode("ascii")
-        if ran.returncode != 0 or ran.stdout != expected:
-            print(f"{name}: status {ran.returncode}; the model says\n{expected.decode()}and the program")
-            print((ran.stdout + ran.stderr).decode("ascii", errors="replace"))
+        if done.returncode != 0 or done.stdout != expected:
+            print(f"{name}: status {done.returncode}; the model says\n{expected.decode()}and the program")
+            print((done.stdout + done.stderr).decode("ascii", errors="replace"))
             return 1
         count += 1
     print(f"{count} captures: the program prints what the model says")

@@ -2,9 +2,9 @@
  * Reads messages in hex on standard input, one a line as *HEX; or HEX, keeps a table of 256 places and prints the
  * listing at the end. Message k, from 0, arrives at k times STEP milliseconds; STEP is the argument, 1 if there is none.
  *
- * rt staticlib addercoil && gcc -std=c99 -Wall -Wextra -Iinclude examples/c/listing.c target/staticlib/libaddercoil.a -o listing
+ * rt staticlib addercoil && gcc -std=c99 -Iinclude examples/c/listing.c target/staticlib/libaddercoil.a -o c-listing
  *
- * On a machine that is not x86-64, say x86_64-linux-gnu-gcc for gcc.
+ * On a machine that is not x86-64, say tools/cc for gcc, and run it with tools/run.
  */
 #include <addercoil.h>
 #include <ctype.h>
@@ -17,28 +17,35 @@ static int digit(int c) {
     return isdigit(c) ? c - '0' : tolower(c) - 'a' + 10;
 }
 
-/* The bytes of a line in hex, at most so many; how many there are. */
-static size_t read_hex(const char *line, uint8_t *bytes, size_t most) {
-    size_t n = 0;
-    if (*line == '*') {
-        line++;
+/* The bytes in hex of the next line, at most so many, and how many there are. Whether there was a line. */
+static int read_line(FILE *in, uint8_t *bytes, size_t most, size_t *count) {
+    size_t digits = 0;
+    int c = getc(in);
+    if (c == EOF) {
+        return 0;
     }
-    while (n < most && isxdigit((unsigned char)line[0]) && isxdigit((unsigned char)line[1])) {
-        bytes[n++] = (uint8_t)(digit((unsigned char)line[0]) * 16 + digit((unsigned char)line[1]));
-        line += 2;
+    if (c == '*') {
+        c = getc(in);
     }
-    return n;
+    for (; isxdigit(c) && digits < 2 * most; digits++) {
+        bytes[digits / 2] = (uint8_t)(digits % 2 == 0 ? digit(c) : bytes[digits / 2] * 16 + digit(c));
+        c = getc(in);
+    }
+    while (c != '\n' && c != EOF) {
+        c = getc(in);
+    }
+    *count = digits / 2;
+    return 1;
 }
 
 /* Each message, at its time; how many were refused. */
 static unsigned long receive_all(FILE *in, uint64_t step) {
-    char line[256];
     uint8_t message[ADDERCOIL_MESSAGE + 1]; /* one byte more, so that a longer message is seen to be longer */
+    size_t count;
     uint64_t time = 0;
     unsigned long refused = 0;
-    while (fgets(line, sizeof line, in)) {
-        size_t n = read_hex(line, message, sizeof message);
-        if (addercoil_receive(table, sizeof table, message, n, time) != ADDERCOIL_OK) {
+    while (read_line(in, message, sizeof message, &count)) {
+        if (addercoil_receive(table, sizeof table, message, count, time) != ADDERCOIL_OK) {
             refused++;
         }
         time += step;

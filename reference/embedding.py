@@ -1,0 +1,392 @@
+"""The C interface: what each function of include/addercoil.h answers, and what it leaves, by the model.
+
+Entries of an array stand where the header's enums say: the header is read for them, so a wrong index is a difference.
+A call is a line, as tests/c/call.h says: NAME [TABLE] [GIVEN] [LENGTH] NUMBER.. = ANSWER [RESULT] [TABLE].
+"""
+
+import re
+from collections.abc import Callable
+from pathlib import Path
+from typing import NamedTuple
+
+import captures
+import messages
+import positions
+import readings
+import table as tables
+from refusals import Refused, fits
+from tracks import key_of
+
+HEADER = Path(__file__).resolve().parent.parent / "include/addercoil.h"
+FRESH = 0xA5  # what each byte of a result array holds before the call
+BYTES, WORDS = 1, 8  # the size of an element
+
+
+def header_numbers():
+    """Every constant of the header's enums and every plain #define, by its name without the prefix."""
+    text = re.sub(r"/\*.*?\*/", "", HEADER.read_text(), flags=re.S)
+    found = {name: int(value) for name, value in re.findall(r"#define ADDERCOIL_(\w+) (\d+)$", text, flags=re.M)}
+    for inside in re.findall(r"enum \{(.*?)\}", text, flags=re.S):
+        value = -1
+        for name, given in re.findall(r"ADDERCOIL_(\w+)(?: = (\d+))?", inside):
+            value = int(given) if given else value + 1
+            found[name] = value
+    return found
+
+
+AT = header_numbers()
+
+
+# Numbers
+
+
+def signed(number):
+    """The number below 2^31 and above -2^31 of 32 bits."""
+    return number - 2**32 if number >= 2**31 else number
+
+
+def twos(number):
+    """A number in two's complement, of 64 bits."""
+    return number % 2**64
+
+
+def row(length, entries):
+    """An array of words: the named entries, the others 0."""
+    made = [0] * length
+    for name, value in entries.items():
+        made[AT[name]] = twos(value)
+    return made
+
+
+def reading(name, value):
+    """What a reading is, and its value."""
+    words = {readings.UNKNOWN: "UNKNOWN", readings.OVER: "OVER", "reserved": "NONE", "none": "NONE", "stopped": "STOPPED"}
+    if value in words:
+        return {f"{name}_IS": AT[words[value]]}
+    return {f"{name}_IS": AT["KNOWN"], name: value}
+
+
+# Tracks
+
+
+def track_row(track):
+    """The entries of a track that is held."""
+    entries = {"TRACK_HELD": 1, "TRACK_HEARD": track.heard, "TRACK_IDENTIFICATION": track.identification}
+    entries |= {"TRACK_VELOCITY": track.velocity, "TRACK_SURFACE": track.surface}
+    entries |= {"TRACK_PRESSURE_CODE": track.pressure, "TRACK_HEIGHT_CODE": track.height}
+    entries |= {"TRACK_POSITION_KNOWN": track.position.known, "TRACK_POSITION_TIME": track.position.time}
+    entries |= {"TRACK_LATITUDE": track.position.latitude, "TRACK_LONGITUDE": track.position.longitude}
+    for name, saved in zip(("EVEN", "ODD"), track.saved):
+        entries |= {f"TRACK_{name}_KNOWN": saved.known, f"TRACK_{name}_TIME": saved.time}
+        entries |= {f"TRACK_{name}_LATITUDE_COUNT": saved.latitude, f"TRACK_{name}_LONGITUDE_COUNT": saved.longitude}
+    entries |= reading("TRACK_ALTITUDE", readings.altitude(track.pressure))
+    entries |= reading("TRACK_GNSS_HEIGHT", readings.altitude(track.height))
+    return entries
+
+
+# Messages
+
+# The entries of ME after TYPE, in the order of their bits; the header's names in the paper's order
+PLACE = ["T", "F", "LATITUDE_COUNT", "LONGITUDE_COUNT"]
+VERTICAL = ["SOURCE", "DOWN", "RATE_CODE", "RESERVED", "BELOW", "DIFFERENCE_CODE"]
+VELOCITY = ["SUBTYPE", "BIT9", "BIT10", "NACV"]
+LAYOUTS = {
+    "IDENTIFICATION": (messages.IDENTIFICATION, ["CATEGORY", "CHARACTERS"]),
+    "SURFACE": (messages.SURFACE, ["MOVEMENT", "STATUS", "HEADING", *PLACE]),
+    "AIRBORNE": (messages.AIRBORNE, ["SURVEILLANCE", "BIT8", "ALTITUDE_CODE", *PLACE]),
+    "GROUND": (messages.OVER_GROUND, [*VELOCITY, "WEST", "EASTWARD", "SOUTH", "NORTHWARD"]),
+    "AIR": (messages.THROUGH_AIR, [*VELOCITY, "STATUS", "HEADING", "AIRSPEED_KIND", "AIRSPEED"]),
+}
+
+
+def entry_names(layout):
+    """Of each field of ME after TYPE its name in the model and in the header."""
+    fields, own = LAYOUTS[layout]
+    names = [f"{layout}_{name}" for name in own]
+    if layout in ("GROUND", "AIR"):
+        names += [f"VERTICAL_{name}" for name in VERTICAL]
+    return list(zip([name for name, _, _ in fields], names, strict=True))
+
+
+def layout_of(message):
+    """The header's name for the layout of a message."""
+    fields = messages.layout(message["TYPE"], message.get("subtype"))
+    return next(name for name, (one, _) in LAYOUTS.items() if one is fields)
+
+
+def number_of_text(text):
+    """A text as one number, the first character the highest byte."""
+    return int.from_bytes(text.encode("ascii"), "big")
+
+
+def movement_reading(code):
+    """The lower edge of a movement; of the last range, over."""
+    value = readings.movement(code)
+    if value.startswith("from "):
+        return reading("SURFACE_SPEED", int(value.removeprefix("from ")))
+    if value == "8400 and up":
+        return {"SURFACE_SPEED_IS": AT["OVER"], "SURFACE_SPEED": 8400}
+    return reading("SURFACE_SPEED", value)
+
+
+def vertical_readings(message):
+    """The readings in which both velocities end."""
+    rate = readings.rate(message["rate sign"], message["rate"])
+    difference = readings.difference(message["difference sign"], message["difference"])
+    return reading("VERTICAL_RATE", rate) | reading("VERTICAL_DIFFERENCE", difference)
+
+
+def message_readings(layout, message):
+    """What the codes of a message mean."""
+    if layout == "IDENTIFICATION":
+        letter = readings.category_set(message["TYPE"])
+        text = number_of_text(readings.text(message["characters"]))
+        return reading("IDENTIFICATION_SET", ord(letter)) | reading("IDENTIFICATION_TEXT", text)
+    if layout == "SURFACE":
+        turn = readings.surface_heading(message["heading"])
+        return movement_reading(message["movement"]) | reading("SURFACE_TURN", turn)
+    if layout == "AIRBORNE":
+        altitude = readings.altitude(message["altitude"])
+        return reading("AIRBORNE_ALTITUDE", altitude) | reading("AIRBORNE_GNSS", int(message["TYPE"] >= 20))
+    subtype = message["subtype"]
+    if layout == "GROUND":
+        east = readings.speed(subtype, message["east-west direction"], message["east-west speed"])
+        north = readings.speed(subtype, message["north-south direction"], message["north-south speed"])
+        return reading("GROUND_EAST", east) | reading("GROUND_NORTH", north) | vertical_readings(message)
+    speed = readings.speed(subtype, 0, message["airspeed"])
+    turn = readings.heading(message["heading"])
+    return reading("AIR_TURN", turn) | reading("AIR_SPEED", speed) | vertical_readings(message)
+
+
+HEAD = {"DF": "DF", "CA or CF": "CA", "AA": "AA", "TYPE": "TYPECODE"}  # the model's names, and the header's
+
+
+def message_row(message):
+    """The entries of a decoded message."""
+    layout = layout_of(message)
+    entries = {"LAYOUT": AT[layout], "KEY": key_of(message)}
+    entries |= {ours: message[name] for name, ours in HEAD.items()}
+    entries |= {ours: message[name] for name, ours in entry_names(layout)}
+    return entries | message_readings(layout, message)
+
+
+def message_from(fields):
+    """The message that an array of fields says, by its layout; 8 for a layout that is none."""
+    layout = next((name for name in LAYOUTS if AT[name] == fields[AT["LAYOUT"]]), None)
+    if layout is None:
+        raise Refused(8)
+    message = {name: fields[AT[ours]] for name, ours in HEAD.items()}
+    return message | {name: fields[AT[ours]] for name, ours in entry_names(layout)}
+
+
+# Calls: each gives the entries of its result array, or its bytes, or raises Refused
+
+
+def table_bytes(places):
+    """The one answer that is no number of the paper."""
+    return tables.length_of(places) if 1 <= places <= tables.MOST_PLACES else 0
+
+
+def set_up(table):
+    """Empties the table."""
+    tables.set_up(table)
+
+
+def set_up_at(table, latitude, longitude):
+    """Empties the table, and takes a site."""
+    tables.set_up(table, (signed(latitude % 2**32), longitude % 2**32))
+
+
+def receive(table, message, time):
+    """A message at a time."""
+    tables.receive(table, message, time)
+
+
+def clock(table):
+    """The clock, at entry 0."""
+    return [tables.clock_of(table)]
+
+
+def site(table):
+    """Whether there is one, and where."""
+    found = tables.site_of(table)
+    if found is None:
+        return row(AT["SITE"], {})
+    return row(AT["SITE"], {"SITE_KNOWN": 1, "SITE_LATITUDE": found[0], "SITE_LONGITUDE": found[1]})
+
+
+def next_key(table, key):
+    """The next key, or 0."""
+    return [tables.next_key(table, key % 2**32) or 0]
+
+
+def look_up(table, key):
+    """The track of a key, all 0 if it is not held."""
+    track = tables.look_up(table, key % 2**32)
+    return row(AT["TRACK"], {} if track is None else track_row(track))
+
+
+def text_bytes(text):
+    """A line and its newline, then zeros."""
+    return text.encode("ascii").ljust(AT["LINE"], b"\0")
+
+
+def header(table, bad):
+    """The listing's first line."""
+    return text_bytes(f"clock {tables.clock_of(table)} tracks {len(tables.walk(table))} bad-blocks {bad}\n")
+
+
+def line(table, key):
+    """The line of a key, empty if it is not held."""
+    key %= 2**32
+    track = tables.look_up(table, key)
+    return text_bytes("" if track is None else captures.line(key, track) + "\n")
+
+
+def feed_block(table, block, bad):
+    """The records of a block, or one more bad block."""
+    tables.places(table)
+    try:
+        records = captures.records_of(block)
+    except Refused:
+        return [min(bad + 1, 2**64 - 1)]
+    for time, string in records:
+        captures.offer(table, string, time)
+    return [bad]
+
+
+TURNS = {0: positions.AIRBORNE, 1: positions.SURFACE}
+
+
+def turn_and_i(surface, odd):
+    """The turn and i; 8 where one of the two is above 1."""
+    surface, odd = surface % 2**32, odd % 2**32
+    fits(surface, 1)
+    fits(odd, 1)
+    return TURNS[surface], odd
+
+
+def place_row(place):
+    """A latitude and a longitude."""
+    return row(AT["PLACE"], {"PLACE_LATITUDE": place[0], "PLACE_LONGITUDE": place[1]})
+
+
+def encode_position(latitude, longitude, surface, odd):
+    """The two counts of a place."""
+    counts = positions.encode(*turn_and_i(surface, odd), signed(latitude % 2**32), longitude % 2**32)
+    return row(AT["COUNTS"], {"COUNT_LATITUDE": counts[0], "COUNT_LONGITUDE": counts[1]})
+
+
+def pair(even_latitude, even_longitude, odd_latitude, odd_longitude, later_odd):
+    """The place of two messages."""
+    counts = [count % 2**32 for count in (even_latitude, even_longitude, odd_latitude, odd_longitude)]
+    fits(later_odd % 2**32, 1)
+    return place_row(positions.pair(later_odd % 2**32, *counts))
+
+
+def single(latitude, longitude, count_latitude, count_longitude, surface, odd):
+    """The place of one message near a reference."""
+    reference = signed(latitude % 2**32), longitude % 2**32
+    counts = count_latitude % 2**32, count_longitude % 2**32
+    return place_row(positions.single(*turn_and_i(surface, odd), *counts, *reference))
+
+
+def decode(message):
+    """What a message says."""
+    return row(AT["FIELDS"], message_row(messages.decode(message)))
+
+
+def encode(fields):
+    """The message that says the fields."""
+    if len(fields) != AT["FIELDS"]:
+        raise Refused(1)
+    return messages.encode(message_from(fields))
+
+
+READS, WRITES = "reads", "writes"
+
+
+class Function(NamedTuple):
+    """A function of the header."""
+
+    answer: Callable
+    table: str | None = None  # what it does with the table that it is lent
+    given: int | None = None  # the size of an element of the array that it is given
+    length: int = 0  # how many elements its result array has
+    result: int | None = None  # and of what size
+
+
+FUNCTIONS = {
+    "table_bytes": Function(table_bytes),
+    "set_up": Function(set_up, WRITES),
+    "set_up_at": Function(set_up_at, WRITES),
+    "receive": Function(receive, WRITES, BYTES),
+    "clock": Function(clock, READS, None, 1, WORDS),
+    "site": Function(site, READS, None, AT["SITE"], WORDS),
+    "next": Function(next_key, READS, None, 1, WORDS),
+    "look_up": Function(look_up, READS, None, AT["TRACK"], WORDS),
+    "header": Function(header, READS, None, AT["LINE"], BYTES),
+    "line": Function(line, READS, None, AT["LINE"], BYTES),
+    "feed_block": Function(feed_block, WRITES, BYTES, 1, WORDS),
+    "encode_position": Function(encode_position, None, None, AT["COUNTS"], WORDS),
+    "pair": Function(pair, None, None, AT["PLACE"], WORDS),
+    "single": Function(single, None, None, AT["PLACE"], WORDS),
+    "decode": Function(decode, None, BYTES, AT["FIELDS"], WORDS),
+    "encode": Function(encode, None, WORDS, AT["MESSAGE"], BYTES),
+}
+
+
+# Lines
+
+
+def array_text(array, element):
+    """An array in hex, "-" if it is empty."""
+    whole = bytes(array) if element == BYTES else b"".join(number.to_bytes(element, "big") for number in array)
+    return whole.hex() or "-"
+
+
+def array_of(word, element):
+    """The bytes of an array in hex, or its numbers."""
+    whole = bytes.fromhex("" if word == "-" else word)
+    if element == BYTES:
+        return whole
+    return [int.from_bytes(whole[at : at + element], "big") for at in range(0, len(whole), element)]
+
+
+def call_text(name, *, table=b"", given=(), length=0, numbers=()):
+    """The first half of a line: the call."""
+    function = FUNCTIONS[name]
+    words = [name]
+    words += [array_text(table, BYTES)] if function.table else []
+    words += [array_text(given, function.given)] if function.given else []
+    words += [str(length)] if function.result else []
+    return " ".join([*words, *map(str, numbers)])
+
+
+def answered(function, length, arguments):
+    """The answer, and the elements of the result array after the call."""
+    try:
+        if length != function.length:
+            raise Refused(1)
+        return 0, function.answer(*arguments)
+    except Refused as refusal:
+        fresh = int.from_bytes(bytes([FRESH]) * (function.result or 1), "big")
+        return refusal.number, [fresh] * length
+
+
+def outcome_text(call):
+    """The second half: what the model answers to a call, and what it leaves."""
+    name, *words = call.split()
+    function, words = FUNCTIONS[name], iter(words)
+    table = bytearray(array_of(next(words), BYTES)) if function.table else None
+    arguments = [table] if function.table else []
+    arguments += [array_of(next(words), function.given)] if function.given else []
+    length = int(next(words)) if function.result else 0
+    arguments += map(int, words)
+    if name == "table_bytes":
+        return f"= {function.answer(*arguments)}"
+    answer, left = answered(function, length, arguments)
+    words = ["=", str(answer)]
+    words += [array_text(left, function.result)] if function.result else []
+    words += [array_text(table, BYTES)] if function.table == WRITES else []
+    return " ".join(words)

@@ -1,0 +1,50 @@
+"""Runs the example in C on its sample, and on lines that no receiver prints, and compares with the model.
+
+    python3 reference/run_example.py
+
+tools/build-c must have built target/c/listing.
+"""
+
+import sys
+
+from make_samples import STEP, hex_lines, hex_listing, minute
+from programs import ran
+
+GOOD = "8DABCDEF58378200010000300279"
+
+
+def odd_lines():
+    """Lines, each with the bytes that it says: bare and lower case, empty, too long, cut short, not hex."""
+    whole = bytes.fromhex(GOOD)
+    return [
+        (GOOD.lower(), whole),
+        ("", b""),
+        (f"*{GOOD}00;", whole + b"\0"),
+        (f"*{GOOD * 40};", (whole * 2)[:15]),
+        (f"*{GOOD[:27]};", whole[:13]),
+        ("*hello;", b""),
+        ("8DABCDEF58378580008000CC7711", bytes.fromhex("8DABCDEF58378580008000CC7711")),
+    ]
+
+
+def cases():
+    """Each case: its input, the step, and what must be printed."""
+    strings = list(minute())
+    yield hex_lines(strings), STEP, hex_listing(strings, STEP)
+    rows = odd_lines()
+    yield "\n".join(line for line, _ in rows).encode("ascii"), 400, hex_listing([string for _, string in rows], 400)
+    yield b"", 1, hex_listing([], 1)
+
+
+def main():
+    for given, step, expected in cases():
+        done = ran("c/listing", step, given=given)
+        if done.returncode != 0 or done.stdout != expected:
+            print(f"status {done.returncode}; the model says\n{expected.decode()}and the example\n{done.stdout.decode()}")
+            return 1
+    print("the example prints what the model says")
+    return 0
+
+
+if __name__ == "__main__":
+    sys.exit(main())

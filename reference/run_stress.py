@@ -1,0 +1,43 @@
+"""Runs the stress, hostile calls of every kind through C, and answers a sample of them by the model.
+
+    python3 reference/run_stress.py [SEED [CALLS]]
+
+tools/build-c must have built target/c/stress. It looks at guard bytes around all that is lent after each call, and ends at the
+first that changed. Of its calls one in 100 is compared here. The first difference is named, and the status is 1.
+"""
+
+import sys
+from collections import Counter
+
+from embedding import FUNCTIONS, outcome_text
+from programs import ran
+
+SEED, CALLS, EVERY = 13, 1_000_000, 100
+NUMBERS = {*map(str, range(11))}  # the paper's 0 to 10; 11 is answered by no C function, a bad block is counted
+
+
+def main():
+    seed, calls = [*map(int, sys.argv[1:]), *(SEED, CALLS)[len(sys.argv) - 1 :]]
+    done = ran("c/stress", seed, calls, EVERY)
+    sample = done.stdout.decode("ascii").splitlines()
+    if done.returncode != 0:
+        print(f"status {done.returncode} {done.stderr.decode()}\n{sample[-1] if sample else ''}")
+        return 1
+    names, answers = Counter(), Counter()
+    for line in sample:
+        call, outcome = line.split(" = ")
+        if f"= {outcome}" != outcome_text(call):
+            print(f"{call}\nthe model: {outcome_text(call)}\nC:         = {outcome}")
+            return 1
+        names[call.split()[0]] += 1
+        answers[outcome.split()[0]] += call.split()[0] != "table_bytes"
+    missing = {*FUNCTIONS} - {*names} | NUMBERS - {*answers}
+    if missing:
+        print(f"the sample has none of {missing}")
+        return 1
+    print(f"{calls} hostile calls: no guard was touched; of a sample of {len(sample)} each is as the model says")
+    return 0
+
+
+if __name__ == "__main__":
+    sys.exit(main())

@@ -1,0 +1,195 @@
+/* A call of any function of addercoil.h as a value: see call.h. */
+#include "call.h"
+#include <addercoil.h>
+#include <inttypes.h>
+#include <string.h>
+
+const struct shape shapes[FUNCTIONS] = {
+    {"table_bytes", NO_TABLE, NOTHING, 1, NOTHING},
+    {"set_up", WRITES_TABLE, NOTHING, 0, NOTHING},
+    {"set_up_at", WRITES_TABLE, NOTHING, 2, NOTHING},
+    {"receive", WRITES_TABLE, BYTES, 1, NOTHING},
+    {"clock", READS_TABLE, NOTHING, 0, WORDS},
+    {"site", READS_TABLE, NOTHING, 0, WORDS},
+    {"next", READS_TABLE, NOTHING, 1, WORDS},
+    {"look_up", READS_TABLE, NOTHING, 1, WORDS},
+    {"header", READS_TABLE, NOTHING, 1, BYTES},
+    {"line", READS_TABLE, NOTHING, 1, BYTES},
+    {"feed_block", WRITES_TABLE, BYTES, 1, WORDS},
+    {"encode_position", NO_TABLE, NOTHING, 4, WORDS},
+    {"pair", NO_TABLE, NOTHING, 5, WORDS},
+    {"single", NO_TABLE, NOTHING, 6, WORDS},
+    {"decode", NO_TABLE, BYTES, 0, WORDS},
+    {"encode", NO_TABLE, WORDS, 0, BYTES},
+};
+
+static struct lent table, given, result;
+
+void call_open(void) {
+    lent_open(&table);
+    lent_open(&given);
+    lent_open(&result);
+}
+
+/* The calls that are lent a table. */
+static uint64_t with_table(const struct call *call) {
+    const uint64_t *n = call->numbers;
+    uint8_t *t = table.at;
+    size_t size = call->table_size, length = call->result_length;
+    uint64_t *words = (uint64_t *)result.at;
+    switch (call->function) {
+    case SET_UP:
+        return addercoil_set_up(t, size);
+    case SET_UP_AT:
+        return addercoil_set_up_at(t, size, (int32_t)n[0], (uint32_t)n[1]);
+    case RECEIVE:
+        return addercoil_receive(t, size, given.at, call->given_size, n[0]);
+    case CLOCK:
+        return addercoil_clock(t, size, words, length);
+    case SITE:
+        return addercoil_site(t, size, words, length);
+    case NEXT:
+        return addercoil_next(t, size, (uint32_t)n[0], words, length);
+    case LOOK_UP:
+        return addercoil_look_up(t, size, (uint32_t)n[0], words, length);
+    case HEADER:
+        return addercoil_header(t, size, n[0], result.at, length);
+    case LINE:
+        return addercoil_line(t, size, (uint32_t)n[0], result.at, length);
+    default:
+        return addercoil_feed_block(t, size, given.at, call->given_size, n[0], words, length);
+    }
+}
+
+/* The calls that are not. */
+static uint64_t without_table(const struct call *call) {
+    const uint64_t *n = call->numbers;
+    size_t length = call->result_length;
+    uint64_t *words = (uint64_t *)result.at;
+    switch (call->function) {
+    case TABLE_BYTES:
+        return addercoil_table_bytes(n[0]);
+    case ENCODE_POSITION:
+        return addercoil_encode_position((int32_t)n[0], (uint32_t)n[1], (uint32_t)n[2], (uint32_t)n[3], words, length);
+    case PAIR:
+        return addercoil_pair((uint32_t)n[0], (uint32_t)n[1], (uint32_t)n[2], (uint32_t)n[3], (uint32_t)n[4], words,
+                              length);
+    case SINGLE:
+        return addercoil_single((int32_t)n[0], (uint32_t)n[1], (uint32_t)n[2], (uint32_t)n[3], (uint32_t)n[4],
+                                (uint32_t)n[5], words, length);
+    case DECODE:
+        return addercoil_decode(given.at, call->given_size, words, length);
+    default:
+        return addercoil_encode((const uint64_t *)given.at, call->given_size / WORDS, result.at, length);
+    }
+}
+
+/* Lends a copy of the bytes. */
+static void lend_copy(struct lent *lent, const uint8_t *bytes, size_t size, const struct call *call) {
+    void *at = lend(lent, size, call->below, call->null);
+    if (size != 0) {
+        memcpy(at, bytes, size);
+    }
+}
+
+static int same(const struct lent *lent, const uint8_t *bytes, size_t size) {
+    return size == 0 || memcmp(lent->at, bytes, size) == 0;
+}
+
+static int all_fresh(const struct lent *lent) {
+    size_t i;
+    for (i = 0; i < lent->size; i++) {
+        if (lent->at[i] != FRESH) {
+            return 0;
+        }
+    }
+    return 1;
+}
+
+/* What a call may not do, whatever it answers. */
+static const char *fault_of(const struct call *call, uint64_t answer) {
+    if (!lent_untouched(&table) || !lent_untouched(&given) || !lent_untouched(&result)) {
+        return "bytes beside a lent array were written";
+    }
+    if (!same(&given, call->given, call->given_size)) {
+        return "an array lent to be read was written";
+    }
+    if (shapes[call->function].table == READS_TABLE && !same(&table, call->table, call->table_size)) {
+        return "a table lent to be read was written";
+    }
+    if (answer != 0 && !all_fresh(&result)) {
+        return "a call that refused wrote its result";
+    }
+    return NULL;
+}
+
+struct outcome call_make(const struct call *call) {
+    const struct shape *shape = &shapes[call->function];
+    size_t size = call->result_length * shape->result;
+    struct outcome outcome;
+    lend_copy(&table, call->table, call->table_size, call);
+    lend_copy(&given, call->given, call->given_size, call);
+    if (lend(&result, size, call->below, call->null) != NULL) {
+        memset(result.at, FRESH, size);
+    }
+    outcome.answer = shape->table == NO_TABLE ? without_table(call) : with_table(call);
+    outcome.table = table.at;
+    outcome.result = result.at;
+    outcome.fault = fault_of(call, outcome.answer);
+    return outcome;
+}
+
+size_t call_byte_at(size_t i, size_t element) {
+    size_t within = i % element;
+    return i - within + (element - 1 - within);
+}
+
+/* One byte, as two hex digits. */
+static void hex_byte(FILE *out, uint8_t byte) {
+    static const char digits[] = "0123456789abcdef";
+    putc(digits[byte >> 4], out);
+    putc(digits[byte & 15], out);
+}
+
+/* A space, and the elements of an array in hex. */
+static void hex_array(FILE *out, const uint8_t *bytes, size_t size, size_t element) {
+    size_t i;
+    putc(' ', out);
+    for (i = 0; i < size; i++) {
+        hex_byte(out, bytes[call_byte_at(i, element)]);
+    }
+    if (size == 0) {
+        putc('-', out);
+    }
+}
+
+void call_write(FILE *out, const struct call *call) {
+    const struct shape *shape = &shapes[call->function];
+    int i;
+    fputs(shape->name, out);
+    if (shape->table != NO_TABLE) {
+        hex_array(out, call->table, call->table_size, BYTES);
+    }
+    if (shape->given != NOTHING) {
+        hex_array(out, call->given, call->given_size, shape->given);
+    }
+    if (shape->result != NOTHING) {
+        fprintf(out, " %zu", call->result_length);
+    }
+    for (i = 0; i < shape->numbers; i++) {
+        fprintf(out, " %" PRIu64, call->numbers[i]);
+    }
+    putc(' ', out);
+}
+
+void outcome_write(FILE *out, const struct call *call, const struct outcome *outcome) {
+    const struct shape *shape = &shapes[call->function];
+    fprintf(out, "= %" PRIu64, outcome->answer);
+    if (shape->result != NOTHING) {
+        hex_array(out, outcome->result, call->result_length * shape->result, shape->result);
+    }
+    if (shape->table == WRITES_TABLE) {
+        hex_array(out, outcome->table, call->table_size, BYTES);
+    }
+    putc('\n', out);
+}

@@ -1,0 +1,72 @@
+/*
+ * A call of any function of addercoil.h as a value, so that a script or a die can choose it. It is made with guards around
+ * everything lent, and it can be written as a line that the model reads:
+ *
+ *     NAME [TABLE] [GIVEN] [LENGTH] NUMBER.. = ANSWER [RESULT] [TABLE]
+ *
+ * TABLE and GIVEN are what is lent, in hex; LENGTH is how many elements the result array has, NUMBERs are in decimal.
+ * Behind the = stand the answer, the result array, and the table where it is lent to be written. Elements of 64 bits are 16
+ * digits each; nothing at all is "-".
+ */
+#ifndef CALL_H
+#define CALL_H
+
+#include "lent.h"
+#include <stdio.h>
+
+enum function {
+    TABLE_BYTES, SET_UP, SET_UP_AT, RECEIVE, CLOCK, SITE, NEXT, LOOK_UP, HEADER, LINE, FEED_BLOCK,
+    ENCODE_POSITION, PAIR, SINGLE, DECODE, ENCODE, FUNCTIONS
+};
+
+enum lends { NOTHING = 0, BYTES = 1, WORDS = 8 }; /* the size of an element */
+enum table_use { NO_TABLE, READS_TABLE, WRITES_TABLE };
+
+#define MOST_NUMBERS 6
+
+/* What a function is lent. */
+struct shape {
+    const char *name;
+    enum table_use table;
+    enum lends given;
+    int numbers;
+    enum lends result;
+};
+extern const struct shape shapes[FUNCTIONS];
+
+/* What a result array holds before the call, byte by byte. */
+#define FRESH 0xA5
+
+struct call {
+    enum function function;
+    uint8_t *table; /* bytes, and how many there are */
+    size_t table_size;
+    uint8_t *given;
+    size_t given_size;
+    size_t result_length; /* elements */
+    uint64_t numbers[MOST_NUMBERS];
+    size_t below; /* how far the lent arrays end below a forbidden page, a multiple of 8 */
+    int null;     /* whether an empty array is the null pointer */
+};
+
+/* What came of it. The arrays are those lent: they stand until the next call. */
+struct outcome {
+    uint64_t answer;
+    const uint8_t *table;
+    const uint8_t *result;
+    const char *fault; /* what was touched that must not be, or null */
+};
+
+/* Gets the memory, once. */
+void call_open(void);
+
+struct outcome call_make(const struct call *call);
+
+/* Where byte i of an array in hex stands in memory: the elements are written high byte first, and stored low byte first. */
+size_t call_byte_at(size_t i, size_t element);
+
+/* The two halves of the line, the second with its = and the end of the line. */
+void call_write(FILE *out, const struct call *call);
+void outcome_write(FILE *out, const struct call *call, const struct outcome *outcome);
+
+#endif

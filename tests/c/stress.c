@@ -1,0 +1,308 @@
+/*
+ * Hostile calls of every kind: stress SEED CALLS EVERY. Makes so many calls, the same for the same seed: random bytes, valid messages
+ * and damaged ones, times at the edges of 64 bits, tables of every bad length, tables of random bytes, result arrays of wrong
+ * lengths. After each it looks at the guards of all that was lent; at a fault it writes the call and ends with 1. One call in EVERY
+ * is written as a line of call.h, for the model to answer too.
+ */
+#include "call.h"
+#include <addercoil.h>
+#include <stdlib.h>
+#include <string.h>
+
+/* ---- Chance ---- */
+
+static uint64_t state;
+
+/* splitmix64 */
+static uint64_t any(void) {
+    uint64_t z = state += 0x9E3779B97F4A7C15u;
+    z = (z ^ z >> 30) * 0xBF58476D1CE4E5B9u;
+    z = (z ^ z >> 27) * 0x94D049BB133111EBu;
+    return z ^ z >> 31;
+}
+
+static uint64_t below(uint64_t n) {
+    return any() % n;
+}
+
+static uint64_t pick(const uint64_t *list, size_t length) {
+    return list[below(length)];
+}
+#define ONE_OF(...) pick((const uint64_t[]){__VA_ARGS__}, sizeof((const uint64_t[]){__VA_ARGS__}) / sizeof(uint64_t))
+
+static void fill(uint8_t *bytes, size_t size) {
+    size_t i;
+    for (i = 0; i < size; i++) {
+        bytes[i] = (uint8_t)any();
+    }
+}
+
+/* A number of any size: small, at an edge, or whatever. */
+static uint64_t number(void) {
+    uint64_t edge = (uint64_t)1 << below(64);
+    switch (below(4)) {
+    case 0:
+        return below(8);
+    case 1:
+        return edge - below(3) + 1;
+    case 2:
+        return 0 - below(3);
+    default:
+        return any() >> below(64);
+    }
+}
+
+/* ---- Messages and blocks ---- */
+
+static uint32_t remainder_of(const uint8_t *bytes, size_t size) {
+    uint32_t r = 0;
+    size_t i;
+    int bit;
+    for (i = 0; i < size; i++) {
+        r ^= (uint32_t)bytes[i] << 16;
+        for (bit = 0; bit < 8; bit++) {
+            r = r & 0x800000 ? (r << 1 ^ 0xFFF409) & 0xFFFFFF : r << 1;
+        }
+    }
+    return r;
+}
+
+/* Sets the last three bytes so that the remainder is 0. */
+static void seal(uint8_t *bytes, size_t size) {
+    uint32_t r = remainder_of(bytes, size - 3);
+    bytes[size - 3] = (uint8_t)(r >> 16);
+    bytes[size - 2] = (uint8_t)(r >> 8);
+    bytes[size - 1] = (uint8_t)r;
+}
+
+/* 14 bytes: often a message of one of a few aircraft, so that tracks grow; else of anybody, damaged, or noise. */
+static void make_message(uint8_t *message) {
+    uint64_t kind = below(16), type = below(4) == 0 ? 19 : below(16) == 0 ? below(32) : 1 + below(22);
+    fill(message, ADDERCOIL_MESSAGE);
+    if (kind == 0) {
+        return;
+    }
+    if (kind > 1) {
+        message[0] = (uint8_t)ONE_OF(17 << 3 | 5, 17 << 3, 18 << 3, 18 << 3 | 1);
+        message[4] = (uint8_t)(type << 3 | (type == 19 ? 1 + below(4) : below(8)));
+    }
+    if (kind > 2) {
+        memset(message + 1, (int)(kind % 4), 3);
+    }
+    seal(message, ADDERCOIL_MESSAGE);
+    if (kind == 3) {
+        message[below(ADDERCOIL_MESSAGE)] ^= (uint8_t)(1 << below(8));
+    }
+}
+
+static void put_time(uint8_t *bytes, uint64_t time) {
+    int i;
+    for (i = 0; i < 8; i++) {
+        bytes[i] = (uint8_t)(time >> (56 - 8 * i));
+    }
+}
+
+/* A block of a capture: of rising times, and now and then broken. */
+static void make_block(uint8_t *block, uint64_t time) {
+    size_t count = below(24), i;
+    memset(block, 0, ADDERCOIL_BLOCK);
+    block[0] = (uint8_t)count;
+    for (i = 0; i < count; i++) {
+        time += ONE_OF(0, 1, 400, 10001);
+        put_time(block + 3 + 22 * i, time);
+        make_message(block + 3 + 22 * i + 8);
+    }
+    if (below(8) == 0) {
+        block[below(ADDERCOIL_BLOCK)] ^= (uint8_t)any();
+    }
+    seal(block, ADDERCOIL_BLOCK);
+    if (below(16) == 0) {
+        block[below(ADDERCOIL_BLOCK)] ^= (uint8_t)any();
+    }
+}
+
+/* ---- Tables ---- */
+
+/* Tables that live on from call to call, small ones mostly. */
+static const size_t live_places[] = {1, 2, 3, 5, 8, 16, 256, 1024};
+enum { LIVE = sizeof live_places / sizeof live_places[0] };
+static uint8_t live[LIVE][ADDERCOIL_TABLE_BYTES(1024)];
+static uint8_t strange[LENT_MOST]; /* a table for one call only */
+static uint8_t given[4096];
+
+static uint64_t clock_of(const uint8_t *table) {
+    uint64_t clock = 0;
+    int i;
+    for (i = 7; i >= 0; i--) {
+        clock = clock << 8 | table[i];
+    }
+    return clock;
+}
+
+/* Lengths that no table has, or any length at all. */
+static size_t bad_length(void) {
+    size_t whole = ADDERCOIL_TABLE_BYTES(1 + below(6));
+    return below(4) == 0 ? below(LENT_MOST / (below(16) == 0 ? 1 : 64))
+                         : ONE_OF(0, 1, 8, 15, 16, 17, whole - 1, whole + 1, ADDERCOIL_TABLE_BYTES(1025), 79);
+}
+
+/* A live table, sometimes with a byte of it changed; or a strange one. */
+static void choose_table(struct call *call) {
+    size_t which = below(24) < 22 ? below(6) : 6 + below(2);
+    uint64_t kind = below(32);
+    call->table = live[which];
+    call->table_size = ADDERCOIL_TABLE_BYTES(live_places[which]);
+    if (kind < 4) {
+        call->table = strange;
+        call->table_size = kind < 2 ? bad_length() : ADDERCOIL_TABLE_BYTES(1 + below(6));
+        fill(strange, call->table_size);
+    } else if (kind == 4) {
+        call->table[below(call->table_size)] = (uint8_t)ONE_OF(0, 1, 2, 3, 255, below(256));
+    }
+}
+
+/* ---- Calls ---- */
+
+/* The receiver's calls come most often, since they make tables that are worth reading; pairs have the rarest refusal. */
+static enum function choose_function(void) {
+    uint64_t n = below(64);
+    return n < 28 ? RECEIVE : n < 32 ? FEED_BLOCK : n < 34 ? PAIR : (enum function)below(FUNCTIONS);
+}
+
+/* A length that is right, or often one that is near it. */
+static size_t about(size_t length) {
+    return below(16) != 0 ? length : ONE_OF(0, 1, 2, length - 1, length + 1, below(200));
+}
+
+static size_t result_length(enum function function) {
+    switch (function) {
+    case SITE:
+        return about(ADDERCOIL_SITE);
+    case LOOK_UP:
+        return about(ADDERCOIL_TRACK);
+    case HEADER:
+    case LINE:
+        return about(ADDERCOIL_LINE);
+    case ENCODE_POSITION:
+    case PAIR:
+    case SINGLE:
+        return about(ADDERCOIL_PLACE);
+    case DECODE:
+        return about(ADDERCOIL_FIELDS);
+    case ENCODE:
+        return about(ADDERCOIL_MESSAGE);
+    default:
+        return about(1);
+    }
+}
+
+/* Fields of a message that was decoded, now and then with an entry of any size. */
+static size_t make_fields(void) {
+    uint8_t message[ADDERCOIL_MESSAGE];
+    uint64_t fields[ADDERCOIL_FIELDS];
+    size_t i;
+    make_message(message);
+    if (addercoil_decode(message, sizeof message, fields, ADDERCOIL_FIELDS) != ADDERCOIL_OK) {
+        for (i = 0; i < ADDERCOIL_FIELDS; i++) {
+            fields[i] = number();
+        }
+    } else if (below(2) == 0) {
+        fields[below(ADDERCOIL_FIELDS)] = number();
+    }
+    fill(given, sizeof given);
+    memcpy(given, fields, sizeof fields);
+    return about(ADDERCOIL_FIELDS) * sizeof fields[0];
+}
+
+static size_t make_given(enum function function, uint64_t time) {
+    switch (function) {
+    case RECEIVE:
+    case DECODE:
+        make_message(given);
+        return about(ADDERCOIL_MESSAGE);
+    case FEED_BLOCK:
+        make_block(given, time);
+        return about(ADDERCOIL_BLOCK);
+    case ENCODE:
+        return make_fields();
+    default:
+        return 0;
+    }
+}
+
+/* A time near the clock, mostly after it; or any. */
+static uint64_t make_time(uint64_t clock) {
+    return below(64) == 0 ? number() : clock + ONE_OF(0, 0, 1, 400, 5000, 10000, 10001, 120000, 125000, 0 - (uint64_t)1);
+}
+
+static uint64_t make_number(enum function function, int i, uint64_t time) {
+    uint64_t key = ONE_OF(1, 2) << 24 | below(4) * 0x010101;
+    switch (function) {
+    case RECEIVE:
+        return time;
+    case NEXT:
+    case LOOK_UP:
+    case LINE:
+        return below(8) == 0 ? number() : key;
+    case PAIR:
+        return below(32) == 0 ? number() : below(i == 4 ? 2 : 131072);
+    case ENCODE_POSITION:
+    case SINGLE:
+        if (below(32) == 0) {
+            return number();
+        }
+        if (i < 2) {
+            return i == 0 ? below(((uint64_t)1 << 31) + 1) - ((uint64_t)1 << 30) : any() >> 32;
+        }
+        return below(i < 4 && function == SINGLE ? 131072 : 2);
+    case TABLE_BYTES:
+        return below(2) == 0 ? below(1100) : number();
+    default:
+        return number();
+    }
+}
+
+static struct call make_call(void) {
+    struct call call = {.function = choose_function(), .given = given, .below = 8 * below(9), .null = (int)below(2)};
+    const struct shape *shape = &shapes[call.function];
+    uint64_t time = 0;
+    int i;
+    if (shape->table != NO_TABLE) {
+        choose_table(&call);
+        time = make_time(call.table_size < 8 ? 0 : clock_of(call.table));
+    }
+    call.given_size = make_given(call.function, time);
+    call.result_length = shape->result == NOTHING ? 0 : result_length(call.function);
+    for (i = 0; i < shape->numbers; i++) {
+        call.numbers[i] = make_number(call.function, i, time);
+    }
+    return call;
+}
+
+int main(int count, char **words) {
+    unsigned long calls, every, i;
+    if (count != 4) {
+        fputs("stress SEED CALLS EVERY\n", stderr);
+        return 2;
+    }
+    state = strtoull(words[1], NULL, 10);
+    calls = strtoul(words[2], NULL, 10);
+    every = strtoul(words[3], NULL, 10);
+    call_open();
+    for (i = 0; i < calls; i++) {
+        struct call call = make_call();
+        struct outcome outcome = call_make(&call);
+        if (outcome.fault != NULL || i % every == 0) {
+            call_write(stdout, &call);
+            outcome_write(stdout, &call, &outcome);
+        }
+        if (outcome.fault != NULL) {
+            fprintf(stderr, "call %lu: %s\n", i, outcome.fault);
+            return 1;
+        }
+        if (call.table_size != 0) {
+            memcpy(call.table, outcome.table, call.table_size);
+        }
+    }
+    return 0;
+}
