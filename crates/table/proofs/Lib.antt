@@ -11,3 +11,5 @@ pub mod Delivered
 pub mod Ways
 pub mod Emptied
 pub mod Laws
+pub mod Exactly
+pub mod Promised

@@ -1,4 +1,5 @@
 pub mod Layout
+pub mod Said
 pub mod Scan
 pub mod Table
 pub mod View

@@ -1,0 +1,31 @@
+-- What the answers say in document 01's terms: a number of its table, or the text of a line; or nothing, of a key that is not held.
+use Prim.Native.Nat.{ℕ}
+use mathlib.Core.List.{List}
+use mathlib.Core.Option.{Option, some, none}
+use Rattle.refusals.specs.Numbers.{numberOf}
+use Rattle.track.specs.declared.Track.{Track}
+use Rattle.text.specs.declared.Line.{Line}
+use Rattle.text.specs.Lines.{rowText, textIn}
+use Rattle.report.specs.declared.Printed.{Printed}
+use Rattle.report.specs.declared.Printed.the-variants.{Text, Nothing, Refused}
+use Rattle.report.specs.declared.Report.{Report}
+use Rattle.report.specs.Listing.{rowOf}
+
+pub data Said : Type 0 where
+  number : ℕ → Said
+  text : List ℕ → Said
+  nothing : Said
+
+-- the answer, with the line beside it
+abbrev pub printedSaid : Printed → Line → Said
+printedSaid Text l = text (textIn l)
+printedSaid Nothing l = nothing
+printedSaid (Refused r) l = number (numberOf r)
+
+abbrev pub reportSaid : Report → Said
+reportSaid x = printedSaid (x .answer) (x .line)
+
+-- what is due for a key, by its track: its line, or nothing where it is not held
+abbrev pub lineDue : ℕ → Option Track → Said
+lineDue key none = nothing
+lineDue key (some t) = text (rowText (rowOf key t))
