@@ -1,5 +1,5 @@
-"""Writes the samples, each with the listing that it must give, or compares them with those that stand: captures, one of which the program listing
-is run on, and lines in hex for the example in C.
+"""Writes the samples, each with the listing that it must give, or compares them with those that stand: captures, one of
+which the program listing is run on, and lines in hex for the example in C.
 
     python3 reference/make_samples.py [--check] [--root FOLDER]
 

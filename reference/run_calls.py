@@ -2,8 +2,8 @@
 
     python3 reference/run_calls.py
 
-tools/build-c must have built target/c/calls. Among the arguments are wrong lengths, damaged messages, tables of random bytes,
-and tables whose values are just out of their ranges. The first difference is named, and the status is 1.
+tools/build-c must have built target/c/calls. Among the arguments are wrong lengths, damaged messages, tables of random
+bytes, and tables whose values are just out of their ranges. The first difference is named, and the status is 1.
 """
 
 import sys
@@ -127,7 +127,7 @@ def some_message(chance):
 
 
 def some_fields(chance):
-    """The fields of a message, entries that the encoder does not read being anything; often with one changed, or a wrong length."""
+    """The fields of a message, often with one changed, or a wrong length. What the encoder does not read is anything."""
     entries = row(AT["FIELDS"], message_row(messages.decode(random_valid(chance))))
     for at in (AT["KEY"], *range(20, AT["FIELDS"])):
         entries[at] = number(chance)
@@ -232,7 +232,8 @@ def main():
     if done.returncode != 0 or found:
         print(f"status {done.returncode} {done.stderr.decode()}\n{found}")
         return 1
-    print(f"{len(asked)} calls of {len(FUNCTIONS)} functions: C answers and leaves what the model does. Numbers: {summary(asked)}")
+    print(f"{len(asked)} calls of {len(FUNCTIONS)} functions: C answers and leaves what the model does")
+    print(f"how often each number came back: {summary(asked)}")
     return 0
 
 

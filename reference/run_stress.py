@@ -2,8 +2,8 @@
 
     python3 reference/run_stress.py [SEED [CALLS]]
 
-tools/build-c must have built target/c/stress. It looks at guard bytes around all that is lent after each call, and ends at the
-first that changed. Of its calls one in 100 is compared here. The first difference is named, and the status is 1.
+tools/build-c must have built target/c/stress. It looks at guard bytes around all that is lent after each call, and ends
+at the first that changed. Of its calls one in 100 is compared here. The first difference is named, and the status is 1.
 """
 
 import sys
@@ -12,7 +12,7 @@ from collections import Counter
 from embedding import FUNCTIONS, outcome_text
 from programs import ran
 
-SEED, CALLS, EVERY = 13, 1_000_000, 100
+SEED, CALLS, EVERY = 13, 600_000, 100
 NUMBERS = {*map(str, range(11))}  # the paper's 0 to 10; 11 is answered by no C function, a bad block is counted
 
 

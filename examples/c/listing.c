@@ -1,6 +1,6 @@
 /*
  * Reads messages in hex on standard input, one a line as *HEX; or HEX, keeps a table of 256 places and prints the
- * listing at the end. Message k, from 0, arrives at k times STEP milliseconds; STEP is the argument, 1 if there is none.
+ * listing at the end. Message k, from 0, arrives at k times STEP milliseconds; STEP is the argument, or 1.
  *
  * rt staticlib addercoil && gcc -std=c99 -Iinclude examples/c/listing.c target/staticlib/libaddercoil.a -o c-listing
  *

@@ -1,12 +1,12 @@
 /*
- * A call of any function of addercoil.h as a value, so that a script or a die can choose it. It is made with guards around
- * everything lent, and it can be written as a line that the model reads:
+ * A call of any function of addercoil.h as a value, so that a script or a die can choose it. It is made with guards
+ * around everything lent, and it can be written as a line that the model reads:
  *
  *     NAME [TABLE] [GIVEN] [LENGTH] NUMBER.. = ANSWER [RESULT] [TABLE]
  *
  * TABLE and GIVEN are what is lent, in hex; LENGTH is how many elements the result array has, NUMBERs are in decimal.
- * Behind the = stand the answer, the result array, and the table where it is lent to be written. Elements of 64 bits are 16
- * digits each; nothing at all is "-".
+ * Behind the = stand the answer, the result array, and the table where it is lent to be written. Elements of 64 bits
+ * are 16 digits each; nothing at all is "-".
  */
 #ifndef CALL_H
 #define CALL_H
@@ -15,8 +15,23 @@
 #include <stdio.h>
 
 enum function {
-    TABLE_BYTES, SET_UP, SET_UP_AT, RECEIVE, CLOCK, SITE, NEXT, LOOK_UP, HEADER, LINE, FEED_BLOCK,
-    ENCODE_POSITION, PAIR, SINGLE, DECODE, ENCODE, FUNCTIONS
+    TABLE_BYTES,
+    SET_UP,
+    SET_UP_AT,
+    RECEIVE,
+    CLOCK,
+    SITE,
+    NEXT,
+    LOOK_UP,
+    HEADER,
+    LINE,
+    FEED_BLOCK,
+    ENCODE_POSITION,
+    PAIR,
+    SINGLE,
+    DECODE,
+    ENCODE,
+    FUNCTIONS
 };
 
 enum lends { NOTHING = 0, BYTES = 1, WORDS = 8 }; /* the size of an element */
@@ -62,7 +77,8 @@ void call_open(void);
 
 struct outcome call_make(const struct call *call);
 
-/* Where byte i of an array in hex stands in memory: the elements are written high byte first, and stored low byte first. */
+/* Where byte i of an array in hex stands in memory: the elements are written high byte first, and stored low byte
+ * first. */
 size_t call_byte_at(size_t i, size_t element);
 
 /* The two halves of the line, the second with its = and the end of the line. */

@@ -1,6 +1,7 @@
 /*
- * Makes the calls that the lines of standard input say, the first halves of the lines of call.h, and writes the second halves:
- * calls < LINES. Of the lent arrays every other one ends at a page that nobody may touch. Ends with 1 at a fault.
+ * Makes the calls that the lines of standard input say, the first halves of the lines of call.h, and writes the second
+ * halves: calls < LINES. Of the lent arrays every other one ends at a page that nobody may touch. Ends with 1 at a
+ * fault.
  */
 #include "call.h"
 #include <ctype.h>

@@ -39,5 +39,6 @@ static int all_guards(const uint8_t *from, const uint8_t *to) {
 }
 
 int lent_untouched(const struct lent *lent) {
-    return lent->at == NULL || (all_guards(lent->at - GUARDS, lent->at) && all_guards(lent->at + lent->size, lent->end));
+    return lent->at == NULL ||
+           (all_guards(lent->at - GUARDS, lent->at) && all_guards(lent->at + lent->size, lent->end));
 }

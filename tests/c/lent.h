@@ -12,17 +12,17 @@
 #define LENT_MOST 98304
 
 struct lent {
-    uint8_t *end;   /* the page that nobody may touch begins here */
-    uint8_t *at;    /* what is lent, or null */
-    size_t size;    /* its bytes */
+    uint8_t *end; /* the page that nobody may touch begins here */
+    uint8_t *at;  /* what is lent, or null */
+    size_t size;  /* its bytes */
 };
 
 /* Gets the memory, once. */
 void lent_open(struct lent *lent);
 
 /*
- * Lends so many bytes, which end so many bytes below the forbidden page, 64 at most. A size of 0 lends the null pointer if
- * null says so. What it holds is for the caller to fill.
+ * Lends so many bytes, which end so many bytes below the forbidden page, 64 at most. A size of 0 lends the null pointer
+ * if null says so. What it holds is for the caller to fill.
  */
 void *lend(struct lent *lent, size_t size, size_t below, int null);
 

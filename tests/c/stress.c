@@ -1,8 +1,8 @@
 /*
- * Hostile calls of every kind: stress SEED CALLS EVERY. Makes so many calls, the same for the same seed: random bytes, valid messages
- * and damaged ones, times at the edges of 64 bits, tables of every bad length, tables of random bytes, result arrays of wrong
- * lengths. After each it looks at the guards of all that was lent; at a fault it writes the call and ends with 1. One call in EVERY
- * is written as a line of call.h, for the model to answer too.
+ * Hostile calls of every kind: stress SEED CALLS EVERY. Makes so many calls, the same for the same seed: random bytes,
+ * valid messages and damaged ones, times at the edges of 64 bits, tables of every bad length, tables of random bytes,
+ * result arrays of wrong lengths. After each it looks at the guards of all that was lent; at a fault it writes the call
+ * and ends with 1. One call in EVERY is written as a line of call.h, for the model to answer too.
  */
 #include "call.h"
 #include <addercoil.h>
@@ -77,7 +77,7 @@ static void seal(uint8_t *bytes, size_t size) {
 
 /* 14 bytes: often a message of one of a few aircraft, so that tracks grow; else of anybody, damaged, or noise. */
 static void make_message(uint8_t *message) {
-    uint64_t kind = below(16), type = below(4) == 0 ? 19 : below(16) == 0 ? below(32) : 1 + below(22);
+    uint64_t kind = below(16), type = ONE_OF(19, 1 + below(22), 1 + below(22), below(16) == 0 ? below(32) : 11);
     fill(message, ADDERCOIL_MESSAGE);
     if (kind == 0) {
         return;
@@ -163,10 +163,16 @@ static void choose_table(struct call *call) {
 
 /* ---- Calls ---- */
 
-/* The receiver's calls come most often, since they make tables that are worth reading; pairs have the rarest refusal. */
+/* Receiving comes most often, since it makes tables that are worth reading; pairs have the rarest refusal. */
 static enum function choose_function(void) {
     uint64_t n = below(64);
-    return n < 28 ? RECEIVE : n < 32 ? FEED_BLOCK : n < 34 ? PAIR : (enum function)below(FUNCTIONS);
+    if (n < 28) {
+        return RECEIVE;
+    }
+    if (n < 32) {
+        return FEED_BLOCK;
+    }
+    return n < 34 ? PAIR : (enum function)below(FUNCTIONS);
 }
 
 /* A length that is right, or often one that is near it. */
@@ -232,7 +238,8 @@ static size_t make_given(enum function function, uint64_t time) {
 
 /* A time near the clock, mostly after it; or any. */
 static uint64_t make_time(uint64_t clock) {
-    return below(64) == 0 ? number() : clock + ONE_OF(0, 0, 1, 400, 5000, 10000, 10001, 120000, 125000, 0 - (uint64_t)1);
+    return below(64) == 0 ? number()
+                          : clock + ONE_OF(0, 0, 1, 400, 5000, 10000, 10001, 120000, 125000, 0 - (uint64_t)1);
 }
 
 static uint64_t make_number(enum function function, int i, uint64_t time) {
