@@ -1,6 +1,5 @@
 -- `division::table::divided` meets its contract: eight steps of the division on zero bits, which is the rule of the table.
 -- Assumes nothing.
-use mathlib.Core.Path.{sym, _∙_}
 use borrow.Author.Needs.{needs}
 use Rattle.division.specs.Division.{remainderFrom}
 use Rattle.division.proofs.Entries.{entry-is}
