@@ -54,10 +54,6 @@ by-table r b hr hb =
 pub byte-below : (r b : ℕ) → r < 2 ^ 24 → remainderFrom r (bitsOf (b ∷ [])) < 2 ^ 24
 byte-below r b h = below-24 r (bitsOf (b ∷ [])) h (bits-bits (b ∷ []))
 
-pub stepped-below : (r b : ℕ) → r < 2 ^ 24 → b < 256 → stepped r b < 2 ^ 24
-unfolding stepped
-stepped-below r b hr hb = byte-below (bitXor r (b * 2 ^ 16)) 0 (xor-lt 24 r (b * 2 ^ 16) hr (omega arith))
-
 -- the step by the table
 pub step-is : (r b : ℕ) → r < 2 ^ 24 → b < 256 → bitXor (r % 2 ^ 16 * 256) (getD table (bitXor (r / 2 ^ 16) b) 0) ≡ stepped r b
 unfolding stepped

@@ -2,7 +2,7 @@
 -- Assumes nothing.
 use Prim.Native.Nat.{ℕ, zero, suc, _+_, _*_, _^_, _<_, _≤_}
 use mathlib.Core.Path.{_≡_, refl, ap, ap₂, sym, _∙_}
-use mathlib.Core.List.{List, [], _∷_, _++_}
+use mathlib.Core.List.{List, [], _∷_}
 use native.Mathlib.Nat.{mod-eq-of-lt, mul-comm, mul-assoc, add-mul, add-assoc, mul-le-mul-left}
 use native.Mathlib.Omega.{arith}
 use lib.Pow.{pow-pos, pow-add}
@@ -11,7 +11,7 @@ use Rattle.fields.specs.Packing.{total, pack, unpack}
 use Rattle.fields.specs.Bytes.{number, Bytes}
 use Rattle.fields.proofs.Packing.{pack-unpack, pack-append}
 use Rattle.fields.proofs.Bytes.{total-bytes}
-use Rattle.division.specs.Division.{reduce, remainderFrom, bitsOf}
+use Rattle.division.specs.Division.{remainderFrom, bitsOf}
 use Rattle.division.proofs.Linear.{low}
 
 unfoldable pub ones : List ℕ → List ℕ

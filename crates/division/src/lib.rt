@@ -1,7 +1,7 @@
 // One byte of the division by x^24 plus the terms of 0xFFF409, by a table.
-mod table;
+mod lookup;
 
-use table::entry;
+use lookup::entry;
 ghost use mathlib.Core.Path.{_≡_};
 ghost use Prim.Native.Nat.{_<_, _%_, _^_};
 ghost use Rattle.division.specs.Division.{stepped};

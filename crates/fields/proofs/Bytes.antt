@@ -6,10 +6,10 @@ use mathlib.Core.List.{List, [], _∷_, _++_}
 use native.Mathlib.Nat.{mod-eq-of-lt}
 use native.Mathlib.Omega.{arith}
 use lib.Dec.{lit<}
-use lib.Pow.{pow-add, pow-mono, shr-shr}
-use lib.ListN.{length, replicate, take, drop, set, getD, length-append, length-replicate, replicate-append-replicate, length-set, length-drop, take-append-drop}
+use lib.Pow.{pow-mono, shr-shr}
+use lib.ListN.{length, replicate, take, drop, set, length-append, length-replicate, replicate-append-replicate, length-set, length-drop, take-append-drop}
 use lib.Seq.{getD-drop, drop-cons, getD-set-same, drop-set-lt}
-use Rattle.fields.specs.Packing.{total, pack, unpack, Fit}
+use Rattle.fields.specs.Packing.{total, pack, Fit}
 use Rattle.fields.specs.Bytes.{number, bytesOf, Bytes}
 use Rattle.fields.proofs.Packing.{pack-append, pack-lt, unpack-pack, pack-unpack}
 
@@ -21,9 +21,6 @@ number-append xs ys =
 
 pub number-snoc : (xs : List ℕ) (b : ℕ) → number (xs ++ b ∷ []) ≡ number xs * 256 + b
 number-snoc xs b = omega (arith, number-append xs (b ∷ []))
-
-pub pow-byte : (i : ℕ) → 2 ^ (8 * (i + 1)) ≡ 2 ^ (8 * i) * 256
-pow-byte i = ap (λ (k : ℕ). 2 ^ k) (let e : 8 * (i + 1) ≡ 8 * i + 8 = omega arith in e) ∙ pow-add 2 (8 * i) 8
 
 -- the bits of k bytes
 pub total-bytes : (k : ℕ) → total (replicate k 8) ≡ 8 * k

@@ -13,7 +13,6 @@ use Rattle.refusals.specs.Numbers.{numberOf}
 use Rattle.fields.specs.Packing.{field, total, unpack}
 use Rattle.fields.specs.Bytes.{number as numeral}
 use Rattle.fields.proofs.Packing.{unpack-above}
-use Rattle.parity.specs.Parity.{remainder}
 use Rattle.layouts.specs.Layouts.{
   me,
   isIdentification,

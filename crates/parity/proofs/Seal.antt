@@ -1,8 +1,8 @@
 -- The laws of parity. More bytes go on from what is left; an exclusive-or leaves the exclusive-or; and three bytes set behind a string make its
 -- remainder 0 just when they are the seal's, since three bytes are their own remainder and add it to what three zero bytes would leave.
 -- Assumes nothing.
-use Prim.Native.Nat.{ℕ, zero, suc, _+_, _*_, _/_, _%_, _^_, _<_, _≤_}
-use mathlib.Core.Path.{_≡_, refl, sym, ap, ap₂, subst, _∙_}
+use Prim.Native.Nat.{ℕ, _+_, _*_, _%_, _^_, _<_, _≤_}
+use mathlib.Core.Path.{_≡_, refl, sym, ap, ap₂, _∙_}
 use mathlib.Core.List.{List, [], _∷_, _++_, append-assoc}
 use native.Mathlib.Nat.{mod-eq-of-lt}
 use native.Mathlib.Omega.{arith}
@@ -14,7 +14,7 @@ use Rattle.fields.specs.Bytes.{number, bytesOf, Bytes}
 use Rattle.fields.proofs.Packing.{unpack-fit}
 use Rattle.fields.proofs.Bytes.{number-bytes, bytes-number, bytes-drop, fit-bytes, number-lt}
 use Rattle.division.specs.Division.{remainderFrom, bitsOf, stepped, xorAll}
-use Rattle.division.proofs.Linear.{linear, below-24, more-bits, more-bytes, bits-bits, bits-xor, bits-length, added}
+use Rattle.division.proofs.Linear.{linear, below-24, more-bytes, bits-bits, bits-xor, bits-length, added}
 use Rattle.division.proofs.Small.{bytes-alone}
 use Rattle.division.proofs.Xor.{xor-zero}
 use Rattle.parity.specs.Parity.{remainder, seal}

@@ -1,7 +1,6 @@
 -- `signs::size_of` meets its contract: by the test of the sign, and below zero by proofs/Size.antt.
 -- Assumes nothing.
 use mir.Syntax.{w32}
-use Prim.Native.Nat.{_+_, _<_}
 use mathlib.Core.Path.{_≡_}
 use mathlib.Core.Bool.{true}
 use native.Mathlib.Omega.{arith}

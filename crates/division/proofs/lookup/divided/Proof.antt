@@ -1,11 +1,10 @@
--- `division::table::divided` meets its contract: eight steps of the division on zero bits, which is the rule of the table.
+-- `division::lookup::divided` meets its contract: eight steps of the division on zero bits, which is the rule of the table.
 -- Assumes nothing.
-use mathlib.Core.Path.{sym, _∙_}
 use borrow.Author.Needs.{needs}
 use Rattle.division.specs.Division.{remainderFrom}
 use Rattle.division.proofs.Entries.{entry-is}
-use Rattle.division.proofs.table.divided.Statement.{statement}
-use Rattle.division.proofs.table.divided.Tie as tie
+use Rattle.division.proofs.lookup.divided.Statement.{statement}
+use Rattle.division.proofs.lookup.divided.Tie as tie
 
 mul-shift : tie.Need-mul-shift
 mul-shift c = search needs

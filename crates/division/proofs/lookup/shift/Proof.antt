@@ -1,6 +1,6 @@
--- `division::table::shift` meets its contract: one step of the division, by the two cases of `reduce`.
+-- `division::lookup::shift` meets its contract: one step of the division, by the two cases of `reduce`.
 -- Assumes nothing.
-use Prim.Native.Nat.{ℕ, _+_, _-_, _*_, _^_, _<_}
+use Prim.Native.Nat.{ℕ, _-_, _*_, _^_, _<_}
 use native.Mathlib.Nat.{add-zero}
 use native.Mathlib.Omega.{arith}
 use borrow.Author.Needs.{needs}
@@ -8,8 +8,8 @@ use borrow.Author.Tests.{lt-ltb, le-ltb}
 use lib.Bits.{xor-lt}
 use lib.Dec.{lit<}
 use Rattle.division.specs.Division.{reduce, remainderFrom}
-use Rattle.division.proofs.table.shift.Statement.{statement}
-use Rattle.division.proofs.table.shift.Tie as tie
+use Rattle.division.proofs.lookup.shift.Statement.{statement}
+use Rattle.division.proofs.lookup.shift.Tie as tie
 
 mul-x : tie.Need-mul-x
 mul-x c = search needs
