@@ -68,10 +68,11 @@ fn format_of(f: u8) -> Format {
 }
 
 fn say_signed(z: i32) {
-    if signs::is_below(z) {
+    let wide = signs::widen(z);
+    if signs::is_below(wide) {
         io::write_all(STDOUT_FILENO, b"-");
     }
-    io::print_decimal(STDOUT_FILENO, signs::size_of(z) as u64);
+    io::print_decimal(STDOUT_FILENO, signs::size_of(wide));
 }
 
 fn say_refusal(r: Refusal) {

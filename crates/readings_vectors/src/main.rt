@@ -20,10 +20,11 @@ fn say(n: u32) {
 }
 
 fn say_signed(z: i32) {
-    if signs::is_below(z) {
+    let wide = signs::widen(z);
+    if signs::is_below(wide) {
         write(b"-");
     }
-    say(signs::size_of(z));
+    io::print_decimal(STDOUT_FILENO, signs::size_of(wide));
 }
 
 fn say_refused(r: Refusal) {

@@ -8,7 +8,7 @@ use borrow.Author.Tests.{lt-ltb, ltb-true}
 use lib.Dec.{T, ltb}
 use lib.IntN.{ℤ, pos, negsuc, natAbs, _+ℤ_, _-ℤ_}
 use lib.Signed.{ltZ, mag, nonNeg}
-use mir.Syntax.{w32}
+use mir.Syntax.{w64}
 use mir.Val.{SFits, toZ, ofZ}
 use mir.Facts.{toZ-ofZ}
 
@@ -31,24 +31,24 @@ pub above-nonNeg : (z : ℤ) → ltZ z (pos 0) ≡ false → T (nonNeg z)
 above-nonNeg (pos n) b = tt
 above-nonNeg (negsuc n) b = subst (λ (t : Bool). T t) b tt
 
-up-fits : (n : ℕ) (t : Bool) → n < 2 ^ 31 → mag (cond t (negsuc (suc n - 2)) (pos (1 - suc n))) < 2 ^ 31
+up-fits : (n : ℕ) (t : Bool) → n < 2 ^ 63 → mag (cond t (negsuc (suc n - 2)) (pos (1 - suc n))) < 2 ^ 63
 up-fits n true h = omega arith
 up-fits n false h = omega arith
 
-pub up : (z : ℤ) → ltZ z (pos 0) ≡ true → SFits w32 z → SFits w32 (z +ℤ pos 1)
+pub up : (z : ℤ) → ltZ z (pos 0) ≡ true → SFits w64 z → SFits w64 (z +ℤ pos 1)
 up (pos n) b h = absurd (never n b)
 up (negsuc n) b h = record { sfits = up-fits n (ltb 1 (suc n)) (h .sfits) }
 
 -- the same as the machine computes it, each step by way of its bits
-module _ (z : ℤ) (h : SFits w32 z) (b : ltZ z (pos 0) ≡ true) where
-  up-bits : toZ w32 (ofZ w32 (toZ w32 (ofZ w32 z) +ℤ pos 1)) ≡ z +ℤ pos 1
-  up-bits = ap (λ (x : ℤ). toZ w32 (ofZ w32 (x +ℤ pos 1))) (toZ-ofZ h) ∙ toZ-ofZ (up z b h)
+module _ (z : ℤ) (h : SFits w64 z) (b : ltZ z (pos 0) ≡ true) where
+  up-bits : toZ w64 (ofZ w64 (toZ w64 (ofZ w64 z) +ℤ pos 1)) ≡ z +ℤ pos 1
+  up-bits = ap (λ (x : ℤ). toZ w64 (ofZ w64 (x +ℤ pos 1))) (toZ-ofZ h) ∙ toZ-ofZ (up z b h)
 
-  pub flip-bits : pos 0 -ℤ toZ w32 (ofZ w32 (toZ w32 (ofZ w32 z) +ℤ pos 1)) ≡ pos (mag z)
+  pub flip-bits : pos 0 -ℤ toZ w64 (ofZ w64 (toZ w64 (ofZ w64 z) +ℤ pos 1)) ≡ pos (mag z)
   flip-bits = ap (λ (x : ℤ). pos 0 -ℤ x) up-bits ∙ flipped z b
 
-  pub mag-fits : SFits w32 (pos (mag z))
+  pub mag-fits : SFits w64 (pos (mag z))
   mag-fits = record { sfits = h .sfits }
 
-  pub size-bits : toZ w32 (ofZ w32 (pos 0 -ℤ toZ w32 (ofZ w32 (toZ w32 (ofZ w32 z) +ℤ pos 1)))) ≡ pos (mag z)
-  size-bits = ap (λ (x : ℤ). toZ w32 (ofZ w32 x)) flip-bits ∙ toZ-ofZ mag-fits
+  pub size-bits : toZ w64 (ofZ w64 (pos 0 -ℤ toZ w64 (ofZ w64 (toZ w64 (ofZ w64 z) +ℤ pos 1)))) ≡ pos (mag z)
+  size-bits = ap (λ (x : ℤ). toZ w64 (ofZ w64 x)) flip-bits ∙ toZ-ofZ mag-fits

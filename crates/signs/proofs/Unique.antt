@@ -2,10 +2,15 @@
 -- Assumes nothing.
 use mathlib.Core.Path.{sym, _∙_}
 use Rattle.refusals.specs.Answers.{OneAnswer}
+use Rattle.signs.proofs.widen.Kinds as widen-kinds
+use Rattle.signs.proofs.widen.Reads as widen
 use Rattle.signs.proofs.is_below.Kinds as is-below-kinds
 use Rattle.signs.proofs.is_below.Reads as is-below
 use Rattle.signs.proofs.size_of.Kinds as size-of-kinds
 use Rattle.signs.proofs.size_of.Reads as size-of
+
+pub widen-once : OneAnswer 0 widen-kinds.ps widen-kinds.r widen.Post
+widen-once κs args x y left left′ p q = p ∙ sym q
 
 pub is-below-once : OneAnswer 0 is-below-kinds.ps is-below-kinds.r is-below.Post
 is-below-once κs args x y left left′ p q = p ∙ sym q

@@ -89,10 +89,11 @@ fn say_flag(b: bool) {
 }
 
 fn say_signed(z: i32) {
-    if signs::is_below(z) {
+    let wide = signs::widen(z);
+    if signs::is_below(wide) {
         write(b"-");
     }
-    say_number(signs::size_of(z) as u64);
+    say_number(signs::size_of(wide));
 }
 
 fn say_spot(s: Spot) {

@@ -2,8 +2,6 @@
 use crate::write::put_byte;
 ghost use mathlib.Core.Path.{_≡_};
 ghost use Prim.Native.Nat.{_+_, _≤_, _<_, _^_};
-ghost use lib.IntN.{pos, natAbs};
-ghost use lib.Signed.{ltZ};
 ghost use Rattle.text.specs.Wrote.{Wrote};
 ghost use Rattle.text.specs.Numbers.{decimal, hex, hexDigit, signed};
 
@@ -42,29 +40,13 @@ pub(crate) fn put_hex(out: &mut [u8], at: usize, k: usize, n: u32) -> usize
     put_byte(out, a, hex_digit(n % 16))
 }
 
-fn is_below(z: i64) -> bool
-    ensures { λ r. ⌜ r ≡ ltZ z (pos 0) ⌝ }
-{
-    z < 0
-}
-
-// The size of a number, of the lowest too: -(z + 1) + 1 fits. Of 64 bits, for a longitude has 32 and no sign.
-fn size_of(z: i64) -> u64
-    ensures { λ r. ⌜ r ≡ natAbs z ⌝ }
-{
-    if z < 0 {
-        return (-(z + 1)) as u64 + 1;
-    }
-    z as u64
-}
-
 pub(crate) fn put_signed(out: &mut [u8], at: usize, z: i64) -> usize
     requires { ⌜ at + 21 < 2 ^ 64 ⌝ }
     ensures { λ r. ⌜ Wrote (now (out .entry)) at (signed z) r (now (out .exit)) ⌝ }
     ensures { λ r. ⌜ r ≤ at + 21 ⌝ }
 {
-    let n = size_of(z);
-    if is_below(z) {
+    let n = signs::size_of(z);
+    if signs::is_below(z) {
         let a = put_byte(out, at, b'-');
         return put_decimal(out, a, n);
     }

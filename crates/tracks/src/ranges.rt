@@ -29,7 +29,7 @@ fn counts_fit(c: Counts) -> bool
 pub(crate) fn pole_to_pole(spot: Spot) -> bool
     ensures { λ r. ⌜ r ≡ poleToPole (spot .latitude) ⌝ }
 {
-    signs::size_of(spot.latitude) <= 1073741824
+    signs::size_of(signs::widen(spot.latitude)) <= 1073741824
 }
 
 fn track_fits(t: Track) -> bool

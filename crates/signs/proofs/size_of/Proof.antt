@@ -1,6 +1,6 @@
 -- `signs::size_of` meets its contract: by the test of the sign, and below zero by proofs/Size.antt.
 -- Assumes nothing.
-use mir.Syntax.{w32}
+use mir.Syntax.{w64}
 use mathlib.Core.Path.{_≡_}
 use mathlib.Core.Bool.{true}
 use native.Mathlib.Omega.{arith}
@@ -51,7 +51,7 @@ cast-result-2 : tie.Need-cast-result-2
 cast-result-2 c =
     let z = c .before .args .z in
     let h = c .before .fits .z in
-    rw (toZ-ofZ h) (above-nonNeg z (rw (toZ-ofZ h) at (c .if1 .left)), fits-natAbs {w = w32} tt h)
+    rw (toZ-ofZ h) (above-nonNeg z (rw (toZ-ofZ h) at (c .if1 .left)), fits-natAbs {w = w64} tt h)
 
 returns-2 : tie.Need-returns-2
 returns-2 c = search needs

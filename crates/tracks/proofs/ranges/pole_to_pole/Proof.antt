@@ -1,17 +1,28 @@
 -- `tracks::ranges::pole_to_pole` meets its contract: the size of a latitude is at most a quarter turn.
 -- Assumes nothing.
-use mir.Facts.{toZ-ofZ}
-use mir.Syntax.{w32}
+use lib.IntN.{ℤ}
+use mir.Facts.{toZ-ofZ, sfits-widen}
+use mir.Syntax.{w32, w64}
+use mir.Val.{SFits}
 use native.Mathlib.Omega.{arith}
 use borrow.Author.Needs.{needs}
 use Rattle.tracks.proofs.ranges.pole_to_pole.Statement.{statement}
 use Rattle.tracks.proofs.ranges.pole_to_pole.Tie as tie
 
+wide : (z : ℤ) → SFits w32 z → SFits w64 z
+wide z h = sfits-widen tt h
+
+widen-requires : tie.Need-widen-requires
+widen-requires c κs = search needs
+
 size-of-requires : tie.Need-size-of-requires
 size-of-requires c κs = search needs
 
 returns : tie.Need-returns
-returns c = rw (c .size-of .ensures, toZ-ofZ {w = w32} {z = c .before .before .args .spot .latitude} (record { sfits = omega (arith, c .before .struct-told .given) }))
+returns c =
+    let z = c .before .before .before .args .spot .latitude in
+    let h : SFits w32 z = record { sfits = omega (arith, c .before .before .struct-told .given) } in
+    rw (c .size-of .ensures, c .before .widen .ensures, toZ-ofZ h, toZ-ofZ (wide z h))
 
 pub pole-to-pole-spec : {M : Type 1} → statement M
-pole-to-pole-spec = tie.close (tie.spec size-of-requires returns)
+pole-to-pole-spec = tie.close (tie.spec widen-requires size-of-requires returns)
