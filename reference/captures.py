@@ -72,11 +72,12 @@ def fold(whole):
 
 
 def offer(made, string, time):
-    """Receives one record; a refusal prints nothing."""
+    """Receives one record; a refusal prints nothing. Whether it was accepted."""
     try:
         table.receive(made, string, time)
+        return True
     except Refused:
-        pass
+        return False
 
 
 # The listing

@@ -41,7 +41,7 @@ AT = header_numbers()
 
 
 def signed(number):
-    """The number below 2^31 and above -2^31 of 32 bits."""
+    """The number, from -2^31 to below 2^31, of 32 bits."""
     return number - 2**32 if number >= 2**31 else number
 
 
@@ -179,7 +179,7 @@ def message_from(fields):
     return message | {name: fields[AT[ours]] for name, ours in entry_names(layout)}
 
 
-# Calls: each gives the entries of its result array, or its bytes, or raises Refused
+# Calls: each gives its result array, as numbers or as bytes, or raises Refused
 
 
 def table_bytes(places):

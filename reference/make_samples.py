@@ -188,11 +188,11 @@ def hex_lines(strings):
 
 
 def hex_listing(strings, step):
-    """What the example in C prints: message k, from 0, arrives at k times the step."""
-    made = bytearray(table.length_of(PLACES))
+    """What the example in C prints, message k, from 0, arriving at k times the step; and how many are refused."""
+    made, refused = bytearray(table.length_of(PLACES)), 0
     for k, string in enumerate(strings):
-        offer(made, string, k * step)
-    return listing_of(made, 0).encode("ascii")
+        refused += not offer(made, string, k * step)
+    return listing_of(made, 0).encode("ascii"), refused
 
 
 SAMPLES = {"example": example, "busy-hour": busy_hour}
@@ -211,7 +211,7 @@ def files():
             yield "crates/listing/stdout", text
     strings = list(minute())
     yield "samples/minute.hex", hex_lines(strings)
-    yield "samples/minute.listing", hex_listing(strings, STEP)
+    yield "samples/minute.listing", hex_listing(strings, STEP)[0]
 
 
 def main():

@@ -7,18 +7,20 @@ bytes, and tables whose values are just out of their ranges. The first differenc
 """
 
 import sys
-from collections import Counter
 from random import Random
 
 import messages
 import table as tables
+import traffic
 from captures import BLOCK, MOST_RECORDS, block
-from embedding import AT, BYTES, FUNCTIONS, WRITES, array_of, call_text, message_row, outcome_text, row
+from embedding import AT, BYTES, FUNCTIONS, WORDS, WRITES, array_of, call_text, message_row, outcome_text, row
 from positions import AIRBORNE, EVEN, ODD
 from positions import encode as counts_of
 from programs import ran
+from refusals import Refused
 from run_captures import damaged, message
-from tracks import I, O
+from tracks import I, O, Track
+from traffic import OTHER, TRANSPONDER
 from vectors.message_vectors import random_valid, sealed_message
 from vectors.position_vectors import random_counts, random_latitude, random_longitude
 from vectors.table_vectors import random_track
@@ -26,6 +28,7 @@ from vectors.table_vectors import random_track
 CALLS = 800  # of each function
 RECEIVED = 20  # times as many of receive, so that tracks grow
 LAST = 2**64 - 1
+FIRST_READING = 20  # from this entry on fields are readings
 KEYS = [kind << 24 | aa for kind in (I, O) for aa in (0, 1, 0xABCDEF, 2**24 - 1)]  # those of run_captures.message
 
 
@@ -76,6 +79,16 @@ def wrong_length(chance):
     return bytearray(chance.choice((0, 1, 15, 16, 17, near, tables.length_of(1025), chance.randrange(79) + 17)))
 
 
+def full(places):
+    """A table whose places are all held: its aircraft are 1, 2, and so on."""
+    made = bytearray(tables.length_of(places))
+    for place in range(places):
+        tables.put(made, tables.key_at(place), 4, I << 24 | place + 1)
+        at = tables.body_at(made, place)
+        made[at : at + tables.BODY] = tables.body_of(Track())
+    return made
+
+
 class Tables:
     """Tables that live on from call to call, so that tracks grow in them; and others for one call."""
 
@@ -83,14 +96,17 @@ class Tables:
         self.chance = chance
         self.live = [bytearray(tables.length_of(places)) for places in (1, 2, 3, 4, 8, 8, 8, 24)]
         self.large = [bytearray(tables.length_of(places)) for places in (256, 1024)]
+        self.full = [full(places) for places in (256, 1024)]
 
     def choose(self):
-        """A table, and what takes it after the call."""
-        kind = self.chance.randrange(100)
-        if kind < 65:
+        """A table. What a call leaves in one that lives on stays there."""
+        kind = self.chance.randrange(200)
+        if kind < 130:
             return self.chance.choice(self.live)
-        if kind < 67:
+        if kind < 132:
             return self.chance.choice(self.large)
+        if kind < 134:
+            return bytearray(self.chance.choice(self.full))
         return self.chance.choice((random_bytes, random_tracks, random_tracks, wrong_length))(self.chance)
 
 
@@ -105,9 +121,13 @@ def time_for(chance, table):
 # What a call is given
 
 
-def key(chance):
-    """A key that may be held, or any number."""
-    return chance.choice((*KEYS, number(chance) % 2**32))
+def key(chance, table):
+    """A key that is held, if there is one; or that may be; or any number."""
+    try:
+        held = [one for one in tables.held_keys(table) if one is not None]
+    except Refused:
+        held = []
+    return chance.choice((chance.choice(held or KEYS), chance.choice(KEYS), number(chance) % 2**32))
 
 
 def some_block(chance, table):
@@ -117,9 +137,26 @@ def some_block(chance, table):
     return made.ljust(about(chance, BLOCK), b"\0") if chance.randrange(8) else made[: about(chance, BLOCK)]
 
 
+def edge(chance, bits):
+    """A code of so many bits, mostly at an end of its range, where readings change their kind."""
+    last = 2**bits - 1
+    return max(0, chance.choice((0, 1, last - 3, last - 1, last, chance.getrandbits(bits))))
+
+
+LAYOUTS = [(1, None), (4, None), (5, None), (11, None), (21, None), (19, 1), (19, 2), (19, 3), (19, 4)]
+
+
+def edge_message(chance):
+    """A message of one of a few aircraft, its codes mostly at the ends of their ranges."""
+    type_code, subtype = chance.choice(LAYOUTS)
+    fields = {name: edge(chance, last - first + 1) for name, first, last in messages.layout(type_code, subtype)}
+    fields |= {"subtype": subtype} if subtype else {}
+    return traffic.message(chance.choice((TRANSPONDER, OTHER)), chance.choice(KEYS) % 2**24, type_code, **fields)
+
+
 def some_message(chance):
     """A message, one in ten of any DF, CF and TYPE, one in ten of another length than 14."""
-    length, made = about(chance, 14), message(chance)
+    length, made = about(chance, 14), chance.choice((message, edge_message))(chance)
     if chance.randrange(10) == 0:
         head = chance.choice((17, 18, chance.randrange(32))), chance.randrange(8)
         made = sealed_message(*head, chance.choice(KEYS) % 2**24, chance.randrange(32), chance.getrandbits(51))
@@ -129,7 +166,7 @@ def some_message(chance):
 def some_fields(chance):
     """The fields of a message, often with one changed, or a wrong length. What the encoder does not read is anything."""
     entries = row(AT["FIELDS"], message_row(messages.decode(random_valid(chance))))
-    for at in (AT["KEY"], *range(20, AT["FIELDS"])):
+    for at in (AT["KEY"], *range(FIRST_READING, AT["FIELDS"])):
         entries[at] = number(chance)
     if chance.randrange(2):
         entries[chance.randrange(AT["FIELDS"])] = number(chance)
@@ -163,7 +200,7 @@ def pair_counts(chance):
 def numbers_for(name, chance, table):
     """The plain numbers of a call."""
     if name in ("next", "look_up", "line"):
-        return [key(chance)]
+        return [key(chance, table)]
     if name == "receive":
         return [time_for(chance, table)]
     if name in ("header", "feed_block"):
@@ -219,10 +256,58 @@ def difference(asked, given):
     return None
 
 
-def summary(asked):
-    """How often each number came back."""
-    answers = Counter(int(outcome.split()[1]) for call, outcome in asked if not call.startswith("table_bytes"))
-    return ", ".join(f"{number}: {answers[number]}" for number in sorted(answers))
+# What must have been tried
+
+PAPER = "OK LENGTH LATE PARITY FORMAT TYPE FULL PLACES FIELD LATITUDE ZONES".split()  # 0 to 10, by the header's names
+READS = {0, 1, 7}
+NUMBERS = {
+    **{name: READS for name in ("clock", "site", "next", "look_up", "header", "line", "feed_block")},
+    **{"set_up": {0, 7}, "set_up_at": {0, 7, 8}, "receive": {0, 1, 2, 3, 4, 5, 6, 7}},
+    **{"encode_position": {0, 1, 8}, "pair": {0, 1, 8, 9, 10}, "single": {0, 1, 8, 9}},
+    **{"decode": {0, 1, 3, 4, 5}, "encode": {0, 1, 8}},
+}
+STEPPED = {"UNKNOWN", "KNOWN", "OVER"}
+KINDS = {
+    ("SURFACE", "SURFACE_SPEED_IS"): {"UNKNOWN", "KNOWN", "OVER", "NONE", "STOPPED"},
+    ("AIRBORNE", "AIRBORNE_ALTITUDE_IS"): {"UNKNOWN", "KNOWN"},
+    ("GROUND", "GROUND_EAST_IS"): STEPPED,
+    ("GROUND", "GROUND_NORTH_IS"): STEPPED,
+    ("AIR", "AIR_SPEED_IS"): STEPPED,
+    ("AIR", "VERTICAL_RATE_IS"): STEPPED,
+    ("GROUND", "VERTICAL_DIFFERENCE_IS"): STEPPED,
+}
+
+
+def header_faults():
+    """The header's numbers that are not the paper's."""
+    wrong = [name for number, name in enumerate(PAPER) if AT[name] != number]
+    return wrong + [name for name, size in (("BLOCK", BLOCK), ("MESSAGE", 14)) if AT[name] != size]
+
+
+def numbers_missing(asked):
+    """The numbers that a function can answer, and never did."""
+    seen = {(call.split()[0], int(outcome.split()[1])) for call, outcome in asked}
+    return {(name, number) for name, numbers in NUMBERS.items() for number in numbers} - seen
+
+
+def kinds_missing(asked):
+    """What a reading can be, and never was."""
+    outcomes = [outcome.split() for call, outcome in asked if call.startswith("decode ")]
+    rows = [array_of(words[2], WORDS) for words in outcomes if words[1] == "0"]
+    promised = {(layout, name, kind) for (layout, name), kinds in KINDS.items() for kind in kinds}
+    return {
+        (layout, name, kind)
+        for layout, name, kind in promised
+        if not any(one[AT["LAYOUT"]] == AT[layout] and one[AT[name]] == AT[kind] for one in rows)
+    }
+
+
+def full_missing(asked):
+    """Whether a table of 1,024 places was never full for a stranger."""
+    length = 2 * tables.length_of(1024)
+    return not any(
+        outcome.startswith("= 6 ") and len(call.split()[1]) == length for call, outcome in asked if call.startswith("receive ")
+    )
 
 
 def main():
@@ -232,8 +317,11 @@ def main():
     if done.returncode != 0 or found:
         print(f"status {done.returncode} {done.stderr.decode()}\n{found}")
         return 1
+    untried = [header_faults(), numbers_missing(asked), kinds_missing(asked), full_missing(asked)]
+    if any(untried):
+        print(f"the header has other numbers than the paper, or these were never tried: {untried}")
+        return 1
     print(f"{len(asked)} calls of {len(FUNCTIONS)} functions: C answers and leaves what the model does")
-    print(f"how often each number came back: {summary(asked)}")
     return 0
 
 

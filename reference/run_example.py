@@ -28,19 +28,21 @@ def odd_lines():
 
 
 def cases():
-    """Each case: its input, the step, and what must be printed."""
+    """Each case: its input, the bytes of its lines, and the step."""
     strings = list(minute())
-    yield hex_lines(strings), STEP, hex_listing(strings, STEP)
+    yield hex_lines(strings), strings, STEP
     rows = odd_lines()
-    yield "\n".join(line for line, _ in rows).encode("ascii"), 400, hex_listing([string for _, string in rows], 400)
-    yield b"", 1, hex_listing([], 1)
+    yield "\n".join(line for line, _ in rows).encode("ascii"), [string for _, string in rows], 400
+    yield b"", [], 1
 
 
 def main():
-    for given, step, expected in cases():
+    for given, strings, step in cases():
         done = ran("c/listing", step, given=given)
-        if done.returncode != 0 or done.stdout != expected:
-            print(f"status {done.returncode}; the model says\n{expected.decode()}and the example\n{done.stdout.decode()}")
+        listing, refused = hex_listing(strings, step)
+        if (done.returncode, done.stdout, done.stderr) != (0, listing, f"{refused} refused\n".encode("ascii")):
+            print(f"status {done.returncode}; the model says {refused} refused and\n{listing.decode()}and the example")
+            print((done.stderr + done.stdout).decode())
             return 1
     print("the example prints what the model says")
     return 0

@@ -13,12 +13,13 @@ from embedding import FUNCTIONS, outcome_text
 from programs import ran
 
 SEED, CALLS, EVERY = 13, 600_000, 100
+MOST_SECONDS = 120
 NUMBERS = {*map(str, range(11))}  # the paper's 0 to 10; 11 is answered by no C function, a bad block is counted
 
 
 def main():
     seed, calls = [*map(int, sys.argv[1:]), *(SEED, CALLS)[len(sys.argv) - 1 :]]
-    done = ran("c/stress", seed, calls, EVERY)
+    done = ran("c/stress", seed, calls, EVERY, seconds=MOST_SECONDS)
     sample = done.stdout.decode("ascii").splitlines()
     if done.returncode != 0:
         print(f"status {done.returncode} {done.stderr.decode()}\n{sample[-1] if sample else ''}")
@@ -32,7 +33,7 @@ def main():
         names[call.split()[0]] += 1
         answers[outcome.split()[0]] += call.split()[0] != "table_bytes"
     missing = {*FUNCTIONS} - {*names} | NUMBERS - {*answers}
-    if missing:
+    if missing and (seed, calls) == (SEED, CALLS):
         print(f"the sample has none of {missing}")
         return 1
     print(f"{calls} hostile calls: no guard was touched; of a sample of {len(sample)} each is as the model says")

@@ -63,6 +63,9 @@ static struct call read_call(char *line, unsigned long number) {
         bad_line("an array that cannot be lent", number);
     }
     call.result_length = shape->result == NOTHING ? 0 : number_of(strtok(NULL, " \n"), number);
+    if (call.result_length > LENT_MOST / WORDS) {
+        bad_line("a result array that cannot be lent", number);
+    }
     for (i = 0; i < shape->numbers; i++) {
         call.numbers[i] = number_of(strtok(NULL, " \n"), number);
     }

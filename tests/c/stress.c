@@ -1,13 +1,16 @@
 /*
- * Hostile calls of every kind: stress SEED CALLS EVERY. Makes so many calls, the same for the same seed: random bytes,
- * valid messages and damaged ones, times at the edges of 64 bits, tables of every bad length, tables of random bytes,
- * result arrays of wrong lengths. After each it looks at the guards of all that was lent; at a fault it writes the call
- * and ends with 1. One call in EVERY is written as a line of call.h, for the model to answer too.
+ * Hostile calls of every kind: stress SEED CALLS EVERY. Makes so many calls, the same for the same seed and compiler:
+ * random bytes, valid messages and damaged ones, times at the edges of 64 bits, tables of bad lengths, of random bytes,
+ * and full ones, result arrays of wrong lengths; and before them every length that a table can have or not. After each
+ * call it looks at the guards of all that was lent, and at what must be as it was. At a fault it names the call and
+ * ends with 1. One call in EVERY is written as a line of call.h, for the model to answer too.
  */
 #include "call.h"
 #include <addercoil.h>
+#include <signal.h>
 #include <stdlib.h>
 #include <string.h>
+#include <unistd.h>
 
 /* ---- Chance ---- */
 
@@ -139,6 +142,24 @@ static uint64_t clock_of(const uint8_t *table) {
     return clock;
 }
 
+static void put_low(uint8_t *bytes, uint64_t number, size_t size) {
+    size_t i;
+    for (i = 0; i < size; i++) {
+        bytes[i] = (uint8_t)(number >> 8 * i);
+    }
+}
+
+/* Every place held in date, by aircraft 1, 2, and so on: docs/TABLE.md has the offsets. */
+static void fill_places(uint8_t *table, size_t places) {
+    uint8_t *bodies = table + 16 + 4 * places;
+    size_t i;
+    memset(bodies, 0, 75 * places);
+    for (i = 0; i < places; i++) {
+        put_low(table + 16 + 4 * i, 1 << 24 | (i + 1), 4);
+        memcpy(bodies + 75 * i, table, 8); /* last heard at the clock */
+    }
+}
+
 /* Lengths that no table has, or any length at all. */
 static size_t bad_length(void) {
     size_t whole = ADDERCOIL_TABLE_BYTES(1 + below(6));
@@ -146,7 +167,7 @@ static size_t bad_length(void) {
                          : ONE_OF(0, 1, 8, 15, 16, 17, whole - 1, whole + 1, ADDERCOIL_TABLE_BYTES(1025), 79);
 }
 
-/* A live table, sometimes with a byte of it changed; or a strange one. */
+/* A live table, sometimes with a byte of it changed, or full; or a strange one. */
 static void choose_table(struct call *call) {
     size_t which = below(24) < 22 ? below(6) : 6 + below(2);
     uint64_t kind = below(32);
@@ -157,7 +178,10 @@ static void choose_table(struct call *call) {
         call->table_size = kind < 2 ? bad_length() : ADDERCOIL_TABLE_BYTES(1 + below(6));
         fill(strange, call->table_size);
     } else if (kind == 4) {
-        call->table[below(call->table_size)] = (uint8_t)ONE_OF(0, 1, 2, 3, 255, below(256));
+        size_t at = below(call->table_size);
+        call->table[at] = (uint8_t)ONE_OF(0, 1, 2, 3, 255, below(256));
+    } else if (kind == 5) {
+        fill_places(call->table, live_places[which]);
     }
 }
 
@@ -286,29 +310,70 @@ static struct call make_call(void) {
     return call;
 }
 
+/* ---- The run ---- */
+
+static unsigned long made; /* calls */
+
+/* A page that nobody may touch was touched. */
+static void on_touch(int number) {
+    char text[64];
+    int size = snprintf(text, sizeof text, "call %lu: memory beyond a lent array was touched\n", made);
+    (void)number;
+    if (write(STDERR_FILENO, text, (size_t)size) == size) {
+        _exit(1);
+    }
+    _exit(2);
+}
+
+/* Every length: the clock of a table that has one, or 7. */
+static int every_length(void) {
+    uint64_t clock[1];
+    size_t length;
+    for (length = 0; length <= sizeof strange; length++) {
+        int whole = length >= 16 + 79 && length <= 16 + 79 * 1024 && (length - 16) % 79 == 0;
+        if (addercoil_clock(strange, length, clock, 1) != (whole ? ADDERCOIL_OK : ADDERCOIL_PLACES)) {
+            fprintf(stderr, "a table of %zu bytes\n", length);
+            return 0;
+        }
+    }
+    return 1;
+}
+
+/* One call; whether it was without a fault. */
+static int one_call(unsigned long every) {
+    struct call call = make_call();
+    struct outcome outcome = call_make(&call);
+    if (outcome.fault != NULL || made % every == 0) {
+        call_write(stdout, &call);
+        outcome_write(stdout, &call, &outcome);
+    }
+    if (outcome.fault != NULL) {
+        fprintf(stderr, "call %lu: %s\n", made, outcome.fault);
+        return 0;
+    }
+    if (call.table_size != 0) {
+        memcpy(call.table, outcome.table, call.table_size);
+    }
+    return 1;
+}
+
 int main(int count, char **words) {
-    unsigned long calls, every, i;
-    if (count != 4) {
+    unsigned long calls = count == 4 ? strtoul(words[2], NULL, 10) : 0;
+    unsigned long every = count == 4 ? strtoul(words[3], NULL, 10) : 0;
+    if (every == 0) {
         fputs("stress SEED CALLS EVERY\n", stderr);
         return 2;
     }
     state = strtoull(words[1], NULL, 10);
-    calls = strtoul(words[2], NULL, 10);
-    every = strtoul(words[3], NULL, 10);
+    signal(SIGSEGV, on_touch);
+    signal(SIGBUS, on_touch);
     call_open();
-    for (i = 0; i < calls; i++) {
-        struct call call = make_call();
-        struct outcome outcome = call_make(&call);
-        if (outcome.fault != NULL || i % every == 0) {
-            call_write(stdout, &call);
-            outcome_write(stdout, &call, &outcome);
-        }
-        if (outcome.fault != NULL) {
-            fprintf(stderr, "call %lu: %s\n", i, outcome.fault);
+    if (!every_length()) {
+        return 1;
+    }
+    for (made = 0; made < calls; made++) {
+        if (!one_call(every)) {
             return 1;
-        }
-        if (call.table_size != 0) {
-            memcpy(call.table, outcome.table, call.table_size);
         }
     }
     return 0;
