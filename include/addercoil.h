@@ -67,7 +67,8 @@ size_t addercoil_table_bytes(size_t places);
 uint32_t addercoil_set_up(uint8_t *table, size_t table_len);
 
 /*
- * The same, with the site of the receiver: surface positions are read against it until the aircraft has one of its own.
+ * The same, with the site of the receiver: surface positions are read against it where the aircraft has no position of
+ * its own of the last 120,000 ms.
  * Or ADDERCOIL_PLACES, ADDERCOIL_FIELD for the latitude; each leaves the table as it was.
  */
 uint32_t addercoil_set_up_at(uint8_t *table, size_t table_len, int32_t latitude, uint32_t longitude);
@@ -76,7 +77,8 @@ uint32_t addercoil_set_up_at(uint8_t *table, size_t table_len, int32_t latitude,
  * A message of 14 bytes received at a time: starts or updates its aircraft's track, and moves the clock to the time.
  * A track goes when it was last heard 125,000 ms ago.
  * Or ADDERCOIL_LENGTH, ADDERCOIL_PLACES, ADDERCOIL_LATE, which leave the table as it was;
- * or ADDERCOIL_PARITY, ADDERCOIL_FORMAT, ADDERCOIL_TYPE, ADDERCOIL_FULL, which move the clock and leave the tracks.
+ * or ADDERCOIL_PARITY, ADDERCOIL_FORMAT, ADDERCOIL_TYPE, ADDERCOIL_FULL, which move the clock, so that tracks out of date
+ * go, and leave the other tracks as they were.
  */
 uint32_t addercoil_receive(uint8_t *table, size_t table_len, const uint8_t *message, size_t message_len, uint64_t time);
 
@@ -100,11 +102,15 @@ uint32_t addercoil_site(const uint8_t *table, size_t table_len, uint64_t *out, s
  */
 uint32_t addercoil_next(const uint8_t *table, size_t table_len, uint32_t key, uint64_t *out, size_t out_len);
 
-/* The entries of addercoil_look_up. A reading is two entries: what it is (see ADDERCOIL_KNOWN below), and its value. */
+/*
+ * The entries of addercoil_look_up. A reading is two entries: what it is (see ADDERCOIL_KNOWN below), and its value.
+ * An ME is the 56 bits of bytes 4 to 10 of a message as one number, byte 4 the highest. No function reads an ME alone:
+ * who wants the fields of each message calls addercoil_decode when it is received.
+ */
 enum {
     ADDERCOIL_TRACK_HELD,                  /* 0 or 1 */
     ADDERCOIL_TRACK_HEARD,                 /* time of its last message */
-    ADDERCOIL_TRACK_IDENTIFICATION,        /* the 56 bits of ME of its last identification, 0 if there is none */
+    ADDERCOIL_TRACK_IDENTIFICATION,        /* ME of its last identification, 0 if it sent none */
     ADDERCOIL_TRACK_VELOCITY,              /* .. velocity */
     ADDERCOIL_TRACK_SURFACE,               /* .. surface position */
     ADDERCOIL_TRACK_PRESSURE_CODE,         /* 12 bits, 0 unknown */
@@ -156,7 +162,10 @@ uint32_t addercoil_line(const uint8_t *table, size_t table_len, uint32_t key, ui
 #define ADDERCOIL_BLOCK 512
 
 /*
- * One block of a capture: each of its records is received, and what is refused of them is passed over. bad is the
+ * One block of a capture: byte 0 is how many records it has, 1 to 23; bytes 1 and 2 are a serial number that is not
+ * looked at; then 23 records of 22 bytes, each a time in 8 bytes, high byte first, and a message, the unused ones zero;
+ * then three bytes that make the parity remainder of the whole 0.
+ * Each of its records is received, and what is refused of them is passed over. bad is the
  * number of bad blocks before it, and that number after it goes into out of 1 entry; a block that fails its rules, also
  * one that is not of ADDERCOIL_BLOCK bytes, counts one more (never above 2^64 - 1) and leaves the table as it was.
  * Or ADDERCOIL_LENGTH, ADDERCOIL_PLACES, which leave the table as it was.
@@ -219,74 +228,77 @@ enum {
 /* How many entries the fields of a message have. */
 #define ADDERCOIL_FIELDS 28
 
-/* The first five entries, alike in all layouts. */
+/* The first six entries, alike in all layouts. */
 enum {
     ADDERCOIL_LAYOUT = 0,
-    ADDERCOIL_DF = 1,
-    ADDERCOIL_CA = 2,   /* of DF 17; CF of DF 18 */
-    ADDERCOIL_AA = 3,   /* the address */
-    ADDERCOIL_KEY = 4,  /* the encoder does not read it */
-    ADDERCOIL_TYPECODE = 5
+    ADDERCOIL_DF = 1,       /* 17 or 18 */
+    ADDERCOIL_CA = 2,       /* 3 bits: CA of DF 17; CF of DF 18, which is 0 or 1 */
+    ADDERCOIL_AA = 3,       /* 24 bits: the address */
+    ADDERCOIL_KEY = 4,      /* the encoder does not read it */
+    ADDERCOIL_TYPECODE = 5  /* 5 bits: TYPE, one of those of the layout */
 };
 
-/* From entry 5 on the fields of ME in the order of their bits; from entry 20 on readings, which the encoder does not read. */
+/*
+ * From entry 5 on the fields of ME in the order of their bits, each with how many bits it has, 1 bit where nothing
+ * is said; from entry 20 on readings, which say what the codes mean, and which the encoder does not read.
+ */
 enum {
-    ADDERCOIL_IDENTIFICATION_CATEGORY = 6,
-    ADDERCOIL_IDENTIFICATION_CHARACTERS = 7,  /* eight of 6 bits, the first the highest */
+    ADDERCOIL_IDENTIFICATION_CATEGORY = 6,    /* 3 bits */
+    ADDERCOIL_IDENTIFICATION_CHARACTERS = 7,  /* eight of 6 bits, the first the highest: 1-26 A-Z, 32 space, 48-57 0-9 */
     ADDERCOIL_IDENTIFICATION_SET_IS = 20,     /* category set: 'A' to 'D' */
     ADDERCOIL_IDENTIFICATION_SET = 21,
     ADDERCOIL_IDENTIFICATION_TEXT_IS = 22,    /* eight bytes of ASCII as one number, the first the highest */
     ADDERCOIL_IDENTIFICATION_TEXT = 23
 };
 enum {
-    ADDERCOIL_SURFACE_MOVEMENT = 6,
-    ADDERCOIL_SURFACE_STATUS = 7,  /* 1 if the heading is valid */
-    ADDERCOIL_SURFACE_HEADING = 8,
+    ADDERCOIL_SURFACE_MOVEMENT = 6,          /* 7 bits: 0 unknown, 1 stopped, 2-123 rising speeds, 124 over */
+    ADDERCOIL_SURFACE_STATUS = 7,            /* 1 if the heading is valid */
+    ADDERCOIL_SURFACE_HEADING = 8,           /* 7 bits: 128ths of a turn */
     ADDERCOIL_SURFACE_T = 9,
-    ADDERCOIL_SURFACE_F = 10,  /* 0 even, 1 odd */
-    ADDERCOIL_SURFACE_LATITUDE_COUNT = 11,
-    ADDERCOIL_SURFACE_LONGITUDE_COUNT = 12,
+    ADDERCOIL_SURFACE_F = 10,                /* 0 even, 1 odd */
+    ADDERCOIL_SURFACE_LATITUDE_COUNT = 11,   /* 17 bits, as of addercoil_encode_position */
+    ADDERCOIL_SURFACE_LONGITUDE_COUNT = 12,  /* 17 bits */
     ADDERCOIL_SURFACE_SPEED_IS = 20,  /* 48ths of a knot, the lower edge */
     ADDERCOIL_SURFACE_SPEED = 21,
     ADDERCOIL_SURFACE_TURN_IS = 22,  /* heading in 2^-32 of a turn, whatever the status says */
     ADDERCOIL_SURFACE_TURN = 23
 };
 enum {
-    ADDERCOIL_AIRBORNE_SURVEILLANCE = 6,
+    ADDERCOIL_AIRBORNE_SURVEILLANCE = 6,      /* 2 bits */
     ADDERCOIL_AIRBORNE_BIT8 = 7,
-    ADDERCOIL_AIRBORNE_ALTITUDE_CODE = 8,
+    ADDERCOIL_AIRBORNE_ALTITUDE_CODE = 8,     /* 12 bits: 0 unknown; if 16 is set, N of the others is 25 N - 1,000 ft */
     ADDERCOIL_AIRBORNE_T = 9,
-    ADDERCOIL_AIRBORNE_F = 10,  /* 0 even, 1 odd */
-    ADDERCOIL_AIRBORNE_LATITUDE_COUNT = 11,
-    ADDERCOIL_AIRBORNE_LONGITUDE_COUNT = 12,
+    ADDERCOIL_AIRBORNE_F = 10,                /* 0 even, 1 odd */
+    ADDERCOIL_AIRBORNE_LATITUDE_COUNT = 11,   /* 17 bits, as of addercoil_encode_position */
+    ADDERCOIL_AIRBORNE_LONGITUDE_COUNT = 12,  /* 17 bits */
     ADDERCOIL_AIRBORNE_ALTITUDE_IS = 20,  /* feet, signed */
     ADDERCOIL_AIRBORNE_ALTITUDE = 21,
     ADDERCOIL_AIRBORNE_GNSS_IS = 22,  /* always known: 1 if the altitude is a GNSS height, 0 if by pressure */
     ADDERCOIL_AIRBORNE_GNSS = 23
 };
 enum {
-    ADDERCOIL_GROUND_SUBTYPE = 6,
+    ADDERCOIL_GROUND_SUBTYPE = 6,  /* 3 bits: 1, or 2 for speeds in 4 knots */
     ADDERCOIL_GROUND_BIT9 = 7,
     ADDERCOIL_GROUND_BIT10 = 8,
-    ADDERCOIL_GROUND_NACV = 9,
-    ADDERCOIL_GROUND_WEST = 10,
-    ADDERCOIL_GROUND_EASTWARD = 11,
-    ADDERCOIL_GROUND_SOUTH = 12,
-    ADDERCOIL_GROUND_NORTHWARD = 13,
+    ADDERCOIL_GROUND_NACV = 9,        /* 3 bits */
+    ADDERCOIL_GROUND_WEST = 10,       /* 1 if the next is to the west */
+    ADDERCOIL_GROUND_EASTWARD = 11,   /* 10 bits: 0 unknown, n is n - 1 knots, 1023 over */
+    ADDERCOIL_GROUND_SOUTH = 12,      /* 1 if the next is to the south */
+    ADDERCOIL_GROUND_NORTHWARD = 13,  /* 10 bits: likewise */
     ADDERCOIL_GROUND_EAST_IS = 20,  /* knots, signed: west is below zero */
     ADDERCOIL_GROUND_EAST = 21,
     ADDERCOIL_GROUND_NORTH_IS = 22,  /* knots, signed: south is below zero */
     ADDERCOIL_GROUND_NORTH = 23
 };
 enum {
-    ADDERCOIL_AIR_SUBTYPE = 6,
+    ADDERCOIL_AIR_SUBTYPE = 6,  /* 3 bits: 3, or 4 for a speed in 4 knots */
     ADDERCOIL_AIR_BIT9 = 7,
     ADDERCOIL_AIR_BIT10 = 8,
-    ADDERCOIL_AIR_NACV = 9,
-    ADDERCOIL_AIR_STATUS = 10,  /* 1 if the heading is valid */
-    ADDERCOIL_AIR_HEADING = 11,
-    ADDERCOIL_AIR_AIRSPEED_KIND = 12,
-    ADDERCOIL_AIR_AIRSPEED = 13,
+    ADDERCOIL_AIR_NACV = 9,            /* 3 bits */
+    ADDERCOIL_AIR_STATUS = 10,         /* 1 if the heading is valid */
+    ADDERCOIL_AIR_HEADING = 11,        /* 10 bits: 1,024ths of a turn */
+    ADDERCOIL_AIR_AIRSPEED_KIND = 12,  /* 0 indicated, 1 true */
+    ADDERCOIL_AIR_AIRSPEED = 13,       /* 10 bits: 0 unknown, n is n - 1 knots, 1023 over */
     ADDERCOIL_AIR_TURN_IS = 20,  /* heading in 2^-32 of a turn, whatever the status says */
     ADDERCOIL_AIR_TURN = 21,
     ADDERCOIL_AIR_SPEED_IS = 22,  /* knots */
@@ -295,11 +307,11 @@ enum {
 /* Both velocities end alike. */
 enum {
     ADDERCOIL_VERTICAL_SOURCE = 14,
-    ADDERCOIL_VERTICAL_DOWN = 15,
-    ADDERCOIL_VERTICAL_RATE_CODE = 16,
-    ADDERCOIL_VERTICAL_RESERVED = 17,
-    ADDERCOIL_VERTICAL_BELOW = 18,
-    ADDERCOIL_VERTICAL_DIFFERENCE_CODE = 19,
+    ADDERCOIL_VERTICAL_DOWN = 15,             /* 1 if the rate is downwards */
+    ADDERCOIL_VERTICAL_RATE_CODE = 16,        /* 9 bits: 0 unknown, n is 64 (n - 1) feet per minute, 511 over */
+    ADDERCOIL_VERTICAL_RESERVED = 17,         /* 2 bits */
+    ADDERCOIL_VERTICAL_BELOW = 18,            /* 1 if the GNSS height is below the pressure altitude */
+    ADDERCOIL_VERTICAL_DIFFERENCE_CODE = 19,  /* 7 bits: 0 unknown, n is 25 (n - 1) feet, 127 over */
     ADDERCOIL_VERTICAL_RATE_IS = 24,  /* feet per minute, signed: down is below zero */
     ADDERCOIL_VERTICAL_RATE = 25,
     ADDERCOIL_VERTICAL_DIFFERENCE_IS = 26,  /* feet, signed: GNSS height less pressure altitude */
