@@ -1,3 +1,3 @@
 pub mod Filling
-pub mod Raised
+pub mod Twos
 pub mod Unique

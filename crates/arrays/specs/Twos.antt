@@ -1,13 +1,8 @@
 -- A signed number in 64 bits without a sign.
-use Prim.Native.Nat.{ℕ, suc, _+_, _-_, _^_}
+use Prim.Native.Nat.{ℕ, suc, _-_, _^_}
 use lib.IntN.{ℤ, pos, negsuc}
 
 -- two's complement: a number below zero is 2^64 up. Here negsuc n is -(n + 1)
 unfoldable pub twos : ℤ → ℕ
 twos (pos n) = n
 twos (negsuc n) = 2 ^ 64 - suc n
-
--- a number of 32 bits, 2^32 up
-unfoldable pub raised : ℤ → ℕ
-raised (pos n) = n + 2 ^ 32
-raised (negsuc n) = 2 ^ 32 - suc n

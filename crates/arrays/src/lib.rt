@@ -2,7 +2,7 @@
 ghost use mathlib.Core.Path.{_≡_};
 ghost use lib.ListN.{length, getD};
 ghost use Rattle.arrays.specs.Arrays.{filled};
-ghost use Rattle.arrays.specs.Twos.{raised, twos};
+ghost use Rattle.arrays.specs.Twos.{twos};
 
 // The entry i of an array; 0 past its end.
 pub fn entry(values: &[u64], i: usize) -> u64
@@ -39,18 +39,11 @@ pub fn fill_bytes(out: &mut [u8], values: &[u8])
     }
 }
 
-// A number 2^32 up, so that none is below zero.
-fn raise(z: i32) -> u64
-    ensures { λ r. ⌜ r ≡ raised z ⌝ }
-{
-    (z as i64 + 4294967296) as u64
-}
-
 // The two's complement of a number in 64 bits.
 pub fn twos_of(z: i32) -> u64
     ensures { λ r. ⌜ r ≡ twos z ⌝ }
 {
-    let up = raise(z);
+    let up = signs::raise(z);
     if up < 4294967296 {
         up + 0xffff_ffff_0000_0000
     } else {

@@ -1,27 +1,23 @@
 -- The two crossings between a latitude of either sign and its number, by the sign.
 -- Assumes nothing.
 use Prim.Native.Nat.{ℕ, suc, _+_, _-_, _%_, _≤_, _<_, min}
-use mathlib.Core.Path.{_≡_, refl, ap, _∙_}
+use mathlib.Core.Path.{_≡_, ap, _∙_}
 use mathlib.Core.Bool.{true}
 use mathlib.Core.Logic.{⊎-elim}
 use native.Mathlib.Nat.{min-le-right, min-eq-left}
 use native.Mathlib.Omega.{arith}
-use lib.IntN.{ℤ, pos, negsuc, subℕ, _+ℤ_}
+use lib.IntN.{ℤ, pos, negsuc, subℕ}
 use lib.Signed.{mag}
 use borrow.Author.Tests.{le-leb, leb-true}
+use Rattle.signs.specs.Raised.{raised as turnUp}
 use Rattle.positions.specs.Positions.{poleToPole}
 use Rattle.positions.proofs.Shift.{sub-pos, sub-neg, order}
 use Rattle.place.specs.Place.{raised, lowered}
 
-pub raise-is : (z : ℤ) → mag z < 2147483648 → z +ℤ pos 5368709120 ≡ pos (raised z)
+pub raise-is : (z : ℤ) → mag z < 2147483648 → turnUp z + 1073741824 ≡ raised z
 unfolding raised
-raise-is (pos a) h = refl
-raise-is (negsuc a) h = sub-pos 5368709120 (suc a) (omega arith)
-
-pub raise-small : (z : ℤ) → mag z < 2147483648 → raised z < 8589934592
-unfolding raised
-raise-small (pos a) h = omega arith
-raise-small (negsuc a) h = omega arith
+raise-is (pos a) h = omega arith
+raise-is (negsuc a) h = omega arith
 
 pub lower-small : (n : ℕ) → n ≤ 2147483648 → mag (subℕ n 1073741824) < 2147483648
 lower-small n h =

@@ -20,7 +20,7 @@ fn flag(b: bool) -> u64
 pub fn raise(latitude: i32) -> u64
     ensures { λ r. ⌜ r ≡ raised latitude ⌝ }
 {
-    (latitude as i64 + 5368709120) as u64
+    signs::raise(latitude) + 1073741824
 }
 
 fn marks_of(g: Groups, known: bool) -> u32

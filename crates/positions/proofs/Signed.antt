@@ -1,26 +1,18 @@
 -- The two crossings between a latitude of either sign and a natural one whole turn up, by the sign.
 -- Assumes nothing.
-use mathlib.Core.Path.{_≡_, refl, sym, ap, _∙_}
+use mathlib.Core.Path.{_≡_, sym, ap, _∙_}
 use mathlib.Core.Bool.{Bool, true, _&&_}
 use mathlib.Core.Logic.{⊎-elim}
 use Prim.Native.Nat.{ℕ, suc, _+_, _-_, _≤_, _<_}
 use native.Mathlib.Omega.{arith}
 use lib.Dec.{leb}
-use lib.IntN.{ℤ, pos, negsuc, subℕ, _+ℤ_}
+use lib.IntN.{ℤ, pos, negsuc, subℕ}
 use lib.Signed.{mag}
 use borrow.Author.Tests.{le-leb, lt-leb, leb-true}
 use Rattle.positions.specs.Positions.{poleToPole}
-use Rattle.positions.specs.Code.{raised}
+use Rattle.signs.specs.Raised.{raised}
 use Rattle.fields.proofs.Bools.{each}
 use Rattle.positions.proofs.Shift.{sub-pos, sub-neg, order}
-
-pub raise-is : (z : ℤ) → mag z < 2147483648 → z +ℤ pos 4294967296 ≡ pos (raised z)
-raise-is (pos a) h = refl
-raise-is (negsuc a) h = sub-pos 4294967296 (suc a) (omega arith)
-
-pub raise-small : (z : ℤ) → mag z < 2147483648 → raised z < 6442450944
-raise-small (pos a) h = omega arith
-raise-small (negsuc a) h = omega arith
 
 pub lower-small : (w : ℕ) → 3221225472 ≤ w → w ≤ 5368709120 → mag (subℕ w 4294967296) < 2147483648
 lower-small w l h =

@@ -13,7 +13,8 @@ use lib.IntN.{ℤ, pos, negsuc, subℕ}
 use Rattle.positions.specs.declared.Format.{Format}
 use Rattle.positions.specs.declared.Format.the-variants.{Even, Odd}
 use Rattle.positions.specs.Whole.{modulo}
-use Rattle.positions.specs.Code.{nearestℕ, raised}
+use Rattle.signs.specs.Raised.{raised}
+use Rattle.positions.specs.Code.{nearestℕ}
 use Rattle.positions.specs.Positions.{units, own, latitudeZones, longitudeZones, whole, count, poleToPole, inside, pairZone, inZone, less360, pairLatitude, pairLongitude}
 use Rattle.positions.proofs.Shift.{order, sub-modulo}
 use Rattle.positions.proofs.Naturals.{whole-is, whole-pos, whole-low, whole-high, pair-zone-is, less-high, less-low, inside-yes}

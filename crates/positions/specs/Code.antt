@@ -1,19 +1,14 @@
 -- What the private functions promise to each other, over naturals. No public contract cites this file.
 -- A number that can be below zero is held one whole turn up: the difference of a natural and the turn.
 use mathlib.Core.Path.{_≡_}
-use Prim.Native.Nat.{ℕ, suc, _+_, _-_, _*_, _/_, _≤_, _<_}
-use lib.IntN.{ℤ, pos, negsuc, subℕ}
+use Prim.Native.Nat.{ℕ, _+_, _*_, _/_, _≤_, _<_}
+use lib.IntN.{subℕ}
 use Rattle.positions.specs.declared.Format.{Format}
 use Rattle.positions.specs.Positions.{latitudeZones, less360, pairLatitude}
 
 -- a / d to nearest, half up
 unfoldable pub nearestℕ : ℕ → ℕ → ℕ
 nearestℕ a d = (2 * a + d) / (2 * d)
-
--- a spot's latitude one turn up
-abbrev pub raised : ℤ → ℕ
-raised (pos a) = a + 4294967296
-raised (negsuc a) = 4294967296 - suc a
 
 -- r, one turn up, is a latitude over M from the south pole to the north pole
 pub record Polar (M r : ℕ) : Type 0 where

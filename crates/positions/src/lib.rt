@@ -14,7 +14,7 @@ ghost use lib.IntN.{subℕ, pos};
 ghost use Rattle.positions.specs.Whole.{modulo};
 ghost use Rattle.positions.specs.Zones.{latitudes, first, zoneCount};
 ghost use Rattle.positions.specs.Positions.{own, latitudeZones, longitudeZones, allRound, whole, countsOf, encoded, rounded, roundedTurn, pairZone, pairLatitude, pairSpot, pairFound, fit, paired, nearZone, nearSpot, nearFound, singly};
-ghost use Rattle.positions.specs.Code.{nearestℕ, raised, Polar, Within, Paired};
+ghost use Rattle.positions.specs.Code.{nearestℕ, Polar, Within, Paired};
 
 // 58 latitudes in units of 10^-8 degree, at which the number of longitude zones falls: 59 up to the first, 2 up to the last.
 const LATITUDES: [u64; 58] = [
@@ -132,7 +132,7 @@ pub enum Found {
 pub fn encode(spot: Spot, turn: Turn, format: Format) -> Encoded
     ensures { λ r. ⌜ r ≡ encoded 131072 spot turn format ⌝ }
 {
-    let up = raise(spot.latitude);
+    let up = signs::raise(spot.latitude);
     if pole_to_pole(up) {
         Encoded::As(encode_raised(up, spot.longitude, turn, format))
     } else {
@@ -155,7 +155,7 @@ pub fn pair(even: Counts, odd: Counts, later: Format) -> Found
 pub fn single(reference: Spot, counts: Counts, turn: Turn, format: Format) -> Found
     ensures { λ r. ⌜ r ≡ singly 131072 reference counts turn format ⌝ }
 {
-    let up = raise(reference.latitude);
+    let up = signs::raise(reference.latitude);
     if fits(counts) & pole_to_pole(up) {
         single_raised(up, reference.longitude, counts, turn, format)
     } else {
@@ -170,13 +170,7 @@ fn fits(c: Counts) -> bool
     (c.latitude.0 < 131072) & (c.longitude.0 < 131072)
 }
 
-// A latitude one whole turn up, so that it is never below zero; whether it is in range; and back down.
-fn raise(latitude: i32) -> u64
-    ensures { λ r. ⌜ r ≡ raised latitude ⌝ }
-{
-    (latitude as i64 + 4294967296) as u64
-}
-
+// Whether a latitude, held one whole turn up, is in range; and back down.
 fn pole_to_pole(up: u64) -> bool
     ensures { λ r. ⌜ r ≡ (leb 3221225472 up && leb up 5368709120) ⌝ }
 {

@@ -1,2 +1,3 @@
 pub mod Size
+pub mod Raised
 pub mod Unique

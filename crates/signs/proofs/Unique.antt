@@ -8,6 +8,8 @@ use Rattle.signs.proofs.is_below.Kinds as is-below-kinds
 use Rattle.signs.proofs.is_below.Reads as is-below
 use Rattle.signs.proofs.size_of.Kinds as size-of-kinds
 use Rattle.signs.proofs.size_of.Reads as size-of
+use Rattle.signs.proofs.raise.Kinds as raise-kinds
+use Rattle.signs.proofs.raise.Reads as raise
 
 pub widen-once : OneAnswer 0 widen-kinds.ps widen-kinds.r widen.Post
 widen-once κs args x y left left′ p q = p ∙ sym q
@@ -17,3 +19,6 @@ is-below-once κs args x y left left′ p q = p ∙ sym q
 
 pub size-of-once : OneAnswer 0 size-of-kinds.ps size-of-kinds.r size-of.Post
 size-of-once κs args x y left left′ p q = p ∙ sym q
+
+pub raise-once : OneAnswer 0 raise-kinds.ps raise-kinds.r raise.Post
+raise-once κs args x y left left′ p q = p ∙ sym q

@@ -3,8 +3,8 @@
 use mathlib.Core.Path.{_≡_, ap, _∙_}
 use native.Mathlib.Omega.{arith}
 use mir.Facts.{toZ-ofZ}
-use Rattle.arrays.specs.Twos.{raised}
-use Rattle.arrays.proofs.Raised.{twos-below, twos-above}
+use Rattle.signs.specs.Raised.{raised}
+use Rattle.arrays.proofs.Twos.{twos-below, twos-above}
 use borrow.Author.Needs.{needs}
 use Rattle.arrays.proofs.twos_of.Statement.{statement}
 use Rattle.arrays.proofs.twos_of.Tie as tie

@@ -6,7 +6,7 @@ use native.Mathlib.Omega.{arith}
 use mir.Facts.{toZ-ofZ}
 use mir.Syntax.{w32}
 use Rattle.positions.specs.declared.Encoded.the-variants.{As}
-use Rattle.positions.specs.Code.{raised}
+use Rattle.signs.specs.Raised.{raised}
 use Rattle.positions.proofs.Signed.{poles, tested, back}
 use borrow.Author.Needs.{needs}
 use Rattle.positions.proofs.encode.Statement.{statement}

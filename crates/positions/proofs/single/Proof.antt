@@ -7,7 +7,7 @@ use lib.Dec.{leb}
 use mir.Facts.{toZ-ofZ}
 use mir.Syntax.{w32}
 use Rattle.positions.specs.Positions.{fit, poleToPole}
-use Rattle.positions.specs.Code.{raised}
+use Rattle.signs.specs.Raised.{raised}
 use Rattle.fields.proofs.Bools.{each}
 use Rattle.positions.proofs.Signed.{poles, tested, back}
 use Rattle.positions.proofs.Answers.{fit-counts}

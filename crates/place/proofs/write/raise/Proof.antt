@@ -1,35 +1,26 @@
--- `place::write::raise` meets its contract: a latitude of 32 bits plus 5 * 2^30 fits an i64 and is not below zero.
+-- `place::write::raise` meets its contract: a latitude 2^32 up, which has 33 bits, and 2^30 more.
 -- Assumes nothing.
+use mathlib.Core.Path.{_≡_, ap, _∙_}
 use native.Mathlib.Omega.{arith}
-use lib.IntN.{pos, _+ℤ_}
-use mir.Val.{SFits}
-use mir.Syntax.{w64}
-use mir.Facts.{toZ-ofZ, sfits-widen}
-use Rattle.place.proofs.Latitudes.{raise-is, raise-small}
+use mir.Facts.{toZ-ofZ}
+use Rattle.signs.specs.Raised.{raised}
+use Rattle.signs.proofs.Raised.{raise-small}
+use Rattle.place.proofs.Latitudes.{raise-is}
+use borrow.Author.Needs.{needs}
 use Rattle.place.proofs.write.raise.Statement.{statement}
 use Rattle.place.proofs.write.raise.Tie as tie
 
-wide : (c : tie.Start) → SFits w64 (c .args .latitude)
-wide c = sfits-widen tt (c .fits .latitude)
+raise-requires : tie.Need-raise-requires
+raise-requires c κs = search needs
 
-fits : (c : tie.Start) → SFits w64 (c .args .latitude +ℤ pos 5368709120)
-fits c =
-    rw (raise-is (c .args .latitude) (c .fits .latitude .sfits))
-    (record { sfits = omega (arith, raise-small (c .args .latitude) (c .fits .latitude .sfits)) })
-
-cast-result : tie.Need-cast-result
-cast-result c = rw (toZ-ofZ (c .fits .latitude)) (wide c)
+up-is : (c : tie.After-raise) → c .raise .result ≡ raised (c .before .args .latitude)
+up-is c = c .raise .ensures ∙ ap raised (toZ-ofZ (c .before .fits .latitude))
 
 add-result : tie.Need-add-result
-add-result c = rw (toZ-ofZ (c .fits .latitude), toZ-ofZ (wide c)) (fits c)
-
-cast-result-2 : tie.Need-cast-result-2
-cast-result-2 c =
-    rw (toZ-ofZ (c .fits .latitude), toZ-ofZ (wide c), toZ-ofZ (fits c), raise-is (c .args .latitude) (c .fits .latitude .sfits))
-    (tt, omega (arith, raise-small (c .args .latitude) (c .fits .latitude .sfits)))
+add-result c = rw (up-is c) (omega (arith, raise-small (c .before .args .latitude) (c .before .fits .latitude .sfits)))
 
 returns : tie.Need-returns
-returns c = rw (toZ-ofZ (c .fits .latitude), toZ-ofZ (wide c), toZ-ofZ (fits c), raise-is (c .args .latitude) (c .fits .latitude .sfits))
+returns c = rw (up-is c) (raise-is (c .before .args .latitude) (c .before .fits .latitude .sfits))
 
 pub raise-spec : {M : Type 1} → statement M
-raise-spec = tie.close (tie.spec cast-result add-result cast-result-2 returns)
+raise-spec = tie.close (tie.spec raise-requires add-result returns)

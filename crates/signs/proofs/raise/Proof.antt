@@ -1,13 +1,13 @@
--- `arrays::raise` meets its contract: a number of 32 bits plus 2^32 fits an i64 and is not below zero.
+-- `signs::raise` meets its contract: a number of 32 bits plus 2^32 fits an i64 and is not below zero.
 -- Assumes nothing.
 use native.Mathlib.Omega.{arith}
 use lib.IntN.{pos, _+ℤ_}
 use mir.Val.{SFits}
 use mir.Syntax.{w64}
 use mir.Facts.{toZ-ofZ, sfits-widen}
-use Rattle.arrays.proofs.Raised.{raise-is, raise-small}
-use Rattle.arrays.proofs.raise.Statement.{statement}
-use Rattle.arrays.proofs.raise.Tie as tie
+use Rattle.signs.proofs.Raised.{raise-is, raise-small}
+use Rattle.signs.proofs.raise.Statement.{statement}
+use Rattle.signs.proofs.raise.Tie as tie
 
 wide : (c : tie.Start) → SFits w64 (c .args .z)
 wide c = sfits-widen tt (c .fits .z)
