@@ -1,9 +1,9 @@
 /*
- * Hostile calls of every kind: stress SEED CALLS EVERY. Makes so many calls, the same for the same seed and compiler:
- * random bytes, valid messages and damaged ones, times at the edges of 64 bits, tables of bad lengths, of random bytes,
- * and full ones, result arrays of wrong lengths; and before them every length that a table can have or not. After each
- * call it looks at the guards of all that was lent, and at what must be as it was. At a fault it names the call and
- * ends with 1. One call in EVERY is written as a line of call.h, for the model to answer too.
+ * Hostile calls of every kind: stress SEED CALLS EVERY. First it asks for the clock of a table of every length. Then it
+ * makes so many calls, the same for the same seed and compiler: random bytes, valid messages and damaged ones, times at
+ * the edges of 64 bits, tables of bad lengths, of random bytes, and full ones, result arrays of wrong lengths. After
+ * each of these it looks at the guards of all that was lent, and at what must be as it was. At a fault it names the
+ * call and ends with 1. One call in EVERY is written as a line of call.h, for the model to answer too.
  */
 #include "call.h"
 #include <addercoil.h>
