@@ -1,4 +1,3 @@
 pub mod BelowZero
 pub mod Ruled
-pub mod Spelled
 pub mod Unique

@@ -11,16 +11,15 @@ use Rattle.readings.specs.Altitude.{altitudeOf, byHundreds, sixLess, str
 use Rattle.readings.specs.Amounts.{speedOf, rateOf, differenceOf, amount, signed, times}
 use Rattle.readings.specs.Headings.{headingOf}
 use Rattle.readings.specs.Movement.{movementOf, lowerEdge}
-use Rattle.readings.specs.Text.{categorySetOf, characterOf, shown, textOf}
+use Rattle.characters.specs.Text.{categorySetOf, shown, textOf}
 use Rattle.readings.specs.declared.altitude.Altitude.the-variants as altitude
 use Rattle.readings.specs.declared.amounts.Speed.the-variants as speed
 use Rattle.readings.specs.declared.amounts.Rate.the-variants as rate
 use Rattle.readings.specs.declared.amounts.Difference.the-variants as difference
 use Rattle.readings.specs.declared.headings.Heading.the-variants as heading
 use Rattle.readings.specs.declared.movement.Movement.the-variants as movement
-use Rattle.readings.specs.declared.text.CategorySet.the-variants as set
-use Rattle.readings.specs.declared.text.Character.the-variants as character
-use Rattle.readings.specs.declared.text.Text.the-variants as text
+use Rattle.characters.specs.declared.CategorySet.the-variants as set
+use Rattle.characters.specs.declared.Text.the-variants as text
 
 -- an H of 5 or 6 is unknown, and is no altitude of 500 F + 100 H - 1,300
 pub unknown-hundreds : (altitudeOf 2688 ≡ altitude.Unknown) × (altitudeOf 2176 ≡ altitude.Unknown)
@@ -53,16 +52,6 @@ surface-half-turn = (refl, refl)
 pub past-the-top : (movementOf 124 ≡ movement.AndUp 8400) × (movementOf 125 ≡ movement.Reserved)
 unfolding movementOf
 past-the-top = (refl, refl)
-
--- TYPE 1 is set D, and TYPE 5, no identification, has none
-pub last-set : (categorySetOf 1 ≡ set.D) × (categorySetOf 5 ≡ set.NoSet)
-unfolding categorySetOf
-last-set = (refl, refl)
-
--- code 0 and code 27 are no letters
-pub no-letters : (characterOf 0 ≡ character.Shown 63) × (characterOf 27 ≡ character.Shown 63)
-unfolding characterOf shown
-no-letters = (refl, refl)
 
 -- ---- whole layouts, of published messages
 
@@ -102,8 +91,3 @@ pub published-air : airMeans (airOf 0x9B06B6AF189400) ≡ record {
 }
 unfolding speedOf rateOf differenceOf amount signed times
 published-air = refl
-
--- code 0 is no letter, and 49 bits are refused
-pub no-text : (textOf 0 ≡ text.Shown 0x3F3F3F3F3F3F3F3F) × (textOf (2 ^ 48) ≡ text.Refused Field)
-unfolding textOf shown
-no-text = (refl, refl)

@@ -16,10 +16,6 @@ use Rattle.readings.proofs.headings.surface_heading_of.Kinds as surface
 use Rattle.readings.proofs.headings.surface_heading_of.Reads as surface-heading-of
 use Rattle.readings.proofs.movement.movement_of.Kinds as movement-of-kinds
 use Rattle.readings.proofs.movement.movement_of.Reads as movement-of
-use Rattle.readings.proofs.text.category_set_of.Kinds as category-set-of-kinds
-use Rattle.readings.proofs.text.category_set_of.Reads as category-set-of
-use Rattle.readings.proofs.text.character_of.Kinds as character-of-kinds
-use Rattle.readings.proofs.text.character_of.Reads as character-of
 use Rattle.readings.proofs.bodies.identification_readings.Kinds as identification-readings-kinds
 use Rattle.readings.proofs.bodies.identification_readings.Reads as identification-readings
 use Rattle.readings.proofs.bodies.surface_readings.Kinds as surface-readings-kinds
@@ -30,8 +26,6 @@ use Rattle.readings.proofs.bodies.ground_readings.Kinds as ground-readi
 use Rattle.readings.proofs.bodies.ground_readings.Reads as ground-readings
 use Rattle.readings.proofs.bodies.air_readings.Kinds as air-readings-kinds
 use Rattle.readings.proofs.bodies.air_readings.Reads as air-readings
-use Rattle.readings.proofs.text.text_of.Kinds as text-of-kinds
-use Rattle.readings.proofs.text.text_of.Reads as text-of
 
 pub altitude-of-once : OneAnswer 0 altitude-of-kinds.ps altitude-of-kinds.r altitude-of.Post
 altitude-of-once κs args x y left left′ p q = p ∙ sym q
@@ -54,12 +48,6 @@ surface-heading-of-once κs args x y left left′ p q = p ∙ sym q
 pub movement-of-once : OneAnswer 0 movement-of-kinds.ps movement-of-kinds.r movement-of.Post
 movement-of-once κs args x y left left′ p q = p ∙ sym q
 
-pub category-set-of-once : OneAnswer 0 category-set-of-kinds.ps category-set-of-kinds.r category-set-of.Post
-category-set-of-once κs args x y left left′ p q = p ∙ sym q
-
-pub character-of-once : OneAnswer 0 character-of-kinds.ps character-of-kinds.r character-of.Post
-character-of-once κs args x y left left′ p q = p ∙ sym q
-
 pub identification-readings-once : OneAnswer 0 identification-readings-kinds.ps identification-readings-kinds.r identification-readings.Post
 identification-readings-once κs args x y left left′ p q = p ∙ sym q
 
@@ -74,6 +62,3 @@ ground-readings-once κs args x y left left′ p q = p ∙ sym q
 
 pub air-readings-once : OneAnswer 0 air-readings-kinds.ps air-readings-kinds.r air-readings.Post
 air-readings-once κs args x y left left′ p q = p ∙ sym q
-
-pub text-of-once : OneAnswer 0 text-of-kinds.ps text-of-kinds.r text-of.Post
-text-of-once κs args x y left left′ p q = p ∙ sym q

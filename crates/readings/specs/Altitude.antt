@@ -6,7 +6,7 @@ use lib.Dec.{eqb}
 use lib.IntN.{pos, _-ℤ_}
 use Rattle.refusals.specs.declared.Refusal.the-variants.{Field}
 use Rattle.fields.specs.Packing.{field}
-use Rattle.readings.specs.Widths.{wider}
+use Rattle.characters.specs.Widths.{wider}
 use Rattle.readings.specs.declared.altitude.Altitude.{Altitude}
 use Rattle.readings.specs.declared.altitude.Altitude.the-variants.{Unknown, Feet, Refused}
 

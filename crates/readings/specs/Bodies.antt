@@ -9,7 +9,7 @@ use Rattle.readings.specs.Altitude.{altitudeOf}
 use Rattle.readings.specs.Amounts.{speedOf, rateOf, differenceOf}
 use Rattle.readings.specs.Headings.{headingOf}
 use Rattle.readings.specs.Movement.{movementOf}
-use Rattle.readings.specs.Text.{categorySetOf, textOf}
+use Rattle.characters.specs.Text.{categorySetOf, textOf}
 use Rattle.readings.specs.declared.bodies.IdentificationReadings.{IdentificationReadings}
 use Rattle.readings.specs.declared.bodies.SurfaceReadings.{SurfaceReadings}
 use Rattle.readings.specs.declared.bodies.AirborneReadings.{AirborneReadings}

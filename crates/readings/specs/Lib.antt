@@ -3,5 +3,3 @@ pub mod Amounts
 pub mod Bodies
 pub mod Headings
 pub mod Movement
-pub mod Text
-pub mod Widths

@@ -5,7 +5,6 @@ mod bodies;
 mod headings;
 mod movement;
 mod signed;
-mod text;
 
 pub use altitude::Altitude;
 pub use altitude::altitude_of;
@@ -30,9 +29,3 @@ pub use headings::heading_of;
 pub use headings::surface_heading_of;
 pub use movement::Movement;
 pub use movement::movement_of;
-pub use text::CategorySet;
-pub use text::Character;
-pub use text::Text;
-pub use text::category_set_of;
-pub use text::character_of;
-pub use text::text_of;

@@ -2,8 +2,8 @@
 use libc::STDIN_FILENO;
 use libc::STDOUT_FILENO;
 use readings::Altitude;
-use readings::CategorySet;
-use readings::Character;
+use characters::CategorySet;
+use characters::Character;
 use readings::Difference;
 use readings::Heading;
 use readings::Movement;
@@ -113,14 +113,14 @@ fn answer(question: u8, a: u8, b: u8, code: u16) {
     let byte = (code % 256) as u8;
     match question {
         0 => say_altitude(readings::altitude_of(code)),
-        1 => say_category_set(readings::category_set_of(byte)),
+        1 => say_category_set(characters::category_set_of(byte)),
         2 => say_speed(readings::speed_of(a, b, code)),
         3 => say_rate(readings::rate_of(b, code)),
         4 => say_difference(readings::difference_of(b, byte)),
         5 => say_heading(readings::heading_of(code)),
         6 => say_heading(readings::surface_heading_of(byte)),
         7 => say_movement(readings::movement_of(byte)),
-        8 => say_character(readings::character_of(byte)),
+        8 => say_character(characters::character_of(byte)),
         _ => write(b"no such question"),
     }
     write(b"\n");

@@ -14,10 +14,10 @@ use Rattle.readings.specs.declared.headings.Heading.{Heading}
 use Rattle.readings.specs.declared.headings.Heading.the-variants as heading
 use Rattle.readings.specs.declared.movement.Movement.{Movement}
 use Rattle.readings.specs.declared.movement.Movement.the-variants as movement
-use Rattle.readings.specs.declared.text.CategorySet.{CategorySet}
-use Rattle.readings.specs.declared.text.CategorySet.the-variants as set
-use Rattle.readings.specs.declared.text.Text.{Text}
-use Rattle.readings.specs.declared.text.Text.the-variants as text
+use Rattle.characters.specs.declared.CategorySet.{CategorySet}
+use Rattle.characters.specs.declared.CategorySet.the-variants as set
+use Rattle.characters.specs.declared.Text.{Text}
+use Rattle.characters.specs.declared.Text.the-variants as text
 use Rattle.values.specs.declared.means.Reading.{Reading}
 
 abbrev pub reading : ℕ → ℕ → Reading

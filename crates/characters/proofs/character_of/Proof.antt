@@ -3,10 +3,10 @@
 use mathlib.Core.Path.{ap}
 use borrow.Author.Tests.{le-leb, lt-leb}
 use borrow.Author.Needs.{needs}
-use Rattle.readings.specs.declared.text.Character.the-variants.{Shown}
-use Rattle.readings.specs.Text.{characterOf}
-use Rattle.readings.proofs.text.character_of.Statement.{statement}
-use Rattle.readings.proofs.text.character_of.Tie as tie
+use Rattle.characters.specs.declared.Character.the-variants.{Shown}
+use Rattle.characters.specs.Text.{characterOf}
+use Rattle.characters.proofs.character_of.Statement.{statement}
+use Rattle.characters.proofs.character_of.Tie as tie
 
 returns : tie.Need-returns
 unfolding characterOf

@@ -2,12 +2,12 @@
 -- Assumes nothing.
 use borrow.Author.Tests.{le-leb, lt-leb}
 use mathlib.Core.Path.{ap}
-use Rattle.readings.specs.Text.{textOf}
-use Rattle.readings.specs.declared.text.Text.the-variants.{Shown}
-use Rattle.readings.proofs.Spelled.{spelled}
+use Rattle.characters.specs.Text.{textOf}
+use Rattle.characters.specs.declared.Text.the-variants.{Shown}
+use Rattle.characters.proofs.Spelled.{spelled}
 use borrow.Author.Needs.{needs}
-use Rattle.readings.proofs.text.text_of.Statement.{statement}
-use Rattle.readings.proofs.text.text_of.Tie as tie
+use Rattle.characters.proofs.text_of.Statement.{statement}
+use Rattle.characters.proofs.text_of.Tie as tie
 
 returns : tie.Need-returns
 unfolding textOf

@@ -1,9 +1,9 @@
 -- `readings::text::category_set_of` meets its contract: the tests on the way pick the case of the definition.
 -- Assumes nothing.
 use borrow.Author.Tests.{le-leb, lt-leb, eq-eqb, ne-eqb}
-use Rattle.readings.specs.Text.{categorySetOf}
-use Rattle.readings.proofs.text.category_set_of.Statement.{statement}
-use Rattle.readings.proofs.text.category_set_of.Tie as tie
+use Rattle.characters.specs.Text.{categorySetOf}
+use Rattle.characters.proofs.category_set_of.Statement.{statement}
+use Rattle.characters.proofs.category_set_of.Tie as tie
 
 returns : tie.Need-returns
 unfolding categorySetOf

@@ -2,8 +2,8 @@
 use refusals::Refusal;
 ghost use mathlib.Core.Path.{_≡_};
 ghost use Prim.Native.Nat.{_<_};
-ghost use Rattle.readings.specs.Text.{categorySetOf, characterOf, textOf};
-ghost use Rattle.readings.specs.Text.{shown as Text·shown};
+ghost use Rattle.characters.specs.Text.{categorySetOf, characterOf, textOf};
+ghost use Rattle.characters.specs.Text.{shown as Text·shown};
 
 pub enum CategorySet {
     A,

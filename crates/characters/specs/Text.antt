@@ -7,13 +7,13 @@ use lib.ListN.{replicate}
 use Rattle.refusals.specs.declared.Refusal.the-variants.{Field}
 use Rattle.fields.specs.Packing.{unpack}
 use Rattle.fields.specs.Bytes.{number}
-use Rattle.readings.specs.Widths.{wider}
-use Rattle.readings.specs.declared.text.CategorySet.{CategorySet}
-use Rattle.readings.specs.declared.text.CategorySet.the-variants as set
-use Rattle.readings.specs.declared.text.Character.{Character}
-use Rattle.readings.specs.declared.text.Character.the-variants as character
-use Rattle.readings.specs.declared.text.Text.{Text}
-use Rattle.readings.specs.declared.text.Text.the-variants as text
+use Rattle.characters.specs.Widths.{wider}
+use Rattle.characters.specs.declared.CategorySet.{CategorySet}
+use Rattle.characters.specs.declared.CategorySet.the-variants as set
+use Rattle.characters.specs.declared.Character.{Character}
+use Rattle.characters.specs.declared.Character.the-variants as character
+use Rattle.characters.specs.declared.Text.{Text}
+use Rattle.characters.specs.declared.Text.the-variants as text
 
 -- TYPE 4, 3, 2, 1 is category set A, B, C, D
 unfoldable pub categorySetOf : ℕ → CategorySet

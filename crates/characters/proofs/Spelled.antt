@@ -7,7 +7,7 @@ use native.Mathlib.Omega.{arith}
 use lib.ListN.{replicate}
 use Rattle.fields.specs.Packing.{unpack}
 use Rattle.fields.specs.Bytes.{number}
-use Rattle.readings.specs.Text.{shown, shownAll}
+use Rattle.characters.specs.Text.{shown, shownAll}
 
 eight : (a b c d e f g h : ℕ)
     → (a * 0x1000000 + b * 0x10000 + c * 0x100 + d) * 0x100000000 + (e * 0x1000000 + f * 0x10000 + g * 0x100 + h) ≡ number (a ∷ b ∷ c ∷ d ∷ e ∷ f ∷ g ∷ h ∷ [])

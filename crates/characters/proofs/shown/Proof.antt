@@ -3,9 +3,9 @@
 use borrow.Author.Tests.{leb-true, eq-eqb, ne-eqb}
 use borrow.Author.Needs.{needs}
 use Rattle.fields.proofs.Bools.{and-left}
-use Rattle.readings.specs.Text.{shown}
-use Rattle.readings.proofs.text.shown.Statement.{statement}
-use Rattle.readings.proofs.text.shown.Tie as tie
+use Rattle.characters.specs.Text.{shown}
+use Rattle.characters.proofs.shown.Statement.{statement}
+use Rattle.characters.proofs.shown.Tie as tie
 
 sub-result : tie.Need-sub-result
 sub-result c = leb-true _ _ (and-left _ _ (c .if1 .taken))

@@ -1,0 +1,3 @@
+pub mod Ruled
+pub mod Spelled
+pub mod Unique
