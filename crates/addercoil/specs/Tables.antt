@@ -8,7 +8,7 @@ use Rattle.arrays.specs.Twos.{twos}
 use Rattle.messages.specs.declared.Decoded.{Decoded}
 use Rattle.messages.specs.declared.Decoded.the-variants as decode
 use Rattle.messages.specs.Table.{Said, number, values}
-use Rattle.track.specs.declared.Site.{Site}
+use Rattle.located.specs.declared.Site.{Site}
 use Rattle.table.specs.declared.SetUp.{SetUp}
 use Rattle.table.specs.declared.SetUp.the-variants as setting
 use Rattle.table.specs.declared.NextKey.{NextKey}

@@ -7,7 +7,7 @@ use table::Clock;
 use table::NextKey;
 use table::SetUp;
 use table::Sited;
-use track::Site;
+use located::Site;
 ghost use mathlib.Core.Path.{_≡_};
 ghost use Rattle.table.specs.Table.{setUp, setUpAt, received, nextAbove, clockIn, siteIn};
 ghost use Rattle.addercoil.specs.Sent.{sent, given, into};

@@ -12,7 +12,7 @@ use Rattle.messages.specs.declared.Message.{Message}
 use Rattle.messages.specs.declared.Decoded.{Decoded}
 use Rattle.messages.specs.declared.Decoded.the-variants as decode
 use Rattle.messages.specs.Message.{decoded}
-use Rattle.track.specs.declared.Site.{Site}
+use Rattle.located.specs.declared.Site.{Site}
 use Rattle.table.specs.declared.SetUp.the-variants.{Done}
 use Rattle.table.specs.Layout.{clockOf, noSite, siteOf}
 use Rattle.table.specs.Table.{After, received}

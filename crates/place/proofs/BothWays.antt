@@ -12,7 +12,7 @@ use lib.ListN.{length, getD}
 use borrow.Author.Tests.{le-leb, lt-ltb, ltb-true}
 use Rattle.fields.specs.Bytes.{Bytes}
 use Rattle.fields.proofs.Bools.{and-false}
-use Rattle.track.specs.declared.Saved.{Saved}
+use Rattle.located.specs.declared.Saved.{Saved}
 use Rattle.track.specs.declared.Track.{Track}
 use Rattle.track.specs.Track.{noSaved}
 use Rattle.place.specs.Bytes.{numberAt, lowBytes}

@@ -3,8 +3,8 @@
 use mathlib.Core.Path.{_≡_, refl}
 use lib.ListN.{length}
 use Rattle.track.specs.declared.Groups.{Groups}
-use Rattle.track.specs.declared.Position.{Position}
-use Rattle.track.specs.declared.Saved.{Saved}
+use Rattle.located.specs.declared.Position.{Position}
+use Rattle.located.specs.declared.Saved.{Saved}
 use Rattle.track.specs.declared.Track.{Track}
 use Rattle.place.specs.Bytes.{lowBytes}
 use Rattle.place.specs.Place.{savedBytes, messageBytes, spotBytes, bodyOf}

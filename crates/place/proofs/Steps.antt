@@ -53,13 +53,13 @@ use Rattle.layouts.proofs.BothWays.{fitting, me-lt}
 use Rattle.messages.specs.declared.Decoded.{Decoded}
 use Rattle.messages.specs.declared.Decoded.the-variants as decode
 use Rattle.track.specs.declared.Groups.{Groups}
-use Rattle.track.specs.declared.Position.{Position}
-use Rattle.track.specs.declared.Saved.{Saved}
-use Rattle.track.specs.declared.Site.{Site}
+use Rattle.located.specs.declared.Position.{Position}
+use Rattle.located.specs.declared.Saved.{Saved}
+use Rattle.located.specs.declared.Site.{Site}
 use Rattle.track.specs.declared.Stepped.{Stepped}
 use Rattle.track.specs.declared.Track.{Track}
 use Rattle.track.specs.Groups.{high, atPressure, atHeight}
-use Rattle.track.specs.Located.{
+use Rattle.located.specs.Located.{
   formatOf,
   isWithin,
   isFresh,

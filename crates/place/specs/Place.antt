@@ -8,8 +8,8 @@ use lib.IntN.{ℤ, pos, negsuc, subℕ}
 use lib.ListN.{length, getD}
 use Rattle.positions.specs.Positions.{poleToPole}
 use Rattle.track.specs.declared.Groups.{Groups}
-use Rattle.track.specs.declared.Position.{Position}
-use Rattle.track.specs.declared.Saved.{Saved}
+use Rattle.located.specs.declared.Position.{Position}
+use Rattle.located.specs.declared.Saved.{Saved}
 use Rattle.track.specs.declared.Track.{Track}
 use Rattle.track.specs.Track.{noSaved}
 use Rattle.place.specs.Bytes.{numberAt, lowBytes}

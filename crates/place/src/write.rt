@@ -1,8 +1,8 @@
 // The body of a track, part by part. What does not fit its bits is cut.
 use crate::bytes;
 use track::Groups;
-use track::Position;
-use track::Saved;
+use located::Position;
+use located::Saved;
 use track::Track;
 ghost use mathlib.Core.Path.{_≡_};
 ghost use Prim.Native.Nat.{_+_, _≤_};

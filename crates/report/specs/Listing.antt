@@ -9,7 +9,7 @@ use Rattle.refusals.specs.declared.Refusal.the-variants.{Places}
 use Rattle.readings.specs.declared.altitude.Altitude.{Altitude}
 use Rattle.readings.specs.declared.altitude.Altitude.the-variants as altitude
 use Rattle.readings.specs.Altitude.{altitudeOf}
-use Rattle.track.specs.declared.Position.{Position}
+use Rattle.located.specs.declared.Position.{Position}
 use Rattle.track.specs.declared.Track.{Track}
 use Rattle.text.specs.declared.Figure.{Figure}
 use Rattle.text.specs.declared.Figure.the-variants.{Unknown, Known}

@@ -2,7 +2,7 @@
 use readings::Altitude;
 use text::Figure;
 use text::Row;
-use track::Position;
+use located::Position;
 use track::Track;
 ghost use mathlib.Core.Path.{_≡_};
 ghost use Rattle.report.specs.Listing.{latitudeIn, longitudeIn, rowOf};

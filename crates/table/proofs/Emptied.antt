@@ -14,7 +14,7 @@ use Rattle.fields.specs.Bytes.{Bytes}
 use Rattle.fields.proofs.Bools.{and-left, and-right, both}
 use Rattle.positions.specs.declared.Spot.{Spot}
 use Rattle.positions.specs.Positions.{poleToPole}
-use Rattle.track.specs.declared.Site.{Site}
+use Rattle.located.specs.declared.Site.{Site}
 use Rattle.place.specs.Bytes.{numberAt, lowBytes, put}
 use Rattle.place.specs.Place.{raised, inRange, held}
 use Rattle.place.proofs.Latitudes.{raised-small, lowered-raised}

@@ -26,7 +26,7 @@ use Rattle.messages.specs.Message.{bits, formatTaken, headWidths, withBody, ope
 use Rattle.messages.specs.Table.{Said, number, values, said, earns1, earns3, earns4, earns5, layoutWidths, table}
 use Rattle.messages.proofs.Exactly as decoder
 use Rattle.messages.proofs.Keys.{decoded-key}
-use Rattle.track.specs.declared.Site.{Site}
+use Rattle.located.specs.declared.Site.{Site}
 use Rattle.track.specs.declared.Stepped.{Stepped}
 use Rattle.track.specs.declared.Track.{Track}
 use Rattle.track.specs.Track.{stepped}

@@ -15,7 +15,7 @@ use Rattle.refusals.specs.declared.Refusal.the-variants.{Places, Field}
 use Rattle.positions.specs.declared.Spot.{Spot}
 use Rattle.messages.specs.declared.Decoded.{Decoded}
 use Rattle.messages.specs.Table.{said}
-use Rattle.track.specs.declared.Site.{Site}
+use Rattle.located.specs.declared.Site.{Site}
 use Rattle.track.specs.declared.Track.{Track}
 use Rattle.table.specs.declared.SetUp.{SetUp}
 use Rattle.table.specs.declared.SetUp.the-variants as setting

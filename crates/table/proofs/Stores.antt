@@ -10,8 +10,8 @@ use lib.ListN.{length, getD, take, drop, set, length-take, length-drop}
 use lib.Seq.{sets-eq, getD-set-other, getD-take, getD-drop, ext-getD, drop-at, take-at, length-take-le}
 use Rattle.fields.specs.Bytes.{Bytes}
 use Rattle.track.specs.declared.Groups.{Groups}
-use Rattle.track.specs.declared.Position.{Position}
-use Rattle.track.specs.declared.Saved.{Saved}
+use Rattle.located.specs.declared.Position.{Position}
+use Rattle.located.specs.declared.Saved.{Saved}
 use Rattle.track.specs.declared.Track.{Track}
 use Rattle.track.specs.Track.{noSaved}
 use Rattle.place.specs.Bytes.{numberAt, lowBytes, put}

@@ -6,7 +6,7 @@ use lib.Dec.{eqb, leb}
 use lib.IntN.{pos}
 use lib.ListN.{length, take, drop, replicate}
 use Rattle.positions.specs.declared.Spot.{Spot}
-use Rattle.track.specs.declared.Site.{Site}
+use Rattle.located.specs.declared.Site.{Site}
 use Rattle.track.specs.declared.Track.{Track}
 use Rattle.place.specs.Bytes.{numberAt, lowBytes, put}
 use Rattle.place.specs.Place.{lowered, raised, bodyOf, held}

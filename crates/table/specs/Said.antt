@@ -12,7 +12,7 @@ use Rattle.positions.specs.Positions.{poleToPole}
 use Rattle.messages.specs.Message.{bits, headWidths, kindOf}
 use Rattle.messages.specs.Table.{earns1, earns3, earns4, earns5, layoutWidths}
 use Rattle.messages.specs.Table as messages
-use Rattle.track.specs.declared.Site.{Site}
+use Rattle.located.specs.declared.Site.{Site}
 use Rattle.track.specs.declared.Track.{Track}
 use Rattle.table.specs.declared.SetUp.{SetUp}
 use Rattle.table.specs.declared.SetUp.the-variants as setting

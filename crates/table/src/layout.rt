@@ -1,6 +1,6 @@
 // Where the head, the keys and the bodies of a table stand, and what is read and written there.
 use positions::Spot;
-use track::Site;
+use located::Site;
 use track::Track;
 ghost use mathlib.Core.Path.{_≡_};
 ghost use Prim.Native.Nat.{_+_, _*_, _%_, _≤_, _<_};

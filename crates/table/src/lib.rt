@@ -16,7 +16,7 @@ use messages::Decoded;
 use positions::Spot;
 use refusals::Refusal;
 use scan::Target;
-use track::Site;
+use located::Site;
 use track::Track;
 ghost use mathlib.Core.Path.{_≡_};
 ghost use Prim.Native.Nat.{_+_, _*_, _≤_, _<_};

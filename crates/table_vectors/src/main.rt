@@ -18,9 +18,9 @@ use table::NextKey;
 use table::SetUp;
 use table::Sited;
 use track::Groups;
-use track::Position;
-use track::Saved;
-use track::Site;
+use located::Position;
+use located::Saved;
+use located::Site;
 use track::Track;
 
 // ---- what is read; where the input has ended, zeros

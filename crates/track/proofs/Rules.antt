@@ -34,13 +34,13 @@ use Rattle.messages.specs.declared.Message.{Message}
 use Rattle.messages.specs.declared.Decoded.{Decoded}
 use Rattle.messages.specs.declared.Decoded.the-variants as decode
 use Rattle.messages.proofs.BothWays.{decoded-good}
-use Rattle.track.specs.declared.Saved.{Saved}
-use Rattle.track.specs.declared.Position.{Position}
-use Rattle.track.specs.declared.Site.{Site}
+use Rattle.located.specs.declared.Saved.{Saved}
+use Rattle.located.specs.declared.Position.{Position}
+use Rattle.located.specs.declared.Site.{Site}
 use Rattle.track.specs.declared.Track.{Track}
 use Rattle.track.specs.declared.Stepped.{Stepped}
 use Rattle.track.specs.Groups.{identified, moving, onSurface, atPressure, atHeight}
-use Rattle.track.specs.Located.{
+use Rattle.located.specs.Located.{
   formatOf,
   isFresh,
   settled,

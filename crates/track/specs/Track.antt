@@ -12,13 +12,13 @@ use Rattle.layouts.specs.declared.bodies.Body.the-variants as body
 use Rattle.layouts.specs.Bodies.{bodyMe, bodyFits}
 use Rattle.messages.specs.declared.Decoded.{Decoded}
 use Rattle.messages.specs.declared.Decoded.the-variants as decode
-use Rattle.track.specs.declared.Saved.{Saved}
-use Rattle.track.specs.declared.Site.{Site}
+use Rattle.located.specs.declared.Saved.{Saved}
+use Rattle.located.specs.declared.Site.{Site}
 use Rattle.track.specs.declared.Groups.{Groups}
 use Rattle.track.specs.declared.Track.{Track}
 use Rattle.track.specs.declared.Stepped.{Stepped}
 use Rattle.track.specs.Groups.{noGroups, identified, moving, onSurface, high}
-use Rattle.track.specs.Located.{noPosition, formatOf, airbornePosition, surfacePosition}
+use Rattle.located.specs.Located.{noPosition, formatOf, airbornePosition, surfacePosition}
 
 abbrev pub noSaved : Saved
 noSaved = record { known = false; counts = record { latitude = record { 0 = 0 }; longitude = record { 0 = 0 } }; time = 0 }

@@ -1,5 +1,4 @@
 // One aircraft's track by value, and its step by one message.
-mod located;
 mod replaced;
 
 use counts::LatitudeCount;
@@ -8,34 +7,17 @@ use layouts::Airborne;
 use layouts::Body;
 use layouts::Surface;
 use layouts::Written;
+use located::Position;
+use located::Saved;
+use located::Site;
 use messages::Decoded;
 use positions::Counts;
-use positions::Spot;
 use refusals::Refusal;
 ghost use mathlib.Core.Path.{_≡_};
 ghost use Prim.Native.Nat.{_<_};
 ghost use mathlib.Core.Bool.{true};
 ghost use Rattle.layouts.specs.Bodies.{bodyFits};
 ghost use Rattle.track.specs.Track.{airborneTrack, surfaceTrack, groupTrack, stepBody, stepped, newTrack, noSaved};
-
-// An encoded position, airborne, with its time.
-pub struct Saved {
-    pub known: bool,
-    pub counts: Counts,
-    pub time: u64,
-}
-
-pub struct Position {
-    pub known: bool,
-    pub spot: Spot,
-    pub time: u64,
-}
-
-// Where the receiver stands, if that is known.
-pub struct Site {
-    pub known: bool,
-    pub spot: Spot,
-}
 
 // What was last heard of each group: of three the ME that gave it, 0 where none did; of two the code of 12 bits, 0 where it is unknown.
 pub struct Groups {

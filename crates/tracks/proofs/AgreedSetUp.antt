@@ -11,7 +11,7 @@ use borrow.Author.Tests.{eq-eqb}
 use Rattle.refusals.specs.declared.Refusal.{Refusal}
 use Rattle.refusals.specs.declared.Refusal.the-variants.{Places, Field}
 use Rattle.positions.specs.Positions.{poleToPole}
-use Rattle.track.specs.declared.Site.{Site}
+use Rattle.located.specs.declared.Site.{Site}
 use Rattle.place.proofs.Put.{put-length}
 use Rattle.table.specs.declared.SetUp.{SetUp}
 use Rattle.table.specs.declared.SetUp.the-variants as setting

@@ -9,7 +9,7 @@ use lib.Dec.{leb}
 use lib.ListN.{length, length-replicate}
 use borrow.Author.Tests.{le-leb, leb-true, eq-eqb}
 use Rattle.fields.proofs.Bools.{each, both}
-use Rattle.track.specs.declared.Site.{Site}
+use Rattle.located.specs.declared.Site.{Site}
 use Rattle.table.specs.declared.SetUp.the-variants as setting
 use Rattle.table.specs.Layout as layout
 use Rattle.table.specs.Table as table

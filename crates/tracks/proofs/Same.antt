@@ -9,7 +9,7 @@ use lib.ListN.{getD}
 use borrow.Author.Tests.{lt-ltb, le-leb, ltb-true}
 use Rattle.fields.proofs.Bools.{and-left, and-false, both}
 use Rattle.track.specs.declared.Groups.{Groups}
-use Rattle.track.specs.declared.Saved.{Saved}
+use Rattle.located.specs.declared.Saved.{Saved}
 use Rattle.track.specs.declared.Track.{Track}
 use Rattle.track.specs.Track.{noSaved}
 use Rattle.place.specs.Bytes.{numberAt}

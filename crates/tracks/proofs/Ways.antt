@@ -11,7 +11,7 @@ use Rattle.refusals.specs.declared.Refusal.the-variants.{Places, Field}
 use Rattle.positions.specs.Positions.{poleToPole}
 use Rattle.messages.specs.declared.Decoded.{Decoded}
 use Rattle.messages.specs.Message.{decoded}
-use Rattle.track.specs.declared.Site.{Site}
+use Rattle.located.specs.declared.Site.{Site}
 use Rattle.track.specs.Track.{newTrack}
 use Rattle.table.specs.declared.SetUp.{SetUp}
 use Rattle.table.specs.declared.SetUp.the-variants as setting

@@ -17,7 +17,7 @@ use messages::Decoded;
 use table::Looked;
 use table::NextKey;
 use table::SetUp;
-use track::Site;
+use located::Site;
 use track::Track;
 ghost use mathlib.Core.Path.{_≡_};
 ghost use lib.ListN.{length};

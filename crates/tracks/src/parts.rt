@@ -14,7 +14,7 @@ use table::Holding;
 use table::Looked;
 use table::NextKey;
 use table::SetUp;
-use track::Site;
+use located::Site;
 use track::Track;
 ghost use mathlib.Core.Path.{_≡_};
 ghost use mathlib.Core.Bool.{not};

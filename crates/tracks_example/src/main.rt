@@ -4,7 +4,7 @@ use messages::Decoded;
 use positions::Spot;
 use table::Holding;
 use table::Looked;
-use track::Site;
+use located::Site;
 use tracks::Head;
 use tracks::Place;
 use tracks::Received;

@@ -4,7 +4,7 @@ use mathlib.Core.List.{List, [], _∷_}
 use lib.ListN.{getD}
 use Rattle.arrays.specs.Twos.{twos}
 use Rattle.readings.specs.Altitude.{altitudeOf}
-use Rattle.track.specs.declared.Saved.{Saved}
+use Rattle.located.specs.declared.Saved.{Saved}
 use Rattle.track.specs.declared.Track.{Track}
 use Rattle.track.specs.Track.{noSaved}
 use Rattle.values.specs.declared.means.Reading.{Reading}

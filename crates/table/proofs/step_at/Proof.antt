@@ -1,7 +1,7 @@
 -- `table::step_at` meets its contract: a step and a store, with the site that the head has.
 -- Assumes nothing.
 use mathlib.Core.Path.{ap, _∙_}
-use Rattle.track.specs.declared.Site.{Site}
+use Rattle.located.specs.declared.Site.{Site}
 use Rattle.track.specs.Track.{stepped}
 use Rattle.table.proofs.Answers.{step-placed}
 use borrow.Author.Needs.{needs}

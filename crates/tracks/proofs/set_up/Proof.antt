@@ -40,9 +40,9 @@ use denote.Triple.Spec.{Meets, tripleOf}
 use denote.Triple.Table.{entered, cited}
 use denote.Triple.Walked.{says, Stays, stay-slice, stay-none, walkOf, goes-slice, goes-none, Walks, ends-at, walked, walk-meets}
 use denote.Exit.{yes}
-use Rattle.track.specs.declared.Site.{Site}
-use Rattle.track.proofs.Site as S
-use Rattle.track.proofs.Site.Laws as S′
+use Rattle.located.specs.declared.Site.{Site}
+use Rattle.located.proofs.Site as S
+use Rattle.located.proofs.Site.Laws as S′
 use Rattle.tracks.specs.declared.Place.{Place}
 use Rattle.tracks.specs.declared.Started.{Started}
 use Rattle.tracks.specs.Tracks.{after, emptied, setUp}

@@ -1,16 +1,32 @@
 // Where a message puts its aircraft: by its partner, or by one reference, or nowhere new.
-use crate::Position;
-use crate::Saved;
-use crate::Site;
 use positions::Counts;
 use positions::Format;
 use positions::Found;
 use positions::Spot;
 use positions::Turn;
 ghost use mathlib.Core.Path.{_≡_};
-ghost use Rattle.track.specs.Located.{noPosition, formatOf, isWithin, isFresh, foundAt, settled, readNear, readSingly, afterPair, pairedWith, airbornePosition, surfacePosition};
+ghost use Rattle.located.specs.Located.{noPosition, formatOf, isWithin, isFresh, foundAt, settled, readNear, readSingly, afterPair, pairedWith, airbornePosition, surfacePosition};
 
-pub(crate) fn no_position() -> Position
+// An encoded position, airborne, with its time.
+pub struct Saved {
+    pub known: bool,
+    pub counts: Counts,
+    pub time: u64,
+}
+
+pub struct Position {
+    pub known: bool,
+    pub spot: Spot,
+    pub time: u64,
+}
+
+// Where the receiver stands, if that is known.
+pub struct Site {
+    pub known: bool,
+    pub spot: Spot,
+}
+
+pub fn no_position() -> Position
     ensures { λ r. ⌜ r ≡ noPosition ⌝ }
 {
     Position {
@@ -23,7 +39,7 @@ pub(crate) fn no_position() -> Position
     }
 }
 
-pub(crate) fn format_of(f: u8) -> Format
+pub fn format_of(f: u8) -> Format
     ensures { λ r. ⌜ r ≡ formatOf f ⌝ }
 {
     if f == 0 { Format::Even } else { Format::Odd }
@@ -108,7 +124,7 @@ fn after_pair(found: Found, p: Position, counts: Counts, format: Format, time: u
     }
 }
 
-pub(crate) fn airborne_position(
+pub fn airborne_position(
     p: Position,
     partner: Saved,
     counts: Counts,
@@ -125,7 +141,7 @@ pub(crate) fn airborne_position(
     }
 }
 
-pub(crate) fn surface_position(
+pub fn surface_position(
     p: Position,
     site: Site,
     counts: Counts,

@@ -12,9 +12,9 @@ use Rattle.positions.specs.declared.Format.the-variants.{Even, Odd}
 use Rattle.positions.specs.declared.Found.{Found}
 use Rattle.positions.specs.declared.Found.the-variants.{At, Refused}
 use Rattle.positions.specs.Positions.{paired, singly}
-use Rattle.track.specs.declared.Saved.{Saved}
-use Rattle.track.specs.declared.Position.{Position}
-use Rattle.track.specs.declared.Site.{Site}
+use Rattle.located.specs.declared.Saved.{Saved}
+use Rattle.located.specs.declared.Position.{Position}
+use Rattle.located.specs.declared.Site.{Site}
 
 abbrev pub noPosition : Position
 noPosition = record { known = false; spot = record { latitude = pos 0; longitude = 0 }; time = 0 }

@@ -5,8 +5,8 @@ use mathlib.Core.Path.{sym}
 use native.Mathlib.Omega.{arith}
 use borrow.Author.Tests.{le-leb}
 use borrow.Author.Needs.{needs}
-use Rattle.track.proofs.located.is_within.Statement.{statement}
-use Rattle.track.proofs.located.is_within.Tie as tie
+use Rattle.located.proofs.is_within.Statement.{statement}
+use Rattle.located.proofs.is_within.Tie as tie
 
 returns : tie.Need-returns
 returns c = let a = c .before .args in sym (le-leb (a .clock - a .time) (a .most) (omega arith))

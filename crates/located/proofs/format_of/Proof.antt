@@ -1,8 +1,8 @@
 -- `located::format_of` meets its contract: its test is that of the definition.
 -- Assumes nothing.
 use borrow.Author.Tests.{eq-eqb, ne-eqb}
-use Rattle.track.proofs.located.format_of.Statement.{statement}
-use Rattle.track.proofs.located.format_of.Tie as tie
+use Rattle.located.proofs.format_of.Statement.{statement}
+use Rattle.located.proofs.format_of.Tie as tie
 
 returns : tie.Need-returns
 returns c = simp (eq-eqb _ _ (c .if1 .taken))

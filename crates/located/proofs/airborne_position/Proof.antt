@@ -3,10 +3,10 @@
 use mathlib.Core.Path.{_≡_, sym, ap, _∙_}
 use mathlib.Core.Bool.{Bool, true, false, _&&_}
 use Rattle.positions.specs.declared.Found.{Found}
-use Rattle.track.specs.Located.{isWithin, afterPair, airbornePosition}
+use Rattle.located.specs.Located.{isWithin, afterPair, airbornePosition}
 use borrow.Author.Needs.{needs}
-use Rattle.track.proofs.located.airborne_position.Statement.{statement}
-use Rattle.track.proofs.located.airborne_position.Tie as tie
+use Rattle.located.proofs.airborne_position.Statement.{statement}
+use Rattle.located.proofs.airborne_position.Tie as tie
 
 is-within-requires : tie.Need-is-within-requires
 is-within-requires c κs = search needs

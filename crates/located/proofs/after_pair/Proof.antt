@@ -2,10 +2,10 @@
 -- Assumes nothing.
 use mathlib.Core.Path.{sym, ap, _∙_}
 use Rattle.positions.specs.declared.Found.{Found}
-use Rattle.track.specs.Located.{afterPair}
+use Rattle.located.specs.Located.{afterPair}
 use borrow.Author.Needs.{needs}
-use Rattle.track.proofs.located.after_pair.Statement.{statement}
-use Rattle.track.proofs.located.after_pair.Tie as tie
+use Rattle.located.proofs.after_pair.Statement.{statement}
+use Rattle.located.proofs.after_pair.Tie as tie
 
 enum-known-found : tie.Need-enum-known-found
 enum-known-found c = search needs

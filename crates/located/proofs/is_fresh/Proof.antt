@@ -3,8 +3,8 @@
 use mathlib.Core.Path.{ap}
 use mathlib.Core.Bool.{Bool, _&&_}
 use borrow.Author.Needs.{needs}
-use Rattle.track.proofs.located.is_fresh.Statement.{statement}
-use Rattle.track.proofs.located.is_fresh.Tie as tie
+use Rattle.located.proofs.is_fresh.Statement.{statement}
+use Rattle.located.proofs.is_fresh.Tie as tie
 
 is-within-requires : tie.Need-is-within-requires
 is-within-requires c κs = search needs

@@ -2,10 +2,10 @@
 -- Assumes nothing.
 use mathlib.Core.Path.{sym, ap, _∙_}
 use Rattle.positions.specs.declared.Found.{Found}
-use Rattle.track.specs.Located.{settled}
+use Rattle.located.specs.Located.{settled}
 use borrow.Author.Needs.{needs}
-use Rattle.track.proofs.located.settle.Statement.{statement}
-use Rattle.track.proofs.located.settle.Tie as tie
+use Rattle.located.proofs.settle.Statement.{statement}
+use Rattle.located.proofs.settle.Tie as tie
 
 enum-known-found : tie.Need-enum-known-found
 enum-known-found c = search needs

@@ -2,10 +2,10 @@
 -- Assumes nothing.
 use mathlib.Core.Path.{ap, _∙_}
 use Rattle.positions.specs.declared.Found.{Found}
-use Rattle.track.specs.Located.{settled, readNear}
+use Rattle.located.specs.Located.{settled, readNear}
 use borrow.Author.Needs.{needs}
-use Rattle.track.proofs.located.read_near.Statement.{statement}
-use Rattle.track.proofs.located.read_near.Tie as tie
+use Rattle.located.proofs.read_near.Statement.{statement}
+use Rattle.located.proofs.read_near.Tie as tie
 
 single-requires : tie.Need-single-requires
 single-requires c κs = search needs

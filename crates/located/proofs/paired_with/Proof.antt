@@ -1,10 +1,10 @@
 -- `located::paired_with` meets its contract: each arm is the definition's.
 -- Assumes nothing.
 use mathlib.Core.Path.{sym, ap, _∙_}
-use Rattle.track.specs.Located.{pairedWith}
+use Rattle.located.specs.Located.{pairedWith}
 use borrow.Author.Needs.{needs}
-use Rattle.track.proofs.located.paired_with.Statement.{statement}
-use Rattle.track.proofs.located.paired_with.Tie as tie
+use Rattle.located.proofs.paired_with.Statement.{statement}
+use Rattle.located.proofs.paired_with.Tie as tie
 
 enum-told : tie.Need-enum-told
 enum-told c = search needs
