@@ -15,9 +15,9 @@ use Rattle.fields.proofs.Bools.{and-false}
 use Rattle.located.specs.declared.Saved.{Saved}
 use Rattle.track.specs.declared.Track.{Track}
 use Rattle.track.specs.Track.{noSaved}
-use Rattle.place.specs.Bytes.{numberAt, lowBytes}
+use Rattle.words.specs.Bytes.{numberAt, lowBytes}
 use Rattle.place.specs.Place.{savedFrom, groupsIn, positionIn, trackOf, bit, raised, marksOf, savedNumber, savedBytes, messageBytes, spotBytes, bodyOf, inRange, held, FitsSaved, FitsGroups, FitsPosition, Fits}
-use Rattle.place.proofs.Numbers.{read-back, number-lt}
+use Rattle.words.proofs.Numbers.{read-back, number-lt}
 use Rattle.place.proofs.Latitudes.{lowered-fits, raised-small, lowered-raised}
 
 -- ---- the numbers of a written body

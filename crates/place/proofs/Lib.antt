@@ -1,5 +1,3 @@
-pub mod Numbers
-pub mod Put
 pub mod Latitudes
 pub mod Sizes
 pub mod BothWays

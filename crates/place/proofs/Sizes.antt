@@ -6,7 +6,7 @@ use Rattle.track.specs.declared.Groups.{Groups}
 use Rattle.located.specs.declared.Position.{Position}
 use Rattle.located.specs.declared.Saved.{Saved}
 use Rattle.track.specs.declared.Track.{Track}
-use Rattle.place.specs.Bytes.{lowBytes}
+use Rattle.words.specs.Bytes.{lowBytes}
 use Rattle.place.specs.Place.{savedBytes, messageBytes, spotBytes, bodyOf}
 
 pub saved-length : (v : Saved) → length (savedBytes v) ≡ 13

@@ -12,7 +12,7 @@ use Rattle.located.specs.declared.Position.{Position}
 use Rattle.located.specs.declared.Saved.{Saved}
 use Rattle.track.specs.declared.Track.{Track}
 use Rattle.track.specs.Track.{noSaved}
-use Rattle.place.specs.Bytes.{numberAt, lowBytes}
+use Rattle.words.specs.Bytes.{numberAt, lowBytes}
 
 -- ---- the track of a body
 

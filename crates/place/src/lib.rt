@@ -15,14 +15,9 @@
 //                bits 17-33 longitude count, bit 34 whether there is one
 //     54      8  its time                                                       any
 //     62     13  odd encoded position, likewise                                 any
-mod bytes;
 mod read;
 mod write;
 
-pub use bytes::get4;
-pub use bytes::get8;
-pub use bytes::put4;
-pub use bytes::put8;
 pub use read::latitude_of;
 pub use read::load;
 pub use write::raise;
@@ -37,7 +32,7 @@ pub fn in_range(key: u32, p: &[u8]) -> bool
     requires { ⌜ length (now p) ≡ 75 ⌝ }
     ensures { λ r. ⌜ r ≡ inRange key (now (p .entry)) ⌝ }
 {
-    (16777216 <= key) & (key < 50331648) & (bytes::get4(p, 33) <= 2147483648)
+    (16777216 <= key) & (key < 50331648) & (words::get4(p, 33) <= 2147483648)
 }
 
 // The earliest time that is less than 125,000 ago.
@@ -52,5 +47,5 @@ pub fn is_held(clock: u64, key: u32, p: &[u8]) -> bool
     requires { ⌜ length (now p) ≡ 75 ⌝ }
     ensures { λ r. ⌜ r ≡ held clock key (now (p .entry)) ⌝ }
 {
-    in_range(key, p) & (earliest(clock) <= bytes::get8(p, 0))
+    in_range(key, p) & (earliest(clock) <= words::get8(p, 0))
 }

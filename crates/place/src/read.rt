@@ -1,12 +1,11 @@
 // The track of a body, part by part.
-use crate::bytes;
 use counts::LatitudeCount;
 use counts::LongitudeCount;
+use located::Position;
+use located::Saved;
 use positions::Counts;
 use positions::Spot;
 use track::Groups;
-use located::Position;
-use located::Saved;
 use track::Track;
 ghost use mathlib.Core.Path.{_≡_};
 ghost use Prim.Native.Nat.{_+_, _≤_, min};
@@ -52,18 +51,18 @@ fn saved_at(p: &[u8], at: usize) -> Saved
     requires { ⌜ at + 13 ≤ length (now p) ⌝ }
     ensures { λ r. ⌜ r ≡ savedAt (now (p .entry)) at ⌝ }
 {
-    saved_from(bytes::get5(p, at), bytes::get8(p, at + 5))
+    saved_from(words::get5(p, at), words::get8(p, at + 5))
 }
 
 fn groups_in(p: &[u8]) -> Groups
     requires { ⌜ length (now p) ≡ 75 ⌝ }
     ensures { λ r. ⌜ r ≡ groupsIn (now (p .entry)) ⌝ }
 {
-    let marks = bytes::get4(p, 29);
+    let marks = words::get4(p, 29);
     Groups {
-        identification: bytes::get7(p, 8),
-        velocity: bytes::get7(p, 15),
-        surface: bytes::get7(p, 22),
+        identification: words::get7(p, 8),
+        velocity: words::get7(p, 15),
+        surface: words::get7(p, 22),
         pressure: (marks % 4096) as u16,
         height: (marks / 4096 % 4096) as u16,
     }
@@ -73,15 +72,15 @@ fn position_in(p: &[u8]) -> Position
     requires { ⌜ length (now p) ≡ 75 ⌝ }
     ensures { λ r. ⌜ r ≡ positionIn (now (p .entry)) ⌝ }
 {
-    let marks = bytes::get4(p, 29);
-    let latitude = latitude_of(bytes::get4(p, 33));
+    let marks = words::get4(p, 29);
+    let latitude = latitude_of(words::get4(p, 33));
     Position {
         known: marks / 16777216 % 2 == 1,
         spot: Spot {
             latitude: latitude,
-            longitude: bytes::get4(p, 37),
+            longitude: words::get4(p, 37),
         },
-        time: bytes::get8(p, 41),
+        time: words::get8(p, 41),
     }
 }
 
@@ -93,7 +92,7 @@ pub fn load(p: &[u8]) -> Track
     let even = saved_at(p, 49);
     let odd = saved_at(p, 62);
     Track {
-        heard: bytes::get8(p, 0),
+        heard: words::get8(p, 0),
         groups: groups_in(p),
         position: position_in(p),
         saved: [even, odd],

@@ -1,13 +1,12 @@
 // The body of a track, part by part. What does not fit its bits is cut.
-use crate::bytes;
-use track::Groups;
 use located::Position;
 use located::Saved;
+use track::Groups;
 use track::Track;
 ghost use mathlib.Core.Path.{_≡_};
 ghost use Prim.Native.Nat.{_+_, _≤_};
 ghost use lib.ListN.{length};
-ghost use Rattle.place.specs.Bytes.{put};
+ghost use Rattle.words.specs.Bytes.{put};
 ghost use Rattle.place.specs.Place.{bit, raised, marksOf, savedNumber, savedBytes, messageBytes, spotBytes, bodyOf};
 
 fn flag(b: bool) -> u64
@@ -41,26 +40,26 @@ fn put_saved(s: &mut [u8], at: usize, v: Saved)
     requires { ⌜ at + 13 ≤ length (now s) ⌝ }
     ensures { λ _. ⌜ now (s .exit) ≡ put (now (s .entry)) at (savedBytes v) ⌝ }
 {
-    bytes::put5(s, at, saved_number(v));
-    bytes::put8(s, at + 5, v.time);
+    words::put5(s, at, saved_number(v));
+    words::put8(s, at + 5, v.time);
 }
 
 fn put_messages(s: &mut [u8], at: usize, g: Groups)
     requires { ⌜ at + 21 ≤ length (now s) ⌝ }
     ensures { λ _. ⌜ now (s .exit) ≡ put (now (s .entry)) at (messageBytes g) ⌝ }
 {
-    bytes::put7(s, at, g.identification);
-    bytes::put7(s, at + 7, g.velocity);
-    bytes::put7(s, at + 14, g.surface);
+    words::put7(s, at, g.identification);
+    words::put7(s, at + 7, g.velocity);
+    words::put7(s, at + 14, g.surface);
 }
 
 fn put_spot(s: &mut [u8], at: usize, p: Position)
     requires { ⌜ at + 16 ≤ length (now s) ⌝ }
     ensures { λ _. ⌜ now (s .exit) ≡ put (now (s .entry)) at (spotBytes p) ⌝ }
 {
-    bytes::put4(s, at, (raise(p.spot.latitude) % 4294967296) as u32);
-    bytes::put4(s, at + 4, p.spot.longitude);
-    bytes::put8(s, at + 8, p.time);
+    words::put4(s, at, (raise(p.spot.latitude) % 4294967296) as u32);
+    words::put4(s, at + 4, p.spot.longitude);
+    words::put8(s, at + 8, p.time);
 }
 
 // A track's body at an offset.
@@ -73,9 +72,9 @@ pub fn store(s: &mut [u8], at: usize, t: Track)
     let odd = both[1];
     let g = t.groups;
     let p = t.position;
-    bytes::put8(s, at, t.heard);
+    words::put8(s, at, t.heard);
     put_messages(s, at + 8, g);
-    bytes::put4(s, at + 29, marks_of(g, p.known));
+    words::put4(s, at + 29, marks_of(g, p.known));
     put_spot(s, at + 33, p);
     put_saved(s, at + 49, even);
     put_saved(s, at + 62, odd);

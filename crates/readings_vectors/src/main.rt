@@ -1,9 +1,9 @@
 // Runs `readings` on each question of standard input, five bytes each, and writes the answers, a line each.
+use characters::CategorySet;
+use characters::Character;
 use libc::STDIN_FILENO;
 use libc::STDOUT_FILENO;
 use readings::Altitude;
-use characters::CategorySet;
-use characters::Character;
 use readings::Difference;
 use readings::Heading;
 use readings::Movement;

@@ -9,7 +9,7 @@ use mathlib.Core.Path.{_≡_, refl, sym, _∙_}
 use lib.Dec.{eqb, leb, ltb}
 use borrow.Author.Tests.{leb-true, ltb-true, eqb-true}
 use Rattle.fields.proofs.Bools.{and-left, and-right}
-use Rattle.place.specs.Bytes.{numberAt}
+use Rattle.words.specs.Bytes.{numberAt}
 use Rattle.place.specs.Place.{inRange, held}
 use Rattle.track.specs.declared.Track.{Track}
 use Rattle.table.specs.Layout.{placesIn, clockOf, Place, holds}

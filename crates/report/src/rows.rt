@@ -1,8 +1,8 @@
 // What a line of the listing says of a track.
+use located::Position;
 use readings::Altitude;
 use text::Figure;
 use text::Row;
-use located::Position;
 use track::Track;
 ghost use mathlib.Core.Path.{_≡_};
 ghost use Rattle.report.specs.Listing.{latitudeIn, longitudeIn, rowOf};

@@ -20,7 +20,7 @@ use Rattle.located.specs.declared.Site.{Site}
 use Rattle.track.specs.declared.Track.{Track}
 use Rattle.track.specs.declared.Stepped.{Stepped}
 use Rattle.track.specs.Track.{newTrack, stepped}
-use Rattle.place.specs.Bytes.{lowBytes, put}
+use Rattle.words.specs.Bytes.{lowBytes, put}
 use Rattle.place.specs.Place.{raised, trackOf}
 use Rattle.table.specs.declared.scan.Target.{Target}
 use Rattle.table.specs.declared.SetUp.the-variants as setting

@@ -15,10 +15,10 @@ use Rattle.fields.proofs.Bools.{and-left, and-right, both}
 use Rattle.positions.specs.declared.Spot.{Spot}
 use Rattle.positions.specs.Positions.{poleToPole}
 use Rattle.located.specs.declared.Site.{Site}
-use Rattle.place.specs.Bytes.{numberAt, lowBytes, put}
+use Rattle.words.specs.Bytes.{numberAt, lowBytes, put}
 use Rattle.place.specs.Place.{raised, inRange, held}
 use Rattle.place.proofs.Latitudes.{raised-small, lowered-raised}
-use Rattle.place.proofs.Put.{put-length, put-append}
+use Rattle.words.proofs.Put.{put-length, put-append}
 use Rattle.table.specs.Layout.{wholePlaces, placesIn, clockOf, noSite, siteFrom, siteOf, keyAt, holds, emptied, emptiedAt}
 use Rattle.table.specs.View.{places, trackIn, viewAt, Fresh}
 use Rattle.table.proofs.Search.{fails, look-miss}

@@ -10,10 +10,10 @@ use lib.ListN.{length, getD, take, drop}
 use Rattle.fields.specs.Bytes.{Bytes}
 use Rattle.positions.proofs.Shift.{order}
 use Rattle.track.specs.declared.Track.{Track}
-use Rattle.place.specs.Bytes.{numberAt, lowBytes, put}
+use Rattle.words.specs.Bytes.{numberAt, lowBytes, put}
 use Rattle.place.specs.Place.{bodyOf}
-use Rattle.place.proofs.Numbers.{low-length}
-use Rattle.place.proofs.Put.{put-length}
+use Rattle.words.proofs.Numbers.{low-length}
+use Rattle.words.proofs.Put.{put-length}
 use Rattle.place.proofs.Sizes.{body-length}
 use Rattle.table.specs.Layout.{clockOf, siteFrom, siteOf, placeAs, keyAt, bodyAt, placeAt, moved, stored}
 use Rattle.table.proofs.Stores.{byte-out, number-agree, number-there, part-agree, part-there, put-bytes, low-bytes, body-bytes}

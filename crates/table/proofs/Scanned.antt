@@ -11,7 +11,7 @@ use mathlib.Core.List.{List}
 use lib.Dec.{eqb, ltb}
 use borrow.Author.Tests.{lt-ltb, le-ltb, ltb-true, ltb-false, eq-eqb, ne-eqb, not-true, not-false}
 use Rattle.fields.proofs.Bools.{and-left, and-right}
-use Rattle.place.specs.Bytes.{numberAt}
+use Rattle.words.specs.Bytes.{numberAt}
 use Rattle.place.specs.Place.{held}
 use Rattle.table.specs.Layout.{Place, keyAt, bodyAt, placeAt, isHeld, holds}
 use Rattle.table.specs.Scan.{noneOf, allHeld}

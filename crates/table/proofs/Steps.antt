@@ -11,7 +11,7 @@ use lib.Dec.{eqb, ltb}
 use lib.ListN.{length}
 use borrow.Author.Tests.{eq-eqb, ne-eqb}
 use Rattle.track.specs.declared.Track.{Track}
-use Rattle.place.specs.Bytes.{numberAt}
+use Rattle.words.specs.Bytes.{numberAt}
 use Rattle.place.specs.Place.{trackOf, bodyOf, held, Fits}
 use Rattle.place.proofs.BothWays.{read-written, written-held, held-later}
 use Rattle.table.specs.Layout.{Place, placesIn, placeAs, placeAt, isHeld, holds, moved, stored}

@@ -14,9 +14,9 @@ use Rattle.located.specs.declared.Position.{Position}
 use Rattle.located.specs.declared.Saved.{Saved}
 use Rattle.track.specs.declared.Track.{Track}
 use Rattle.track.specs.Track.{noSaved}
-use Rattle.place.specs.Bytes.{numberAt, lowBytes, put}
+use Rattle.words.specs.Bytes.{numberAt, lowBytes, put}
 use Rattle.place.specs.Place.{raised, marksOf, savedNumber, savedBytes, messageBytes, spotBytes, bodyOf}
-use Rattle.place.proofs.Numbers.{low-length, read-back}
+use Rattle.words.proofs.Numbers.{low-length, read-back}
 
 -- outside of what is stored, nothing changes
 pub byte-out : (vs s : List ℕ) (at j : ℕ) → (j < at) ⊎ (at + length vs ≤ j) → getD (put s at vs) j 0 ≡ getD s j 0

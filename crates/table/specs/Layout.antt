@@ -8,7 +8,7 @@ use lib.ListN.{length, take, drop, replicate}
 use Rattle.positions.specs.declared.Spot.{Spot}
 use Rattle.located.specs.declared.Site.{Site}
 use Rattle.track.specs.declared.Track.{Track}
-use Rattle.place.specs.Bytes.{numberAt, lowBytes, put}
+use Rattle.words.specs.Bytes.{numberAt, lowBytes, put}
 use Rattle.place.specs.Place.{lowered, raised, bodyOf, held}
 
 -- 1 to 1,024 whole places: 16 bytes, and 79 for each

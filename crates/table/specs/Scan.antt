@@ -3,7 +3,7 @@ use Prim.Native.Nat.{ℕ, zero, suc, _+_, _*_}
 use mathlib.Core.Bool.{Bool, true, false, cond, not, _&&_}
 use mathlib.Core.List.{List}
 use lib.Dec.{eqb, ltb}
-use Rattle.place.specs.Bytes.{numberAt}
+use Rattle.words.specs.Bytes.{numberAt}
 use Rattle.table.specs.declared.scan.Target.{Target}
 use Rattle.table.specs.Layout.{Place, isHeld, holds}
 use Rattle.table.specs.Table.{lowest}

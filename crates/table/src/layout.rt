@@ -1,6 +1,6 @@
 // Where the head, the keys and the bodies of a table stand, and what is read and written there.
-use positions::Spot;
 use located::Site;
+use positions::Spot;
 use track::Track;
 ghost use mathlib.Core.Path.{_≡_};
 ghost use Prim.Native.Nat.{_+_, _*_, _%_, _≤_, _<_};
@@ -8,7 +8,7 @@ ghost use mathlib.Core.Bool.{true};
 ghost use mathlib.Core.List.{_++_};
 ghost use lib.ListN.{length};
 ghost use Rattle.positions.specs.Positions.{poleToPole};
-ghost use Rattle.place.specs.Bytes.{lowBytes, put};
+ghost use Rattle.words.specs.Bytes.{lowBytes, put};
 ghost use Rattle.place.specs.Place.{raised};
 ghost use Rattle.table.specs.Layout.{wholePlaces, placesIn, noSite, siteFrom, siteOf, bodyAt, stored, emptied};
 
@@ -66,7 +66,7 @@ pub(crate) fn site_of(s: &[u8]) -> Site
     requires { ⌜ 16 ≤ length (now s) ⌝ }
     ensures { λ r. ⌜ r ≡ siteOf (now (s .entry)) ⌝ }
 {
-    site_from(place::get4(s, 8), place::get4(s, 12))
+    site_from(words::get4(s, 8), words::get4(s, 12))
 }
 
 pub(crate) fn pole_to_pole(latitude: i32) -> bool
@@ -81,7 +81,7 @@ pub(crate) fn store(s: &mut [u8], n: usize, i: usize, key: u32, t: Track)
     requires { ⌜ (n ≤ 1024) × ((i < n) × (16 + 79 * n ≤ length (now s))) ⌝ }
     ensures { λ _. ⌜ now (s .exit) ≡ stored (now (s .entry)) n i key t ⌝ }
 {
-    place::put4(s, 16 + 4 * i, key);
+    words::put4(s, 16 + 4 * i, key);
     place::store(s, 16 + 4 * n + 75 * i, t);
 }
 
@@ -99,6 +99,6 @@ pub(crate) fn put_site(s: &mut [u8], site: Spot)
     requires { ⌜ (16 ≤ length (now s)) × (poleToPole (site .latitude) ≡ true) ⌝ }
     ensures { λ _. ⌜ now (s .exit) ≡ put (now (s .entry)) 8 (lowBytes 4 (raised (site .latitude) % 4294967296 + 1) ++ lowBytes 4 (site .longitude)) ⌝ }
 {
-    place::put4(s, 8, (place::raise(site.latitude) % 4294967296) as u32 + 1);
-    place::put4(s, 12, site.longitude);
+    words::put4(s, 8, (place::raise(site.latitude) % 4294967296) as u32 + 1);
+    words::put4(s, 12, site.longitude);
 }

@@ -12,11 +12,11 @@ mod layout;
 mod scan;
 mod walk;
 
+use located::Site;
 use messages::Decoded;
 use positions::Spot;
 use refusals::Refusal;
 use scan::Target;
-use located::Site;
 use track::Track;
 ghost use mathlib.Core.Path.{_≡_};
 ghost use Prim.Native.Nat.{_+_, _*_, _≤_, _<_};
@@ -146,10 +146,10 @@ pub fn receive(table: &mut [u8], message: &[u8], time: u64) -> Decoded
     if !layout::whole_places(table.len()) {
         return Decoded::Refused(Refusal::Places);
     }
-    if time < place::get8(table, 0) {
+    if time < words::get8(table, 0) {
         return Decoded::Refused(Refusal::Late);
     }
-    place::put8(table, 0, time);
+    words::put8(table, 0, time);
     deliver(table, messages::decode(message), time)
 }
 
@@ -164,7 +164,7 @@ pub fn look_up(table: &[u8], key: u32) -> Looked
         };
     }
     let n = layout::places_in(table);
-    let i = scan::find_key(table, n, place::get8(table, 0), key);
+    let i = scan::find_key(table, n, words::get8(table, 0), key);
     if i < n {
         return Looked {
             answer: Holding::Held,
@@ -195,14 +195,14 @@ pub fn next(table: &[u8], above: u32) -> NextKey
         return NextKey::Refused(Refusal::Places);
     }
     let n = layout::places_in(table);
-    key_or_end(walk::smallest_above(table, n, place::get8(table, 0), above))
+    key_or_end(walk::smallest_above(table, n, words::get8(table, 0), above))
 }
 
 pub fn clock_of(table: &[u8]) -> Clock
     ensures { λ r. ⌜ r ≡ clockIn (now (table .entry)) ⌝ }
 {
     if layout::whole_places(table.len()) {
-        Clock::At(place::get8(table, 0))
+        Clock::At(words::get8(table, 0))
     } else {
         Clock::Refused(Refusal::Places)
     }

@@ -1,12 +1,12 @@
 // The place of a key, and the lowest free place. The column of keys is passed 16 at a time, which compiles to wide compares.
 use crate::layout;
-use place::get4;
+use words::get4;
 ghost use mathlib.Core.Path.{_≡_};
 ghost use mathlib.Core.Bool.{true, false, not};
 ghost use Prim.Native.Nat.{ℕ, _+_, _*_, _≤_, _<_};
 ghost use lib.Dec.{eqb};
 ghost use lib.ListN.{length};
-ghost use Rattle.place.specs.Bytes.{numberAt};
+ghost use Rattle.words.specs.Bytes.{numberAt};
 ghost use Rattle.table.specs.Layout.{placeAt, isHeld, holds};
 ghost use Rattle.table.specs.Scan.{noneOf, allHeld, targetOf};
 ghost use Rattle.table.specs.Table.{lowest};

@@ -1,6 +1,6 @@
 // The walk of the table in the order of its keys: the smallest key held above a given one.
 use crate::layout;
-use place::get4;
+use words::get4;
 ghost use mathlib.Core.Path.{_≡_};
 ghost use Prim.Native.Nat.{_+_, _*_, _≤_, _<_};
 ghost use lib.ListN.{length};

@@ -7,6 +7,9 @@
 // `reference/vectors/bench.py` has what each writes.
 use libc::STDIN_FILENO;
 use libc::STDOUT_FILENO;
+use located::Position;
+use located::Saved;
+use located::Site;
 use messages::Decoded;
 use messages::Encoded;
 use messages::Message;
@@ -18,9 +21,6 @@ use table::NextKey;
 use table::SetUp;
 use table::Sited;
 use track::Groups;
-use located::Position;
-use located::Saved;
-use located::Site;
 use track::Track;
 
 // ---- what is read; where the input has ended, zeros

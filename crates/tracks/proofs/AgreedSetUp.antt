@@ -12,7 +12,7 @@ use Rattle.refusals.specs.declared.Refusal.{Refusal}
 use Rattle.refusals.specs.declared.Refusal.the-variants.{Places, Field}
 use Rattle.positions.specs.Positions.{poleToPole}
 use Rattle.located.specs.declared.Site.{Site}
-use Rattle.place.proofs.Put.{put-length}
+use Rattle.words.proofs.Put.{put-length}
 use Rattle.table.specs.declared.SetUp.{SetUp}
 use Rattle.table.specs.declared.SetUp.the-variants as setting
 use Rattle.table.specs.Layout as layout

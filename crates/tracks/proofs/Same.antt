@@ -12,7 +12,7 @@ use Rattle.track.specs.declared.Groups.{Groups}
 use Rattle.located.specs.declared.Saved.{Saved}
 use Rattle.track.specs.declared.Track.{Track}
 use Rattle.track.specs.Track.{noSaved}
-use Rattle.place.specs.Bytes.{numberAt}
+use Rattle.words.specs.Bytes.{numberAt}
 use Rattle.place.specs.Place.{trackOf, bodyOf, held, Fits, FitsGroups, FitsSaved}
 use Rattle.place.proofs.BothWays.{read-written, written-in-range, held-later}
 use Rattle.table.specs.Layout as layout

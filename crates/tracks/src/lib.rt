@@ -13,11 +13,11 @@
 mod parts;
 mod ranges;
 
+use located::Site;
 use messages::Decoded;
 use table::Looked;
 use table::NextKey;
 use table::SetUp;
-use located::Site;
 use track::Track;
 ghost use mathlib.Core.Path.{_≡_};
 ghost use lib.ListN.{length};

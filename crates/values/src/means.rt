@@ -1,12 +1,12 @@
 // A reading as two numbers: what it is (0 unknown, 1 known, 2 over, 3 none, 4 stopped), and its value.
-use readings::Altitude;
 use characters::CategorySet;
+use characters::Text;
+use readings::Altitude;
 use readings::Difference;
 use readings::Heading;
 use readings::Movement;
 use readings::Rate;
 use readings::Speed;
-use characters::Text;
 ghost use mathlib.Core.Path.{_≡_};
 ghost use Rattle.values.specs.Means.{reading, altitudeReading, speedReading, rateReading, differenceReading, headingReading, movementReading, setReading, textReading};
 ghost use Rattle.values.specs.Means.{bit as bitOf};

@@ -1,7 +1,7 @@
 -- `table::receive` meets its contract: its four ways out are the definition's.
 -- Assumes nothing.
 use native.Mathlib.Omega.{arith}
-use Rattle.place.proofs.Put.{put-length}
+use Rattle.words.proofs.Put.{put-length}
 use Rattle.table.proofs.Parts.{sized, whole}
 use Rattle.table.proofs.Answers.{receive-length, receive-size, receive-late, receive-on}
 use borrow.Author.Needs.{needs}

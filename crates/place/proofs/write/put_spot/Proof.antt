@@ -4,10 +4,10 @@ use native.Mathlib.Omega.{arith}
 use mir.Facts.{toZ-ofZ}
 use mir.Syntax.{w32}
 use mathlib.Core.Path.{ap, _∙_}
-use Rattle.place.specs.Bytes.{lowBytes}
+use Rattle.words.specs.Bytes.{lowBytes}
 use Rattle.place.specs.Place.{raised, spotBytes}
-use Rattle.place.proofs.Numbers.{low-length, low-cut}
-use Rattle.place.proofs.Put.{put-then, put-after, put-same}
+use Rattle.words.proofs.Numbers.{low-length, low-cut}
+use Rattle.words.proofs.Put.{put-then, put-after, put-same}
 use borrow.Author.Needs.{needs}
 use Rattle.place.proofs.write.put_spot.Statement.{statement}
 use Rattle.place.proofs.write.put_spot.Tie as tie

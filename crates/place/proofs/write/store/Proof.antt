@@ -1,10 +1,10 @@
 -- `place::write::store` meets its contract: six stores in a row.
 -- Assumes nothing.
 use mathlib.Core.Path.{ap}
-use Rattle.place.specs.Bytes.{lowBytes}
+use Rattle.words.specs.Bytes.{lowBytes}
 use Rattle.place.specs.Place.{bodyOf}
-use Rattle.place.proofs.Numbers.{low-length}
-use Rattle.place.proofs.Put.{put-then, put-after, put-same}
+use Rattle.words.proofs.Numbers.{low-length}
+use Rattle.words.proofs.Put.{put-then, put-after, put-same}
 use Rattle.place.proofs.Sizes.{saved-length, message-length, spot-length}
 use borrow.Author.Needs.{needs}
 use Rattle.place.proofs.write.store.Statement.{statement}

@@ -5,10 +5,10 @@ use mir.Facts.{toZ-ofZ}
 use mir.Syntax.{w32}
 use mathlib.Core.Path.{ap, _∙_}
 use Prim.Native.Nat.{ℕ, _+_, _%_}
-use Rattle.place.specs.Bytes.{lowBytes}
+use Rattle.words.specs.Bytes.{lowBytes}
 use Rattle.place.specs.Place.{raised}
-use Rattle.place.proofs.Numbers.{low-length}
-use Rattle.place.proofs.Put.{put-then, put-same}
+use Rattle.words.proofs.Numbers.{low-length}
+use Rattle.words.proofs.Put.{put-then, put-same}
 use Rattle.place.proofs.Latitudes.{raised-small}
 use borrow.Author.Needs.{needs}
 use Rattle.table.proofs.layout.put_site.Statement.{statement}

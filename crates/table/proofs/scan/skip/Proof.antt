@@ -5,7 +5,7 @@ use native.Mathlib.Omega.{arith}
 use mathlib.Core.Bool.{false}
 use mathlib.Core.Path.{_≡_}
 use lib.Dec.{eqb}
-use Rattle.place.specs.Bytes.{numberAt}
+use Rattle.words.specs.Bytes.{numberAt}
 use Rattle.table.proofs.Scanned.{skip-more}
 use borrow.Author.Needs.{needs}
 use Rattle.table.proofs.scan.skip.Statement.{statement}

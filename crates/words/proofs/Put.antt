@@ -7,8 +7,8 @@ use mathlib.Core.Path.{_≡_, refl, ap, sym, _∙_}
 use mathlib.Core.List.{List, [], _∷_, _++_}
 use lib.ListN.{length, set}
 use lib.Seq.{length-sets}
-use Rattle.place.specs.Bytes.{lowBytes, put}
-use Rattle.place.proofs.Numbers.{low-length, low-more}
+use Rattle.words.specs.Bytes.{lowBytes, put}
+use Rattle.words.proofs.Numbers.{low-length, low-more}
 
 pub put-length : (s : List ℕ) (at : ℕ) (vs : List ℕ) → length (put s at vs) ≡ length s
 unfolding put

@@ -1,10 +1,10 @@
 -- `place::bytes::get3` meets its contract: three bytes, each times its power of 256.
 -- Assumes nothing.
 use native.Mathlib.Omega.{arith}
-use Rattle.place.proofs.Numbers.{number-3}
+use Rattle.words.proofs.Numbers.{number-3}
 use borrow.Author.Needs.{needs}
-use Rattle.place.proofs.bytes.get3.Statement.{statement}
-use Rattle.place.proofs.bytes.get3.Tie as tie
+use Rattle.words.proofs.get3.Statement.{statement}
+use Rattle.words.proofs.get3.Tie as tie
 
 shared-slice-read-wide : tie.Need-shared-slice-read-wide
 shared-slice-read-wide c = search needs

@@ -2,7 +2,7 @@
 ghost use mathlib.Core.Path.{_≡_};
 ghost use Prim.Native.Nat.{_+_, _<_, _≤_};
 ghost use lib.ListN.{length};
-ghost use Rattle.place.specs.Bytes.{numberAt, lowBytes, put};
+ghost use Rattle.words.specs.Bytes.{numberAt, lowBytes, put};
 
 fn wide(x: u8) -> u32
     ensures { λ r. ⌜ (r ≡ x) × (r < 256) ⌝ }
@@ -30,14 +30,14 @@ pub fn get4(s: &[u8], at: usize) -> u32
     wide(s[at]) + wide(s[at + 1]) * 256 + wide(s[at + 2]) * 65536 + wide(s[at + 3]) * 16777216
 }
 
-pub(crate) fn get5(s: &[u8], at: usize) -> u64
+pub fn get5(s: &[u8], at: usize) -> u64
     requires { ⌜ at + 5 ≤ length (now s) ⌝ }
     ensures { λ r. ⌜ r ≡ numberAt 5 (now (s .entry)) at ⌝ }
 {
     wider(get4(s, at)) + wider(wide(s[at + 4])) * 4294967296
 }
 
-pub(crate) fn get7(s: &[u8], at: usize) -> u64
+pub fn get7(s: &[u8], at: usize) -> u64
     requires { ⌜ at + 7 ≤ length (now s) ⌝ }
     ensures { λ r. ⌜ r ≡ numberAt 7 (now (s .entry)) at ⌝ }
 {
@@ -70,7 +70,7 @@ pub fn put4(s: &mut [u8], at: usize, x: u32)
     s[at + 3] = (x / 16777216 % 256) as u8;
 }
 
-pub(crate) fn put5(s: &mut [u8], at: usize, x: u64)
+pub fn put5(s: &mut [u8], at: usize, x: u64)
     requires { ⌜ at + 5 ≤ length (now s) ⌝ }
     ensures { λ _. ⌜ now (s .exit) ≡ put (now (s .entry)) at (lowBytes 5 x) ⌝ }
 {
@@ -78,7 +78,7 @@ pub(crate) fn put5(s: &mut [u8], at: usize, x: u64)
     s[at + 4] = (x / 4294967296 % 256) as u8;
 }
 
-pub(crate) fn put7(s: &mut [u8], at: usize, x: u64)
+pub fn put7(s: &mut [u8], at: usize, x: u64)
     requires { ⌜ at + 7 ≤ length (now s) ⌝ }
     ensures { λ _. ⌜ now (s .exit) ≡ put (now (s .entry)) at (lowBytes 7 x) ⌝ }
 {

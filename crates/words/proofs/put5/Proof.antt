@@ -1,10 +1,10 @@
 -- `place::bytes::put5` meets its contract: four bytes and one more.
 -- Assumes nothing.
-use Rattle.place.proofs.Put.{put-1, put-more}
+use Rattle.words.proofs.Put.{put-1, put-more}
 use Prim.Native.Nat.{_+_, _/_}
 use borrow.Author.Needs.{needs}
-use Rattle.place.proofs.bytes.put5.Statement.{statement}
-use Rattle.place.proofs.bytes.put5.Tie as tie
+use Rattle.words.proofs.put5.Statement.{statement}
+use Rattle.words.proofs.put5.Tie as tie
 
 cast-put4 : tie.Need-cast-put4
 cast-put4 c = search needs

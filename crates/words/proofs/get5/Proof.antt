@@ -2,10 +2,10 @@
 -- Assumes nothing.
 use native.Mathlib.Omega.{arith}
 use Prim.Native.Nat.{_+_}
-use Rattle.place.proofs.Numbers.{number-1, number-more}
+use Rattle.words.proofs.Numbers.{number-1, number-more}
 use borrow.Author.Needs.{needs}
-use Rattle.place.proofs.bytes.get5.Statement.{statement}
-use Rattle.place.proofs.bytes.get5.Tie as tie
+use Rattle.words.proofs.get5.Statement.{statement}
+use Rattle.words.proofs.get5.Tie as tie
 
 get4-requires : tie.Need-get4-requires
 get4-requires c κs = search needs

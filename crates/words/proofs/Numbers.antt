@@ -7,7 +7,7 @@ use native.Mathlib.Omega.{arith}
 use lib.ListN.{length, getD}
 use lib.Pow.{pow-add, mod-pow-add}
 use Rattle.fields.specs.Bytes.{Bytes}
-use Rattle.place.specs.Bytes.{numberAt, lowBytes}
+use Rattle.words.specs.Bytes.{numberAt, lowBytes}
 
 pub low-length : (k n : ℕ) → length (lowBytes k n) ≡ k
 unfolding lowBytes

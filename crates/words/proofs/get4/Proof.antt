@@ -1,10 +1,10 @@
 -- `place::bytes::get4` meets its contract: four bytes, each times its power of 256.
 -- Assumes nothing.
 use native.Mathlib.Omega.{arith}
-use Rattle.place.proofs.Numbers.{number-4}
+use Rattle.words.proofs.Numbers.{number-4}
 use borrow.Author.Needs.{needs}
-use Rattle.place.proofs.bytes.get4.Statement.{statement}
-use Rattle.place.proofs.bytes.get4.Tie as tie
+use Rattle.words.proofs.get4.Statement.{statement}
+use Rattle.words.proofs.get4.Tie as tie
 
 shared-slice-read-wide : tie.Need-shared-slice-read-wide
 shared-slice-read-wide c = search needs
