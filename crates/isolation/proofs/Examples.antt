@@ -20,7 +20,8 @@ use Rattle.messages.specs.Message.{opened}
 use Rattle.track.specs.declared.Track.{Track}
 use Rattle.track.specs.Track.{groupTrack}
 use Rattle.words.specs.Bytes.{numberAt, lowBytes, put}
-use Rattle.place.specs.Place.{savedFrom, groupsIn, lowered, positionIn, trackOf, raised, marksOf, savedNumber, savedBytes, messageBytes, spotBytes, bodyOf, inRange, held}
+use Rattle.place.specs.Place.{savedFrom, groupsIn, lowered, positionIn, trackOf, raised, marksOf, savedNumber, savedBytes, messageBytes, spotBytes, bodyOf}
+use Rattle.held.specs.Ranges.{inRange, held}
 use Rattle.table.specs.declared.SetUp.the-variants.{Done}
 use Rattle.table.specs.Layout.{wholePlaces, siteFrom, keyAt, bodyAt, holds, moved, stored, emptied}
 use Rattle.table.specs.Table.{setUp, placeOf, freePlace, delivered, received}

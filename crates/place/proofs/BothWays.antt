@@ -16,7 +16,8 @@ use Rattle.located.specs.declared.Saved.{Saved}
 use Rattle.track.specs.declared.Track.{Track}
 use Rattle.track.specs.Track.{noSaved}
 use Rattle.words.specs.Bytes.{numberAt, lowBytes}
-use Rattle.place.specs.Place.{savedFrom, groupsIn, positionIn, trackOf, bit, raised, marksOf, savedNumber, savedBytes, messageBytes, spotBytes, bodyOf, inRange, held, FitsSaved, FitsGroups, FitsPosition, Fits}
+use Rattle.place.specs.Place.{savedFrom, groupsIn, positionIn, trackOf, bit, raised, marksOf, savedNumber, savedBytes, messageBytes, spotBytes, bodyOf, FitsSaved, FitsGroups, FitsPosition, Fits}
+use Rattle.held.specs.Ranges.{inRange, held}
 use Rattle.words.proofs.Numbers.{read-back, number-lt}
 use Rattle.place.proofs.Latitudes.{lowered-fits, raised-small, lowered-raised}
 

@@ -12,10 +12,6 @@ use Rattle.place.proofs.write.raise.Kinds as raise-kinds
 use Rattle.place.proofs.write.raise.Reads as raise
 use Rattle.place.proofs.write.store.Kinds as store-kinds
 use Rattle.place.proofs.write.store.Reads as store
-use Rattle.place.proofs.in_range.Kinds as in-range-kinds
-use Rattle.place.proofs.in_range.Reads as in-range
-use Rattle.place.proofs.is_held.Kinds as is-held-kinds
-use Rattle.place.proofs.is_held.Reads as is-held
 
 pub latitude-of-once : OneAnswer 0 latitude-of-kinds.ps latitude-of-kinds.r latitude-of.Post
 latitude-of-once κs args x y left left′ p q = p ∙ sym q
@@ -28,9 +24,3 @@ raise-once κs args x y left left′ p q = p ∙ sym q
 
 pub store-once : OneOutcome 1 store-kinds.ps store-kinds.r (List ℕ) (λ κs x left. left .0 .now) store.Post
 store-once κs args x y left left′ p q = p ∙ sym q
-
-pub in-range-once : OneAnswer 1 in-range-kinds.ps in-range-kinds.r in-range.Post
-in-range-once κs args x y left left′ p q = p ∙ sym q
-
-pub is-held-once : OneAnswer 1 is-held-kinds.ps is-held-kinds.r is-held.Post
-is-held-once κs args x y left left′ p q = p ∙ sym q

@@ -22,30 +22,3 @@ pub use read::latitude_of;
 pub use read::load;
 pub use write::raise;
 pub use write::store;
-ghost use mathlib.Core.Path.{_≡_};
-ghost use Prim.Native.Nat.{_-_};
-ghost use lib.ListN.{length};
-ghost use Rattle.place.specs.Place.{inRange, held};
-
-// Whether the key and every value of the body is in its range.
-pub fn in_range(key: u32, p: &[u8]) -> bool
-    requires { ⌜ length (now p) ≡ 75 ⌝ }
-    ensures { λ r. ⌜ r ≡ inRange key (now (p .entry)) ⌝ }
-{
-    (16777216 <= key) & (key < 50331648) & (words::get4(p, 33) <= 2147483648)
-}
-
-// The earliest time that is less than 125,000 ago.
-fn earliest(clock: u64) -> u64
-    ensures { λ r. ⌜ r ≡ clock - 124999 ⌝ }
-{
-    if clock < 124999 { 0 } else { clock - 124999 }
-}
-
-// Whether the place is held at the clock: in range, and heard less than 125,000 ago.
-pub fn is_held(clock: u64, key: u32, p: &[u8]) -> bool
-    requires { ⌜ length (now p) ≡ 75 ⌝ }
-    ensures { λ r. ⌜ r ≡ held clock key (now (p .entry)) ⌝ }
-{
-    in_range(key, p) & (earliest(clock) <= words::get8(p, 0))
-}

@@ -10,7 +10,7 @@ use lib.Dec.{eqb, leb, ltb}
 use borrow.Author.Tests.{leb-true, ltb-true, eqb-true}
 use Rattle.fields.proofs.Bools.{and-left, and-right}
 use Rattle.words.specs.Bytes.{numberAt}
-use Rattle.place.specs.Place.{inRange, held}
+use Rattle.held.specs.Ranges.{inRange, held}
 use Rattle.track.specs.declared.Track.{Track}
 use Rattle.table.specs.Layout.{placesIn, clockOf, Place, holds}
 use Rattle.table.specs.Table.{lowest}

@@ -16,7 +16,8 @@ use Rattle.positions.specs.declared.Spot.{Spot}
 use Rattle.positions.specs.Positions.{poleToPole}
 use Rattle.located.specs.declared.Site.{Site}
 use Rattle.words.specs.Bytes.{numberAt, lowBytes, put}
-use Rattle.place.specs.Place.{raised, inRange, held}
+use Rattle.place.specs.Place.{raised}
+use Rattle.held.specs.Ranges.{inRange, held}
 use Rattle.place.proofs.Latitudes.{raised-small, lowered-raised}
 use Rattle.words.proofs.Put.{put-length, put-append}
 use Rattle.table.specs.Layout.{wholePlaces, placesIn, clockOf, noSite, siteFrom, siteOf, keyAt, holds, emptied, emptiedAt}

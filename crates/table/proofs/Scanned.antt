@@ -12,7 +12,7 @@ use lib.Dec.{eqb, ltb}
 use borrow.Author.Tests.{lt-ltb, le-ltb, ltb-true, ltb-false, eq-eqb, ne-eqb, not-true, not-false}
 use Rattle.fields.proofs.Bools.{and-left, and-right}
 use Rattle.words.specs.Bytes.{numberAt}
-use Rattle.place.specs.Place.{held}
+use Rattle.held.specs.Ranges.{held}
 use Rattle.table.specs.Layout.{Place, keyAt, bodyAt, placeAt, isHeld, holds}
 use Rattle.table.specs.Scan.{noneOf, allHeld}
 use Rattle.table.specs.Table.{lowest, better, smallest}

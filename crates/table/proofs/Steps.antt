@@ -12,7 +12,8 @@ use lib.ListN.{length}
 use borrow.Author.Tests.{eq-eqb, ne-eqb}
 use Rattle.track.specs.declared.Track.{Track}
 use Rattle.words.specs.Bytes.{numberAt}
-use Rattle.place.specs.Place.{trackOf, bodyOf, held, Fits}
+use Rattle.place.specs.Place.{trackOf, bodyOf, Fits}
+use Rattle.held.specs.Ranges.{held}
 use Rattle.place.proofs.BothWays.{read-written, written-held, held-later}
 use Rattle.table.specs.Layout.{Place, placesIn, placeAs, placeAt, isHeld, holds, moved, stored}
 use Rattle.table.specs.View.{places, look, trackIn, viewAt, laterAt, Once, AllTaken}

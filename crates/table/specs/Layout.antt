@@ -9,7 +9,8 @@ use Rattle.positions.specs.declared.Spot.{Spot}
 use Rattle.located.specs.declared.Site.{Site}
 use Rattle.track.specs.declared.Track.{Track}
 use Rattle.words.specs.Bytes.{numberAt, lowBytes, put}
-use Rattle.place.specs.Place.{lowered, raised, bodyOf, held}
+use Rattle.place.specs.Place.{lowered, raised, bodyOf}
+use Rattle.held.specs.Ranges.{held}
 
 -- 1 to 1,024 whole places: 16 bytes, and 79 for each
 unfoldable pub wholePlaces : ℕ → Bool

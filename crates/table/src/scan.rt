@@ -52,7 +52,7 @@ fn is_held(s: &[u8], n: usize, i: usize, clock: u64) -> bool
     requires { ⌜ (n ≤ 1024) × ((i < n) × (16 + 79 * n ≤ length (now s))) ⌝ }
     ensures { λ r. ⌜ r ≡ isHeld clock (placeAt (now (s .entry)) n i) ⌝ }
 {
-    place::is_held(clock, get4(s, 16 + 4 * i), layout::body(s, n, i))
+    held::is_held(clock, get4(s, 16 + 4 * i), layout::body(s, n, i))
 }
 
 // Ranges and age are tested only where the key is equal.
@@ -61,7 +61,7 @@ fn has_key(s: &[u8], n: usize, i: usize, clock: u64, key: u32) -> bool
     ensures { λ r. ⌜ r ≡ holds clock key (placeAt (now (s .entry)) n i) ⌝ }
 {
     if get4(s, 16 + 4 * i) == key {
-        place::is_held(clock, key, layout::body(s, n, i))
+        held::is_held(clock, key, layout::body(s, n, i))
     } else {
         false
     }

@@ -14,7 +14,7 @@ fn better_of(s: &[u8], n: usize, i: usize, clock: u64, above: u32, best: u32) ->
 {
     let key = get4(s, 16 + 4 * i);
     if (above < key) & ((best == 0) | (key < best)) {
-        if place::is_held(clock, key, layout::body(s, n, i)) {
+        if held::is_held(clock, key, layout::body(s, n, i)) {
             return key;
         }
     }

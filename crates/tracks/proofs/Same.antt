@@ -13,7 +13,8 @@ use Rattle.located.specs.declared.Saved.{Saved}
 use Rattle.track.specs.declared.Track.{Track}
 use Rattle.track.specs.Track.{noSaved}
 use Rattle.words.specs.Bytes.{numberAt}
-use Rattle.place.specs.Place.{trackOf, bodyOf, held, Fits, FitsGroups, FitsSaved}
+use Rattle.place.specs.Place.{trackOf, bodyOf, Fits, FitsGroups, FitsSaved}
+use Rattle.held.specs.Ranges.{held}
 use Rattle.place.proofs.BothWays.{read-written, written-in-range, held-later}
 use Rattle.table.specs.Layout as layout
 use Rattle.table.specs.Table as table

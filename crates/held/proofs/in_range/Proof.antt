@@ -1,9 +1,9 @@
 -- `place::in_range` meets its contract: its three tests are the definition's.
 -- Assumes nothing.
-use Rattle.place.specs.Place.{inRange}
+use Rattle.held.specs.Ranges.{inRange}
 use borrow.Author.Needs.{needs}
-use Rattle.place.proofs.in_range.Statement.{statement}
-use Rattle.place.proofs.in_range.Tie as tie
+use Rattle.held.proofs.in_range.Statement.{statement}
+use Rattle.held.proofs.in_range.Tie as tie
 
 get4-requires : tie.Need-get4-requires
 get4-requires c κs = search needs

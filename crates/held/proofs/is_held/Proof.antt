@@ -6,10 +6,10 @@ use mathlib.Core.Bool.{Bool, true, false}
 use native.Mathlib.Omega.{arith}
 use lib.Dec.{leb, ltb}
 use borrow.Author.Tests.{lt-ltb, le-ltb, leb-true, leb-false}
-use Rattle.place.specs.Place.{held}
+use Rattle.held.specs.Ranges.{held}
 use borrow.Author.Needs.{needs}
-use Rattle.place.proofs.is_held.Statement.{statement}
-use Rattle.place.proofs.is_held.Tie as tie
+use Rattle.held.proofs.is_held.Statement.{statement}
+use Rattle.held.proofs.is_held.Tie as tie
 
 in-date : (clock time : ℕ) → leb (clock - 124999) time ≡ ltb (clock - time) 125000
 in-date clock time = by-test (leb (clock - 124999) time) refl

@@ -1,8 +1,8 @@
 -- `place::earliest` meets its contract: below 124,999 the difference of the definition is 0.
 -- Assumes nothing.
 use native.Mathlib.Omega.{arith}
-use Rattle.place.proofs.earliest.Statement.{statement}
-use Rattle.place.proofs.earliest.Tie as tie
+use Rattle.held.proofs.earliest.Statement.{statement}
+use Rattle.held.proofs.earliest.Tie as tie
 
 returns : tie.Need-returns
 returns c = omega arith
