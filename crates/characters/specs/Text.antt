@@ -5,9 +5,8 @@ use mathlib.Core.List.{List, [], _∷_}
 use lib.Dec.{leb, eqb}
 use lib.ListN.{replicate}
 use Rattle.refusals.specs.declared.Refusal.the-variants.{Field}
-use Rattle.fields.specs.Packing.{unpack}
+use Rattle.fields.specs.Packing.{unpack, wider}
 use Rattle.fields.specs.Bytes.{number}
-use Rattle.characters.specs.Widths.{wider}
 use Rattle.characters.specs.declared.CategorySet.{CategorySet}
 use Rattle.characters.specs.declared.CategorySet.the-variants as set
 use Rattle.characters.specs.declared.Character.{Character}

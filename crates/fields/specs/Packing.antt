@@ -2,11 +2,19 @@
 use Prim.Native.Nat.{ℕ, _+_, _-_, _*_, _/_, _%_, _^_, _<_}
 use mathlib.Core.List.{List, [], _∷_}
 use mathlib.Core.Bool.{Bool, true, false, _&&_}
-use lib.Dec.{ltb}
+use lib.Dec.{leb, ltb}
 
 -- bits from .. to of the number n, which has w bits; bit 1 is the highest
 abbrev pub field : ℕ → ℕ → ℕ → ℕ → ℕ
 field w from to n = n / 2 ^ (w - to) % 2 ^ (to + 1 - from)
+
+-- .. of ME, which has 56
+abbrev pub me : ℕ → ℕ → ℕ → ℕ
+me from to n = field 56 from to n
+
+-- a code of so many bits is below 2 to that power, and else is wider
+abbrev pub wider : ℕ → ℕ → Bool
+wider bits code = leb (2 ^ bits) code
 
 -- how many bits a layout has
 abbrev pub total : List ℕ → ℕ

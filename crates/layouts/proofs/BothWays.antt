@@ -11,22 +11,12 @@ use lib.ListN.{getD}
 use borrow.Author.Tests.{leb-true, lt-leb, eqb-true}
 use Rattle.refusals.specs.declared.Refusal.{Refusal}
 use Rattle.refusals.specs.declared.Refusal.the-variants.{Field}
-use Rattle.fields.specs.Packing.{total, pack, unpack, Fit, fits}
+use Rattle.fields.specs.Packing.{total, pack, unpack, Fit, fits, me}
 use Rattle.fields.proofs.Bools.{and-left, and-right, both, by-test}
 use Rattle.fields.proofs.Fits.{fits-fit, unpack-fits}
 use Rattle.fields.proofs.Packing.{pack-unpack, pack-lt}
-use Rattle.layouts.specs.Layouts.{
-  me,
-  isIdentification,
-  isSurface,
-  isAirborne,
-  isGround,
-  isAir,
-  identificationWidths,
-  surfaceWidths,
-  airborneWidths,
-  velocityWidths,
-}
+use Rattle.layouts.specs.Layouts.{isIdentification, isSurface, isAirborne, identificationWidths, surfaceWidths, airborneWidths}
+use Rattle.velocity.specs.Velocity.{isGround, isAir, velocityWidths}
 use Rattle.layouts.specs.Bodies.{takenAt, taken, bodyFields, bodyWidths, typeAgrees, bodyMe, bodyFits, written}
 use Rattle.layouts.specs.declared.bodies.Body.{Body}
 use Rattle.layouts.specs.declared.bodies.Body.the-variants as body

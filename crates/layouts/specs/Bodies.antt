@@ -3,35 +3,15 @@ use Prim.Native.Nat.{ℕ}
 use mathlib.Core.List.{List}
 use mathlib.Core.Bool.{Bool, cond, _&&_}
 use Rattle.refusals.specs.declared.Refusal.the-variants.{TypeCode, Field}
-use Rattle.fields.specs.Packing.{pack, fits}
+use Rattle.fields.specs.Packing.{pack, fits, me}
 use Rattle.layouts.specs.declared.bodies.Body.{Body}
 use Rattle.layouts.specs.declared.bodies.Body.the-variants as body
 use Rattle.layouts.specs.declared.bodies.Taken.{Taken}
 use Rattle.layouts.specs.declared.bodies.Taken.the-variants as read
 use Rattle.layouts.specs.declared.bodies.Written.{Written}
 use Rattle.layouts.specs.declared.bodies.Written.the-variants as write
-use Rattle.layouts.specs.Layouts.{
-  me,
-  isIdentification,
-  isSurface,
-  isAirborne,
-  isGround,
-  isAir,
-  identificationOf,
-  surfaceOf,
-  airborneOf,
-  groundOf,
-  airOf,
-  identificationFields,
-  surfaceFields,
-  airborneFields,
-  groundFields,
-  airFields,
-  identificationWidths,
-  surfaceWidths,
-  airborneWidths,
-  velocityWidths,
-}
+use Rattle.layouts.specs.Layouts.{isIdentification, isSurface, isAirborne, identificationOf, surfaceOf, airborneOf, identificationFields, surfaceFields, airborneFields, identificationWidths, surfaceWidths, airborneWidths}
+use Rattle.velocity.specs.Velocity.{isGround, isAir, groundOf, airOf, groundFields, airFields, velocityWidths}
 
 -- by TYPE and subtype; any other is not taken
 abbrev pub takenAt : ℕ → ℕ → ℕ → Taken

@@ -3,7 +3,6 @@ mod airborne;
 mod bodies;
 mod identification;
 mod surface;
-mod velocity;
 
 pub use airborne::Airborne;
 pub use bodies::Body;
@@ -13,6 +12,3 @@ pub use bodies::body_of;
 pub use bodies::me_of;
 pub use identification::Identification;
 pub use surface::Surface;
-pub use velocity::Air;
-pub use velocity::Ground;
-pub use velocity::Vertical;

@@ -10,21 +10,11 @@ use native.Mathlib.Omega.{arith}
 use lib.Dec.{eqb}
 use borrow.Author.Tests.{eq-eqb}
 use Rattle.refusals.specs.Numbers.{numberOf}
-use Rattle.fields.specs.Packing.{field, total, unpack}
+use Rattle.fields.specs.Packing.{field, total, unpack, me}
 use Rattle.fields.specs.Bytes.{number as numeral}
 use Rattle.fields.proofs.Packing.{unpack-above}
-use Rattle.layouts.specs.Layouts.{
-  me,
-  isIdentification,
-  isSurface,
-  isAirborne,
-  isGround,
-  isAir,
-  identificationWidths,
-  surfaceWidths,
-  airborneWidths,
-  velocityWidths,
-}
+use Rattle.layouts.specs.Layouts.{isIdentification, isSurface, isAirborne, identificationWidths, surfaceWidths, airborneWidths}
+use Rattle.velocity.specs.Velocity.{isGround, isAir, velocityWidths}
 use Rattle.layouts.specs.Bodies.{taken, bodyFields}
 use Rattle.layouts.specs.declared.bodies.Taken.{Taken}
 use Rattle.messages.specs.Message.{bits, withBody, opened, decoded, headWidths, headFields}

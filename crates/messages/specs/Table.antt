@@ -7,7 +7,8 @@ use lib.ListN.{length}
 use Rattle.refusals.specs.Numbers.{numberOf}
 use Rattle.fields.specs.Packing.{unpack}
 use Rattle.parity.specs.Parity.{remainder}
-use Rattle.layouts.specs.Layouts.{isIdentification, isSurface, isAirborne, isGround, isAir, identificationWidths, surfaceWidths, airborneWidths, velocityWidths}
+use Rattle.layouts.specs.Layouts.{isIdentification, isSurface, isAirborne, identificationWidths, surfaceWidths, airborneWidths}
+use Rattle.velocity.specs.Velocity.{isGround, isAir, velocityWidths}
 use Rattle.layouts.specs.Bodies.{bodyFields}
 use Rattle.messages.specs.Message.{bits, formatTaken, headWidths, headFields}
 use Rattle.messages.specs.declared.Decoded.{Decoded}

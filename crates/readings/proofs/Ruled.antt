@@ -5,7 +5,8 @@ use mathlib.Core.Path.{_≡_, refl}
 use mathlib.Core.Bool.{true, false}
 use lib.IntN.{pos, negsuc}
 use Rattle.refusals.specs.declared.Refusal.the-variants.{Field}
-use Rattle.layouts.specs.Layouts.{identificationOf, surfaceOf, airborneOf, groundOf, airOf}
+use Rattle.layouts.specs.Layouts.{identificationOf, surfaceOf, airborneOf}
+use Rattle.velocity.specs.Velocity.{groundOf, airOf}
 use Rattle.readings.specs.Bodies.{identificationMeans, surfaceMeans, airborneMeans, groundMeans, airMeans}
 use Rattle.readings.specs.Altitude.{altitudeOf, byHundreds, sixLess, straight, fiveHundreds, hundreds, grayStep}
 use Rattle.readings.specs.Amounts.{speedOf, rateOf, differenceOf, amount, signed, times}

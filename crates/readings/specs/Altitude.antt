@@ -5,8 +5,7 @@ use mathlib.Core.Bool.{cond, _||_}
 use lib.Dec.{eqb}
 use lib.IntN.{pos, _-ℤ_}
 use Rattle.refusals.specs.declared.Refusal.the-variants.{Field}
-use Rattle.fields.specs.Packing.{field}
-use Rattle.characters.specs.Widths.{wider}
+use Rattle.fields.specs.Packing.{field, wider}
 use Rattle.readings.specs.declared.altitude.Altitude.{Altitude}
 use Rattle.readings.specs.declared.altitude.Altitude.the-variants.{Unknown, Feet, Refused}
 

@@ -4,7 +4,7 @@ use mathlib.Core.Bool.{cond, _||_}
 use lib.Dec.{eqb}
 use lib.IntN.{ℤ, pos, negℤ}
 use Rattle.refusals.specs.declared.Refusal.the-variants.{Field}
-use Rattle.characters.specs.Widths.{wider}
+use Rattle.fields.specs.Packing.{wider}
 use Rattle.readings.specs.declared.amounts.Speed.{Speed}
 use Rattle.readings.specs.declared.amounts.Speed.the-variants as speed
 use Rattle.readings.specs.declared.amounts.Rate.{Rate}

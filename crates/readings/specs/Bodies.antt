@@ -3,8 +3,8 @@ use lib.Dec.{leb}
 use Rattle.layouts.specs.declared.identification.Identification.{Identification}
 use Rattle.layouts.specs.declared.surface.Surface.{Surface}
 use Rattle.layouts.specs.declared.airborne.Airborne.{Airborne}
-use Rattle.layouts.specs.declared.velocity.Ground.{Ground}
-use Rattle.layouts.specs.declared.velocity.Air.{Air}
+use Rattle.velocity.specs.declared.Ground.{Ground}
+use Rattle.velocity.specs.declared.Air.{Air}
 use Rattle.readings.specs.Altitude.{altitudeOf}
 use Rattle.readings.specs.Amounts.{speedOf, rateOf, differenceOf}
 use Rattle.readings.specs.Headings.{headingOf}

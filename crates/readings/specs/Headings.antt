@@ -2,7 +2,7 @@
 use Prim.Native.Nat.{ℕ, _-_, _*_, _^_}
 use mathlib.Core.Bool.{cond}
 use Rattle.refusals.specs.declared.Refusal.the-variants.{Field}
-use Rattle.characters.specs.Widths.{wider}
+use Rattle.fields.specs.Packing.{wider}
 use Rattle.readings.specs.declared.headings.Heading.{Heading}
 use Rattle.readings.specs.declared.headings.Heading.the-variants.{Turn, Refused}
 

@@ -3,7 +3,7 @@ use Prim.Native.Nat.{ℕ, _+_, _-_, _*_}
 use mathlib.Core.Bool.{cond}
 use lib.Dec.{leb, eqb}
 use Rattle.refusals.specs.declared.Refusal.the-variants.{Field}
-use Rattle.characters.specs.Widths.{wider}
+use Rattle.fields.specs.Packing.{wider}
 use Rattle.readings.specs.declared.movement.Movement.{Movement}
 use Rattle.readings.specs.declared.movement.Movement.the-variants.{Unknown, Stopped, LowerEdge, AndUp, Reserved, Refused}
 

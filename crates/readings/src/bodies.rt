@@ -16,11 +16,11 @@ use characters::CategorySet;
 use characters::Text;
 use characters::category_set_of;
 use characters::text_of;
-use layouts::Air;
 use layouts::Airborne;
-use layouts::Ground;
 use layouts::Identification;
 use layouts::Surface;
+use velocity::Air;
+use velocity::Ground;
 ghost use mathlib.Core.Path.{_≡_};
 ghost use Rattle.readings.specs.Bodies.{identificationMeans, surfaceMeans, airborneMeans, groundMeans, airMeans};
 

@@ -13,10 +13,11 @@ use Rattle.refusals.specs.declared.Refusal.{Refusal}
 use Rattle.refusals.specs.declared.Refusal.the-variants.{Length, Late, TypeCode, Full, Places}
 use Rattle.refusals.specs.Numbers.{numberOf}
 use Rattle.fields.specs.Bytes.{Bytes}
-use Rattle.fields.specs.Packing.{fits}
+use Rattle.fields.specs.Packing.{fits, me}
 use Rattle.fields.proofs.Bools.{by-test, and-right}
 use Rattle.parity.specs.Parity.{remainder}
-use Rattle.layouts.specs.Layouts.{me, isIdentification, isSurface, isAirborne, isGround, isAir}
+use Rattle.layouts.specs.Layouts.{isIdentification, isSurface, isAirborne}
+use Rattle.velocity.specs.Velocity.{isGround, isAir}
 use Rattle.layouts.specs.Bodies.{takenAt, taken, bodyFits}
 use Rattle.layouts.specs.declared.bodies.Taken.{Taken}
 use Rattle.layouts.specs.declared.bodies.Taken.the-variants as read

@@ -24,8 +24,8 @@ use Rattle.positions.specs.Positions.{singly}
 use Rattle.layouts.specs.declared.identification.Identification.{Identification}
 use Rattle.layouts.specs.declared.surface.Surface.{Surface}
 use Rattle.layouts.specs.declared.airborne.Airborne.{Airborne}
-use Rattle.layouts.specs.declared.velocity.Ground.{Ground}
-use Rattle.layouts.specs.declared.velocity.Air.{Air}
+use Rattle.velocity.specs.declared.Ground.{Ground}
+use Rattle.velocity.specs.declared.Air.{Air}
 use Rattle.layouts.specs.declared.bodies.Body.{Body}
 use Rattle.layouts.specs.declared.bodies.Body.the-variants as body
 use Rattle.layouts.specs.Bodies.{bodyMe, bodyFits}

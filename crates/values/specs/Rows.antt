@@ -5,16 +5,17 @@ use Rattle.arrays.specs.Arrays.{filled}
 use Rattle.layouts.specs.declared.identification.Identification.{Identification}
 use Rattle.layouts.specs.declared.surface.Surface.{Surface}
 use Rattle.layouts.specs.declared.airborne.Airborne.{Airborne}
-use Rattle.layouts.specs.declared.velocity.Ground.{Ground}
-use Rattle.layouts.specs.declared.velocity.Air.{Air}
+use Rattle.velocity.specs.declared.Ground.{Ground}
+use Rattle.velocity.specs.declared.Air.{Air}
 use Rattle.layouts.specs.declared.bodies.Body.{Body}
 use Rattle.layouts.specs.declared.bodies.Body.the-variants as body
-use Rattle.layouts.specs.Layouts.{identificationFields, surfaceFields, airborneFields, groundFields, airFields}
+use Rattle.layouts.specs.Layouts.{identificationFields, surfaceFields, airborneFields}
+use Rattle.velocity.specs.Velocity.{groundFields, airFields}
 use Rattle.readings.specs.Bodies.{identificationMeans, surfaceMeans, airborneMeans, groundMeans, airMeans}
 use Rattle.messages.specs.declared.Message.{Message}
 use Rattle.messages.specs.Message.{keyOf}
 use Rattle.values.specs.declared.rows.Four.{Four}
-use Rattle.values.specs.Means.{reading, bit, altitudeReading, speedReading, rateReading, differenceReading, headingReading, movementReading, setReading, textReading}
+use Rattle.meanings.specs.Means.{reading, bit, altitudeReading, speedReading, rateReading, differenceReading, headingReading, movementReading, setReading, textReading}
 
 -- ---- the readings of each layout
 

@@ -7,8 +7,8 @@ use Rattle.readings.specs.Altitude.{altitudeOf}
 use Rattle.located.specs.declared.Saved.{Saved}
 use Rattle.track.specs.declared.Track.{Track}
 use Rattle.track.specs.Track.{noSaved}
-use Rattle.values.specs.declared.means.Reading.{Reading}
-use Rattle.values.specs.Means.{bit, altitudeReading}
+use Rattle.meanings.specs.declared.Reading.{Reading}
+use Rattle.meanings.specs.Means.{bit, altitudeReading}
 
 -- 1, as it is held; when last heard; the ME that gave the identification, the velocity and the surface fields; the codes of pressure altitude and GNSS height;
 -- whether the position is known, its latitude, longitude and time;

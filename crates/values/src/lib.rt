@@ -1,6 +1,5 @@
 // A message and a track as numbers in a row, each at its own place, for another language; and a message back from such numbers.
 mod back;
-mod means;
 mod rows;
 mod tracks;
 

@@ -1,24 +1,25 @@
 // A message as 28 numbers, layout by layout.
-use crate::means::Reading;
-use crate::means::altitude_reading;
-use crate::means::bit;
-use crate::means::difference_reading;
-use crate::means::heading_reading;
-use crate::means::movement_reading;
-use crate::means::only;
-use crate::means::rate_reading;
-use crate::means::set_reading;
-use crate::means::speed_reading;
-use crate::means::text_reading;
-use layouts::Air;
 use layouts::Airborne;
 use layouts::Body;
-use layouts::Ground;
 use layouts::Identification;
 use layouts::Surface;
+use meanings::Reading;
+use meanings::altitude_reading;
+use meanings::bit;
+use meanings::difference_reading;
+use meanings::heading_reading;
+use meanings::movement_reading;
+use meanings::only;
+use meanings::rate_reading;
+use meanings::set_reading;
+use meanings::speed_reading;
+use meanings::text_reading;
 use messages::Message;
+use velocity::Air;
+use velocity::Ground;
 ghost use mathlib.Core.Path.{_≡_};
-ghost use Rattle.layouts.specs.Layouts.{identificationFields, surfaceFields, airborneFields, groundFields, airFields};
+ghost use Rattle.layouts.specs.Layouts.{identificationFields, surfaceFields, airborneFields};
+ghost use Rattle.velocity.specs.Velocity.{groundFields, airFields};
 ghost use Rattle.values.specs.Rows.{identificationFour, surfaceFour, airborneFour, groundFour, airFour, rowOf, messageRow};
 
 // The readings of a layout.

@@ -1,6 +1,6 @@
 // A track as 23 numbers.
-use crate::means::altitude_reading;
-use crate::means::bit;
+use meanings::altitude_reading;
+use meanings::bit;
 use track::Track;
 ghost use mathlib.Core.Path.{_≡_};
 ghost use Rattle.values.specs.Tracks.{trackRow};
