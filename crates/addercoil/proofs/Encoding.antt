@@ -11,8 +11,8 @@ use Rattle.refusals.specs.Numbers.{numberOf}
 use Rattle.messages.specs.declared.Message.{Message}
 use Rattle.messages.specs.declared.Decoded.{Decoded}
 use Rattle.messages.specs.declared.Decoded.the-variants as decode
-use Rattle.messages.specs.declared.Encoded.{Encoded}
-use Rattle.messages.specs.Message.{encoded, encodedBytes}
+use Rattle.encoder.specs.declared.Encoded.{Encoded}
+use Rattle.encoder.specs.Encoded.{encoded, encodedBytes}
 use Rattle.values.specs.From.{messageFrom}
 use Rattle.addercoil.specs.Sent.{Sent, sent}
 use Rattle.addercoil.specs.Messages.{encodedNumber, encodedAs, encodedFrom}

@@ -21,10 +21,12 @@ use Rattle.layouts.specs.declared.bodies.Body.the-variants as body
 use Rattle.messages.specs.declared.Message.{Message}
 use Rattle.messages.specs.declared.Decoded.{Decoded}
 use Rattle.messages.specs.declared.Decoded.the-variants as decode
-use Rattle.messages.specs.declared.Encoded.the-variants as encode
-use Rattle.messages.specs.Message.{decoded, messageFits, encodedBytes}
+use Rattle.encoder.specs.declared.Encoded.the-variants as encode
+use Rattle.messages.specs.Message.{decoded, messageFits}
+use Rattle.encoder.specs.Encoded.{encodedBytes}
 use Rattle.messages.specs.Table.{values}
 use Rattle.messages.proofs.BothWays as messages
+use Rattle.encoder.proofs.BothWays as encoder
 use Rattle.track.specs.declared.Track.{Track}
 use Rattle.text.proofs.Fits.{header-most, row-most}
 use Rattle.table.specs.Layout.{clockOf}
@@ -68,7 +70,7 @@ decoded-into s out m h d = ap (λ (x : Decoded). into 28 out (messageSaid x)) d 
 pub decoded-encoded : (s fields out : List ℕ) (m : Message) → Bytes s → length fields ≡ 28 → length out ≡ 14 → decoded s ≡ decode.Message m
     → encodedFrom (into 28 fields (messageSaid (decoded s)) .array) out ≡ sent 0 s
 decoded-encoded s fields out m h f l d =
-    let g = messages.decoded-encoded s out m h l d in
+    let g = encoder.decoded-encoded s out m h l d in
     let fit = messages.decoded-good s m h d .0 in
     ap (λ (x : Sent). encodedFrom (x .array) out) (decoded-into s fields m f d)
     ∙ sym (encode-right out (messageRow m) (rw (eq-eqb _ _ (row-length m (m .body)), eq-eqb _ _ l)) (sym (from-row m fit)) (sym (ap₂ sent (ap encodedNumber (g .0)) (g .1))))

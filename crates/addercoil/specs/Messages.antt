@@ -7,9 +7,9 @@ use lib.ListN.{length}
 use Rattle.refusals.specs.Numbers.{numberOf}
 use Rattle.messages.specs.declared.Decoded.{Decoded}
 use Rattle.messages.specs.declared.Decoded.the-variants as decode
-use Rattle.messages.specs.declared.Encoded.{Encoded}
-use Rattle.messages.specs.declared.Encoded.the-variants as encode
-use Rattle.messages.specs.Message.{encoded, encodedBytes}
+use Rattle.encoder.specs.declared.Encoded.{Encoded}
+use Rattle.encoder.specs.declared.Encoded.the-variants as encode
+use Rattle.encoder.specs.Encoded.{encoded, encodedBytes}
 use Rattle.messages.specs.Table.{Said, number, values}
 use Rattle.track.specs.declared.Track.{Track}
 use Rattle.table.specs.declared.Holding.{Holding}

@@ -1,7 +1,7 @@
 // A track and a message as rows of numbers, and a message back from its row.
 use crate::give::give;
+use encoder::Encoded;
 use messages::Decoded;
-use messages::Encoded;
 use table::Holding;
 use track::Track;
 ghost use mathlib.Core.Path.{_≡_};
@@ -73,7 +73,7 @@ fn encode_into(out: &mut [u8], answer: Decoded) -> u32
     ensures { λ r. ⌜ sent r (now (out .exit)) ≡ encodedAs (now (out .entry)) answer ⌝ }
 {
     match answer {
-        Decoded::Message(m) => encoded_number(messages::encode(m, out)),
+        Decoded::Message(m) => encoded_number(encoder::encode(m, out)),
         Decoded::Refused(r) => refusals::number(r),
     }
 }

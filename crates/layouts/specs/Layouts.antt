@@ -2,7 +2,7 @@
 use Prim.Native.Nat.{ℕ}
 use mathlib.Core.List.{List, [], _∷_}
 use mathlib.Core.Bool.{Bool, _&&_, _||_}
-use lib.Dec.{leb, eqb}
+use lib.Dec.{leb}
 use Rattle.fields.specs.Packing.{me}
 use Rattle.layouts.specs.declared.identification.Identification.{Identification}
 use Rattle.layouts.specs.declared.surface.Surface.{Surface}

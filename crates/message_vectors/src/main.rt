@@ -1,5 +1,6 @@
 // Decodes each byte string of standard input, a byte of length and then the bytes, and writes its fields in the order of their
 // bits with the message encoded again, or the number that it earns.
+use encoder::Encoded;
 use layouts::Airborne;
 use layouts::Body;
 use layouts::Identification;
@@ -7,7 +8,6 @@ use layouts::Surface;
 use libc::STDIN_FILENO;
 use libc::STDOUT_FILENO;
 use messages::Decoded;
-use messages::Encoded;
 use messages::Message;
 use refusals::Refusal;
 use velocity::Air;
@@ -123,7 +123,7 @@ fn say_bytes(s: &[u8]) {
 
 fn say_encoded(m: Message) {
     let mut out = [0u8; 14];
-    let e = messages::encode(m, &mut out);
+    let e = encoder::encode(m, &mut out);
     match e {
         Encoded::Written => say_bytes(&out),
         Encoded::Refused(r) => say_refused(r),

@@ -3,15 +3,14 @@
 -- Assumes nothing.
 use Prim.Native.Nat.{ℕ, _/_, _%_, _^_, _<_}
 use mathlib.Core.Path.{_≡_, refl, sym, ap, ap₂, subst, _∙_}
-use mathlib.Core.Bool.{Bool, true, false, not, cond, _&&_}
+use mathlib.Core.Bool.{Bool, true, not, _&&_}
 use mathlib.Core.List.{List, _++_}
 use native.Mathlib.Nat.{mod-eq-of-lt, mod-lt}
 use native.Mathlib.Omega.{arith}
 use lib.Dec.{eqb, lit<}
 use lib.ListN.{length, take, drop, getD, take-append-drop, length-drop}
 use lib.Seq.{take-add}
-use borrow.Author.Tests.{eqb-true, eq-eqb, not-false}
-use Rattle.refusals.specs.declared.Refusal.the-variants.{Length, Field}
+use borrow.Author.Tests.{eqb-true, not-false}
 use Rattle.fields.specs.Packing.{pack, unpack, Fit, fits}
 use Rattle.fields.specs.Bytes.{number, bytesOf, Bytes}
 use Rattle.fields.proofs.Bools.{and-left, and-right, both, by-test}
@@ -24,11 +23,10 @@ use Rattle.layouts.specs.Bodies.{taken, bodyMe, bodyFits}
 use Rattle.layouts.proofs.BothWays.{written-read, read-good, me-lt}
 use Rattle.layouts.specs.declared.bodies.Taken.{Taken}
 use Rattle.layouts.specs.declared.bodies.Taken.the-variants as read
-use Rattle.messages.specs.Message.{bits, formatTaken, withBody, opened, decoded, headWidths, headFields, messageFits, sealedBy, messageBytes, encoded, encodedBytes}
+use Rattle.messages.specs.Message.{bits, formatTaken, withBody, opened, decoded, headWidths, headFields, messageFits, sealedBy, messageBytes}
 use Rattle.messages.specs.declared.Message.{Message}
 use Rattle.messages.specs.declared.Decoded.{Decoded}
 use Rattle.messages.specs.declared.Decoded.the-variants as decode
-use Rattle.messages.specs.declared.Encoded.the-variants as encode
 use Rattle.messages.proofs.Parts.{four, seven, head-lt, me-is, head-is, opened-is}
 
 -- ---- what is encoded is decoded to the same fields
@@ -123,24 +121,3 @@ decoded-good s m h d =
     (by-test (Good s) (not (eqb (length s) 14)) _ _ (λ e. tt)
     (λ e. by-test (Good s) (not (eqb (remainder s) 0)) _ _ (λ z. tt)
     (λ z. opened-good s (eqb-true (length s) 14 (not-false (eqb (length s) 14) e)) h (eqb-true (remainder s) 0 (not-false (eqb (remainder s) 0) z)))))
-
--- ---- and so of the two public functions, for a buffer of 14 bytes
-
--- an accepted message, decoded and encoded, is the same 14 bytes
-pub decoded-encoded : (s out : List ℕ) (m : Message) → Bytes s → length out ≡ 14 → decoded s ≡ decode.Message m
-    → (encoded m out ≡ encode.Written) × (encodedBytes m out ≡ s)
-decoded-encoded s out m h l d =
-    let g = decoded-good s m h d in
-    let e = eq-eqb (length out) 14 l in
-    (rw (e, g .0), rw (e, g .0) (g .1))
-
-if-written : (a b : Bool) → cond (not a) (encode.Refused Length) (cond (not b) (encode.Refused Field) encode.Written) ≡ encode.Written → (a ≡ true) × (b ≡ true)
-if-written true true e = (refl, refl)
-if-written true false e = let z : _≡_ {A = ℕ} 0 1 = cc in let f : ⊥ = omega arith in absurd f
-if-written false b e = let z : _≡_ {A = ℕ} 0 1 = cc in let f : ⊥ = omega arith in absurd f
-
--- accepted fields, encoded and decoded, come back equal
-pub encoded-back : (m : Message) (out : List ℕ) → encoded m out ≡ encode.Written → decoded (encodedBytes m out) ≡ decode.Message m
-encoded-back m out w =
-    let g = if-written (eqb (length out) 14) (messageFits m) w in
-    rw (g .0, g .1) (encoded-decoded m (g .1))

@@ -4,20 +4,16 @@ use mathlib.Core.List.{List, [], _∷_, _++_}
 use mathlib.Core.Bool.{Bool, cond, not, _&&_, _||_}
 use lib.Dec.{leb, eqb}
 use lib.ListN.{length}
-use Rattle.refusals.specs.declared.Refusal.the-variants.{Length, Parity, Format, Field}
+use Rattle.refusals.specs.declared.Refusal.the-variants.{Length, Parity, Format}
 use Rattle.fields.specs.Packing.{field, pack, fits}
 use Rattle.fields.specs.Bytes.{number, bytesOf}
 use Rattle.parity.specs.Parity.{remainder, seal}
 use Rattle.layouts.specs.Bodies.{taken, bodyMe, bodyFits}
 use Rattle.layouts.specs.declared.bodies.Taken.{Taken}
 use Rattle.layouts.specs.declared.bodies.Taken.the-variants as read
-use Rattle.layouts.specs.declared.bodies.Written.{Written}
-use Rattle.layouts.specs.declared.bodies.Written.the-variants as write
 use Rattle.messages.specs.declared.Message.{Message}
 use Rattle.messages.specs.declared.Decoded.{Decoded}
 use Rattle.messages.specs.declared.Decoded.the-variants as decode
-use Rattle.messages.specs.declared.Encoded.{Encoded}
-use Rattle.messages.specs.declared.Encoded.the-variants as encode
 
 -- bits from .. to of the message
 abbrev pub bits : ℕ → ℕ → List ℕ → ℕ
@@ -57,7 +53,7 @@ kindOf format control = cond (eqb format 18 && eqb control 1) 2 1
 abbrev pub keyOf : Message → ℕ
 keyOf m = kindOf (m .format) (m .control) * 2 ^ 24 + m .address % 2 ^ 24
 
--- ---- encoding
+-- ---- the bytes that say a message
 
 -- what stands before ME: DF, CA or CF, AA
 abbrev pub headWidths : List ℕ
@@ -70,24 +66,9 @@ headFields m = m .format ∷ m .control ∷ m .address ∷ []
 abbrev pub messageFits : Message → Bool
 messageFits m = fits headWidths (headFields m) && formatTaken (m .format) (m .control) && bodyFits (m .body)
 
--- ME of a message that fits
-abbrev pub meOf : Message → Written
-meOf m = cond (messageFits m) (write.Me (bodyMe (m .body))) (write.Refused Field)
-
 -- bytes with the three behind them that make the remainder 0: PI is bits 89-112
 abbrev pub sealedBy : List ℕ → List ℕ
 sealedBy s = s ++ bytesOf 3 (seal s)
 
 abbrev pub messageBytes : Message → List ℕ
 messageBytes m = sealedBy (bytesOf 4 (pack headWidths (headFields m)) ++ bytesOf 7 (bodyMe (m .body)))
-
--- 1, then 8
-abbrev pub encoded : Message → List ℕ → Encoded
-encoded m out =
-    cond (not (eqb (length out) 14)) (encode.Refused Length)
-    (cond (not (messageFits m)) (encode.Refused Field)
-    encode.Written)
-
--- what the buffer holds afterwards: after a refusal what it held
-abbrev pub encodedBytes : Message → List ℕ → List ℕ
-encodedBytes m out = cond (eqb (length out) 14 && messageFits m) (messageBytes m) out

@@ -13,8 +13,6 @@ use Rattle.layouts.specs.Bodies.{bodyFields}
 use Rattle.messages.specs.Message.{bits, formatTaken, headWidths, headFields}
 use Rattle.messages.specs.declared.Decoded.{Decoded}
 use Rattle.messages.specs.declared.Decoded.the-variants as decode
-use Rattle.messages.specs.declared.Encoded.{Encoded}
-use Rattle.messages.specs.declared.Encoded.the-variants as encode
 
 pub data Said : Type 0 where
   number : ℕ → Said
@@ -24,11 +22,6 @@ pub data Said : Type 0 where
 abbrev pub said : Decoded → Said
 said (decode.Message m) = values (headFields m ++ bodyFields (m .body))
 said (decode.Refused r) = number (numberOf r)
-
--- the encoder's answer, with what the buffer holds afterwards
-abbrev pub wrote : Encoded → List ℕ → Said
-wrote encode.Written out = values out
-wrote (encode.Refused r) out = number (numberOf r)
 
 -- ---- the table's "When, exactly", for the bytes of a message
 

@@ -1,9 +1,9 @@
 -- A place of the lent table: a key, which stands in a column of keys, and a body of 75 bytes that is one track.
 use Prim.Native.Nat.{ℕ, suc, _+_, _*_, _-_, _/_, _%_, _^_, _<_, min}
 use mathlib.Core.Path.{_≡_}
-use mathlib.Core.Bool.{Bool, true, false, _&&_}
+use mathlib.Core.Bool.{Bool, true, false}
 use mathlib.Core.List.{List, [], _∷_, _++_}
-use lib.Dec.{eqb, leb, ltb}
+use lib.Dec.{eqb}
 use lib.IntN.{ℤ, pos, negsuc, subℕ}
 use lib.ListN.{length, getD}
 use Rattle.positions.specs.Positions.{poleToPole}

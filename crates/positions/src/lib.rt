@@ -13,7 +13,7 @@ ghost use lib.Dec.{leb};
 ghost use lib.IntN.{subℕ, pos};
 ghost use Rattle.positions.specs.Whole.{modulo};
 ghost use Rattle.positions.specs.Zones.{latitudes, first, zoneCount};
-ghost use Rattle.positions.specs.Positions.{own, latitudeZones, longitudeZones, allRound, whole, countsOf, encoded, rounded, roundedTurn, pairZone, pairLatitude, pairSpot, pairFound, fit, paired, nearZone, nearSpot, nearFound, singly};
+ghost use Rattle.positions.specs.Positions.{own, latitudeZones, longitudeZones, allRound, whole, countsOf, encoded, rounded, roundedTurn, pairZone, pairSpot, pairFound, fit, paired, nearZone, nearSpot, nearFound, singly};
 ghost use Rattle.positions.specs.Code.{nearestℕ, Polar, Within, Paired};
 
 // 58 latitudes in units of 10^-8 degree, at which the number of longitude zones falls: 59 up to the first, 2 up to the last.

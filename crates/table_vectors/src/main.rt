@@ -5,13 +5,13 @@
 //   P offset count bytes: other bytes in the buffer. R time count bytes: receive. K key: look up. N key: the next key.
 //   W: the clock, the site and each key with its track. B: the parity remainder of the whole table.
 // `reference/vectors/bench.py` has what each writes.
+use encoder::Encoded;
 use libc::STDIN_FILENO;
 use libc::STDOUT_FILENO;
 use located::Position;
 use located::Saved;
 use located::Site;
 use messages::Decoded;
-use messages::Encoded;
 use messages::Message;
 use positions::Spot;
 use refusals::Refusal;
@@ -127,7 +127,7 @@ fn say_bytes(s: &[u8]) {
 
 fn say_message(m: Message) {
     let mut out = [0u8; 14];
-    let e = messages::encode(m, &mut out);
+    let e = encoder::encode(m, &mut out);
     match e {
         Encoded::Written => say_bytes(&out),
         Encoded::Refused(r) => say_refused(r),

@@ -1,7 +1,7 @@
 -- The layouts of velocity, TYPE 19, by document 01's bit numbers of ME; bit 1 is the highest of the 56.
 use Prim.Native.Nat.{ℕ}
 use mathlib.Core.List.{List, [], _∷_}
-use mathlib.Core.Bool.{Bool, _&&_, _||_}
+use mathlib.Core.Bool.{Bool, _&&_}
 use lib.Dec.{leb, eqb}
 use Rattle.fields.specs.Packing.{me}
 use Rattle.velocity.specs.declared.Vertical.{Vertical}

@@ -1,8 +1,8 @@
 -- `messages::head_fits` meets its contract: its last test is that of `format_taken`.
 -- Assumes nothing.
 use borrow.Author.Needs.{needs}
-use Rattle.messages.proofs.head_fits.Statement.{statement}
-use Rattle.messages.proofs.head_fits.Tie as tie
+use Rattle.encoder.proofs.head_fits.Statement.{statement}
+use Rattle.encoder.proofs.head_fits.Tie as tie
 
 format-taken-requires : tie.Need-format-taken-requires
 format-taken-requires c κs = search needs

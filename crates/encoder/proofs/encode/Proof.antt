@@ -4,10 +4,10 @@ use mathlib.Core.Path.{sym, _∙_}
 use borrow.Author.Tests.{eq-eqb, ne-eqb}
 use Rattle.layouts.specs.Bodies.{bodyMe}
 use Rattle.layouts.proofs.BothWays.{if-written, if-refused}
 use Rattle.messages.specs.Message.{messageFits}
 use borrow.Author.Needs.{needs}
-use Rattle.messages.proofs.encode.Statement.{statement}
-use Rattle.messages.proofs.encode.Tie as tie
+use Rattle.encoder.proofs.encode.Statement.{statement}
+use Rattle.encoder.proofs.encode.Tie as tie
 
 returns : tie.Need-returns
 returns c = (simp (ne-eqb _ _ (c .if1 .taken)), simp (ne-eqb _ _ (c .if1 .taken)))

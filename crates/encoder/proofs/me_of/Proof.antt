@@ -2,8 +2,8 @@
 -- Assumes nothing.
 use mathlib.Core.Path.{sym, _∙_}
 use borrow.Author.Needs.{needs}
-use Rattle.messages.proofs.me_of.Statement.{statement}
-use Rattle.messages.proofs.me_of.Tie as tie
+use Rattle.encoder.proofs.me_of.Statement.{statement}
+use Rattle.encoder.proofs.me_of.Tie as tie
 
 head-fits-requires : tie.Need-head-fits-requires
 head-fits-requires c κs = search needs

@@ -12,12 +12,13 @@ use lib.ListN.{length}
 use Rattle.refusals.specs.declared.Refusal.{Refusal}
 use Rattle.refusals.specs.declared.Refusal.the-variants.{Length, Field}
 use Rattle.fields.specs.Bytes.{Bytes}
-use Rattle.messages.specs.Message.{decoded, messageFits, messageBytes, encoded, encodedBytes}
-use Rattle.messages.specs.Table.{number, values, wrote}
+use Rattle.messages.specs.Message.{decoded, messageFits, messageBytes}
+use Rattle.messages.specs.Table.{number, values}
 use Rattle.messages.specs.declared.Message.{Message}
 use Rattle.messages.specs.declared.Decoded.the-variants as decode
-use Rattle.messages.specs.declared.Encoded.the-variants as encode
+use Rattle.encoder.specs.declared.Encoded.the-variants as encode
+use Rattle.encoder.specs.Encoded.{encoded, encodedBytes, wrote}
 use Rattle.messages.proofs.BothWays.{encoded-decoded, decoded-good, message-bytes}
 
 unchanged : (a b : Bool) (x y : List ℕ) (r : Refusal)
     → cond (not a) (encode.Refused Length) (cond (not b) (encode.Refused Field) encode.Written) ≡ encode.Refused r → cond (a && b) x y ≡ y

@@ -3,10 +3,10 @@
 use Prim.Native.Nat.{ℕ}
 use mathlib.Core.Path.{refl, ap, _∙_}
 use Rattle.fields.specs.Bytes.{bytesOf}
 use Rattle.messages.proofs.Parts.{filled}
 use borrow.Author.Needs.{needs}
-use Rattle.messages.proofs.fill.Statement.{statement}
-use Rattle.messages.proofs.fill.Tie as tie
+use Rattle.encoder.proofs.fill.Statement.{statement}
+use Rattle.encoder.proofs.fill.Tie as tie
 
 sub-put-number : tie.Need-sub-put-number
 sub-put-number c = search needs

@@ -1,0 +1,4 @@
+pub mod BothWays
+pub mod Exactly
+pub mod Promised
+pub mod Unique

@@ -1,0 +1,36 @@
+-- What the encoder answers, and what the buffer holds afterwards.
+use Prim.Native.Nat.{ℕ}
+use mathlib.Core.List.{List}
+use mathlib.Core.Bool.{cond, not, _&&_}
+use lib.Dec.{eqb}
+use lib.ListN.{length}
+use Rattle.refusals.specs.declared.Refusal.the-variants.{Length, Field}
+use Rattle.refusals.specs.Numbers.{numberOf}
+use Rattle.layouts.specs.Bodies.{bodyMe}
+use Rattle.layouts.specs.declared.bodies.Written.{Written}
+use Rattle.layouts.specs.declared.bodies.Written.the-variants as write
+use Rattle.messages.specs.declared.Message.{Message}
+use Rattle.messages.specs.Message.{messageFits, messageBytes}
+use Rattle.messages.specs.Table.{Said, number, values}
+use Rattle.encoder.specs.declared.Encoded.{Encoded}
+use Rattle.encoder.specs.declared.Encoded.the-variants as encode
+
+-- ME of a message that fits
+abbrev pub meOf : Message → Written
+meOf m = cond (messageFits m) (write.Me (bodyMe (m .body))) (write.Refused Field)
+
+-- 1, then 8
+abbrev pub encoded : Message → List ℕ → Encoded
+encoded m out =
+    cond (not (eqb (length out) 14)) (encode.Refused Length)
+    (cond (not (messageFits m)) (encode.Refused Field)
+    encode.Written)
+
+-- what the buffer holds afterwards: after a refusal what it held
+abbrev pub encodedBytes : Message → List ℕ → List ℕ
+encodedBytes m out = cond (eqb (length out) 14 && messageFits m) (messageBytes m) out
+
+-- what that says in document 01's terms
+abbrev pub wrote : Encoded → List ℕ → Said
+wrote encode.Written out = values out
+wrote (encode.Refused r) out = number (numberOf r)
