@@ -31,11 +31,12 @@ use Rattle.table.specs.Table.{lowest, keyOrEnd}
 use Rattle.table.proofs.Parts.{sized}
 use Rattle.table.proofs.Places as places
 use Rattle.table.proofs.Search.{alike, lowest-passes}
-use Rattle.tracks.specs.declared.Place.{Place}
-use Rattle.tracks.specs.declared.Head.{Head}
-use Rattle.tracks.specs.Ranges.{noPlace, isHeld, holds}
-use Rattle.tracks.specs.Tracks.{After, placesFit, moved, siteOf, placeOf, freePlace, placed, delivered, received, lookedUp, smallest, nextAbove}
-use Rattle.tracks.specs.Parts.{looked}
+use Rattle.slots.specs.declared.Place.{Place}
+use Rattle.slots.specs.declared.Head.{Head}
+use Rattle.slots.specs.Ranges.{noPlace, isHeld, holds}
+use Rattle.slots.specs.Head.{placesFit, moved, siteOf}
+use Rattle.slots.specs.Decided.{looked}
+use Rattle.tracks.specs.Tracks.{After, placeOf, freePlace, placed, delivered, received, lookedUp, smallest, nextAbove}
 use Rattle.tracks.specs.Agreement.{Same, Agree, Alike}
 use Rattle.tracks.proofs.Same.{same-later, same-holds, same-better, same-stored}
 

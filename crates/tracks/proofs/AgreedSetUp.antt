@@ -21,11 +21,12 @@ use Rattle.table.specs.Table.{lowest}
 use Rattle.table.specs.View.{trackIn, viewAt, Fresh}
 use Rattle.table.proofs.Search.{none-passes}
 use Rattle.table.proofs.Laws.{set-up-table, set-up-at-table}
-use Rattle.tracks.specs.declared.Place.{Place}
-use Rattle.tracks.specs.declared.Head.{Head}
-use Rattle.tracks.specs.Ranges.{noPlace, inRange, isHeld}
-use Rattle.tracks.specs.Tracks.{After, after, placesFit, headOf, siteOf, emptied, setUp}
-use Rattle.tracks.specs.Parts.{isDone}
+use Rattle.slots.specs.declared.Place.{Place}
+use Rattle.slots.specs.declared.Head.{Head}
+use Rattle.slots.specs.Ranges.{noPlace, inRange, isHeld}
+use Rattle.slots.specs.Head.{placesFit, headOf, siteOf}
+use Rattle.slots.specs.Decided.{isDone}
+use Rattle.tracks.specs.Tracks.{After, after, emptied, setUp}
 use Rattle.tracks.specs.Agreement.{Same, Agree, AlikeSet}
 
 -- ---- nothing is held

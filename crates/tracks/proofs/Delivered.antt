@@ -18,13 +18,15 @@ use Rattle.track.specs.declared.Track.{Track}
 use Rattle.track.specs.Track.{newTrack, stepped}
 use Rattle.table.proofs.Search.{lowest-passes}
 use Rattle.table.specs.Table.{lowest}
-use Rattle.tracks.specs.declared.Place.{Place}
-use Rattle.tracks.specs.declared.Head.{Head}
-use Rattle.tracks.specs.declared.Received.{Received}
-use Rattle.tracks.specs.declared.Renewal.{Renewal}
-use Rattle.tracks.specs.Ranges.{noPlace, isHeld, holds}
-use Rattle.tracks.specs.Tracks.{After, after, placesFit, moved, siteOf, placeOf, freePlace, placed, delivered, received}
-use Rattle.tracks.specs.Parts.{sought, scanned, chosen, refusedWith, judged, isRefused, keyIn, trackIn, soughtBy, nextOf}
+use Rattle.slots.specs.declared.Place.{Place}
+use Rattle.slots.specs.declared.Head.{Head}
+use Rattle.slots.specs.declared.Received.{Received}
+use Rattle.slots.specs.declared.Renewal.{Renewal}
+use Rattle.slots.specs.Ranges.{noPlace, isHeld, holds}
+use Rattle.slots.specs.Head.{placesFit, moved, siteOf}
+use Rattle.slots.specs.Decided.{sought, refusedWith, judged, isRefused, keyIn, trackIn, soughtBy, nextOf}
+use Rattle.tracks.specs.Tracks.{After, after, placeOf, freePlace, placed, delivered, received}
+use Rattle.tracks.specs.Scan.{scanned, chosen}
 
 chosen-true : {A : Type 0} {b : Bool} (x y : A) → b ≡ true → x ≡ cond b x y
 chosen-true x y e = rw e

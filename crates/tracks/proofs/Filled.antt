@@ -7,8 +7,8 @@ use mathlib.Core.Path.{_≡_, refl, ap, sym, _∙_}
 use mathlib.Core.List.{List, [], _∷_, _++_}
 use lib.ListN.{length, set, take, length-set, replicate, replicate-append-replicate}
 use lib.Seq.{take-suc-set, take-length}
-use Rattle.tracks.specs.declared.Place.{Place}
-use Rattle.tracks.specs.Ranges.{noPlace}
+use Rattle.slots.specs.declared.Place.{Place}
+use Rattle.slots.specs.Ranges.{noPlace}
 use Rattle.tracks.specs.Tracks.{emptied}
 
 -- the first i emptied

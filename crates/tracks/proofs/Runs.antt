@@ -13,9 +13,10 @@ use Rattle.located.specs.declared.Site.{Site}
 use Rattle.table.specs.declared.SetUp.the-variants as setting
 use Rattle.table.specs.Layout as layout
 use Rattle.table.specs.Table as table
-use Rattle.tracks.specs.declared.Place.{Place}
-use Rattle.tracks.specs.declared.Head.{Head}
-use Rattle.tracks.specs.Tracks.{placesFit, received, setUp}
+use Rattle.slots.specs.declared.Place.{Place}
+use Rattle.slots.specs.declared.Head.{Head}
+use Rattle.slots.specs.Head.{placesFit}
+use Rattle.tracks.specs.Tracks.{received, setUp}
 use Rattle.tracks.specs.Agreement.{Agree, Call, AlikeRuns, twinOf}
 use Rattle.tracks.proofs.Agreed.{received-agrees}
 use Rattle.tracks.proofs.AgreedSetUp.{set-up-agrees, set-up-at-agrees}

@@ -18,9 +18,9 @@ use Rattle.held.specs.Ranges.{held}
 use Rattle.place.proofs.BothWays.{read-written, written-in-range, held-later}
 use Rattle.table.specs.Layout as layout
 use Rattle.table.specs.Table as table
-use Rattle.tracks.specs.declared.Place.{Place}
-use Rattle.tracks.specs.Ranges.{groupsFit, countsFit, trackFits, inRange, isHeld, holds}
-use Rattle.tracks.specs.Tracks.{better}
+use Rattle.slots.specs.declared.Place.{Place}
+use Rattle.slots.specs.Ranges.{groupsFit, countsFit, trackFits, inRange, isHeld, holds}
+use Rattle.slots.specs.Decided.{better}
 use Rattle.tracks.specs.Agreement.{Same}
 
 -- ---- at a later clock

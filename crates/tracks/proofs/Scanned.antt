@@ -5,10 +5,10 @@ use native.Mathlib.Numerals.{add-one}
 use mathlib.Core.Path.{_≡_, refl, ap, sym}
 use mathlib.Core.List.{List}
 use lib.ListN.{getD}
-use Rattle.tracks.specs.declared.Place.{Place}
-use Rattle.tracks.specs.declared.Sought.{Sought}
-use Rattle.tracks.specs.Ranges.{noPlace}
-use Rattle.tracks.specs.Parts.{noneFound, visited, scanned}
+use Rattle.slots.specs.declared.Place.{Place}
+use Rattle.slots.specs.declared.Sought.{Sought}
+use Rattle.slots.specs.Ranges.{noPlace}
+use Rattle.tracks.specs.Scan.{noneFound, visited, scanned}
 
 pub scanned-none : (ps : List Place) (s : Sought) → noneFound ≡ scanned ps s 0
 unfolding scanned

@@ -6,11 +6,9 @@ use mathlib.Core.Path.{_≡_, refl, ap, sym, _∙_}
 use mathlib.Core.List.{List}
 use lib.Dec.{T as Holds}
 use lib.ListN.{length, getD}
-use borrow.Author.Tests.{lt-ltb, le-ltb, eq-eqb}
+use borrow.Author.Tests.{lt-ltb, le-ltb}
 use Rattle.refusals.specs.declared.Refusal.the-variants.{Places, Field}
 use Rattle.positions.specs.Positions.{poleToPole}
-use Rattle.messages.specs.declared.Decoded.{Decoded}
-use Rattle.messages.specs.Message.{decoded}
 use Rattle.located.specs.declared.Site.{Site}
 use Rattle.track.specs.Track.{newTrack}
 use Rattle.table.specs.declared.SetUp.{SetUp}
@@ -19,24 +17,14 @@ use Rattle.table.specs.declared.Holding.the-variants as holding
 use Rattle.table.specs.declared.NextKey.the-variants as key-after
 use Rattle.table.specs.Layout.{noSite}
 use Rattle.table.specs.Table.{keyOrEnd}
-use Rattle.tracks.specs.declared.Place.{Place}
-use Rattle.tracks.specs.declared.Head.{Head}
-use Rattle.tracks.specs.declared.Received.{Received}
-use Rattle.tracks.specs.declared.Started.{Started}
-use Rattle.tracks.specs.Ranges.{noPlace}
-use Rattle.tracks.specs.Tracks.{After, after, placesFit, headOf, moved, emptied, setUp, placeOf, lookedUp, smallest, nextAbove}
-use Rattle.tracks.specs.Parts.{judged, notStarted, started, isDone, sought, scanned, looked}
-
--- no test of three passes
-last-of : {A : Type 0} {a b c : Bool} (w x y z : A) → a ≡ false → b ≡ false → c ≡ false → z ≡ cond a w (cond b x (cond c y z))
-last-of w x y z p q r = rw (p, q, r)
-
-pub judged-on : (n : ℕ) (head : Head) (message : List ℕ) (time : ℕ) {r : Decoded} → length message ≡ 14 → placesFit n ≡ true → head .clock ≤ time → r ≡ decoded message
-    → _≡_ {A = Received} (record { answer = r; head = moved head time }) (judged n head message time)
-unfolding judged
-judged-on n head message time l f h e =
-    ap (λ (x : Decoded). record { answer = x; head = moved head time }) e
-    ∙ last-of _ _ _ _ (ap not (eq-eqb (length message) 14 l)) (ap not f) (le-ltb time (head .clock) h)
+use Rattle.slots.specs.declared.Place.{Place}
+use Rattle.slots.specs.declared.Head.{Head}
+use Rattle.slots.specs.declared.Started.{Started}
+use Rattle.slots.specs.Ranges.{noPlace}
+use Rattle.slots.specs.Head.{placesFit, headOf}
+use Rattle.slots.specs.Decided.{notStarted, started, isDone, sought, looked}
+use Rattle.tracks.specs.Tracks.{After, after, emptied, setUp, placeOf, lookedUp, smallest, nextAbove}
+use Rattle.tracks.specs.Scan.{scanned}
 
 -- ---- how a test of the machine came out
 

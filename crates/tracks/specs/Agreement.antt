@@ -10,10 +10,11 @@ use Rattle.table.specs.declared.SetUp.{SetUp}
 use Rattle.table.specs.declared.SetUp.the-variants.{Done}
 use Rattle.table.specs.Layout as layout
 use Rattle.table.specs.Table as table
-use Rattle.tracks.specs.declared.Place.{Place}
-use Rattle.tracks.specs.declared.Head.{Head}
-use Rattle.tracks.specs.Ranges.{noPlace, isHeld}
-use Rattle.tracks.specs.Tracks.{After, placesFit, siteOf, received}
+use Rattle.slots.specs.declared.Place.{Place}
+use Rattle.slots.specs.declared.Head.{Head}
+use Rattle.slots.specs.Ranges.{noPlace, isHeld}
+use Rattle.slots.specs.Head.{placesFit, siteOf}
+use Rattle.tracks.specs.Tracks.{After, received}
 
 -- at a clock both places are held or neither is, and if they are, with the same key and the same track
 pub record Same (clock : ℕ) (b : layout.Place) (p : Place) : Type 0 where

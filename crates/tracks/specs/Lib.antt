@@ -1,4 +1,3 @@
-pub mod Ranges
 pub mod Tracks
-pub mod Parts
+pub mod Scan
 pub mod Agreement

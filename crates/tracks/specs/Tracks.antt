@@ -1,8 +1,8 @@
 -- The lent table as a slice of places, with its head by value: set-up, what a received message does, and what can be read. The words are those of the bytes form.
 use Prim.Native.Nat.{ℕ, zero, suc}
-use mathlib.Core.Bool.{Bool, cond, not, _&&_, _||_}
+use mathlib.Core.Bool.{cond, not, _&&_}
 use mathlib.Core.List.{List}
-use lib.Dec.{eqb, leb, ltb}
+use lib.Dec.{eqb, ltb}
 use lib.ListN.{length, getD, set, replicate}
 use Rattle.refusals.specs.declared.Refusal.the-variants.{Length, Late, Full, Places, Field}
 use Rattle.positions.specs.Positions.{poleToPole}
@@ -20,9 +20,11 @@ use Rattle.table.specs.declared.NextKey.{NextKey}
 use Rattle.table.specs.declared.NextKey.the-variants as next
 use Rattle.table.specs.Layout.{noSite}
 use Rattle.table.specs.Table.{lowest, keyOrEnd}
-use Rattle.tracks.specs.declared.Place.{Place}
-use Rattle.tracks.specs.declared.Head.{Head}
-use Rattle.tracks.specs.Ranges.{noPlace, isHeld, holds}
+use Rattle.slots.specs.declared.Place.{Place}
+use Rattle.slots.specs.declared.Head.{Head}
+use Rattle.slots.specs.Ranges.{noPlace, isHeld, holds}
+use Rattle.slots.specs.Head.{placesFit, headOf, moved, siteOf}
+use Rattle.slots.specs.Decided.{better}
 
 -- what a call answers, and the head and the places that it leaves
 pub record After (A : Type 0) : Type 0 where
@@ -32,23 +34,6 @@ pub record After (A : Type 0) : Type 0 where
 
 abbrev pub after : {A : Type 0} → A → Head → List Place → After A
 after a head ps = record { answer = a; head = head; places = ps }
-
--- 1 to 1,024 places
-unfoldable pub placesFit : ℕ → Bool
-placesFit n = leb 1 n && leb n 1024
-
--- ---- the head
-
-abbrev pub headOf : ℕ → Site → Head
-headOf clock site = record { clock = clock; site = site }
-
--- the clock moved, and nothing else
-abbrev pub moved : Head → ℕ → Head
-moved head time = headOf time (head .site)
-
--- a site that is out of its range counts as none
-unfoldable pub siteOf : Head → Site
-siteOf head = cond (head .site .known && poleToPole (head .site .spot .latitude)) (head .site) noSite
 
 -- ---- set-up: 7, then 8, each leaving the places as they were; else every place is nobody's, and the clock is 0
 
@@ -106,10 +91,6 @@ lookedUp ps head key =
     (cond (ltb (placeOf ps (head .clock) key) (length ps))
     (record { answer = holding.Held; track = getD ps (placeOf ps (head .clock) key) noPlace .track })
     (record { answer = holding.Unheld; track = newTrack }))
-
--- the lesser of the best key so far, 0 for none, and the place's, if that is held and above
-unfoldable pub better : ℕ → ℕ → ℕ → Place → ℕ
-better clock above best p = cond (ltb above (p .key) && (eqb best 0 || ltb (p .key) best) && isHeld clock p) (p .key) best
 
 -- the smallest key above that the first n places hold; 0 if there is none
 abbrev pub smallest : List Place → ℕ → ℕ → ℕ → ℕ

@@ -1,58 +1,20 @@
 // The lent table as a slice of places, 1 to 1,024 of them, with its head by value. The calls are those of the bytes form, and both answer the same.
-//
-// value of a place                       range
-// key                                    its kind, 1 or 2, above 24 bits
-// the three ME of the groups             below 2^56
-// the two altitude codes                 below 2^12
-// latitude of the position               from -2^30 to 2^30
-// counts of the two saved positions      below 2^17
-// all else                               any
-//
-// A place with any value out of its range is free. A site whose latitude is out of its range counts as none.
+// A place is a struct of `slots`, where the range of each of its values stands, and all that is decided of one.
 // The functions below are thin, since their proofs follow each step by hand: they read, call by value and store.
-mod parts;
-mod ranges;
+mod search;
 
 use located::Site;
-use messages::Decoded;
+pub use slots::Head;
+pub use slots::Place;
+pub use slots::Received;
+use slots::Sought;
+pub use slots::Started;
 use table::Looked;
 use table::NextKey;
-use table::SetUp;
-use track::Track;
 ghost use mathlib.Core.Path.{_≡_};
 ghost use lib.ListN.{length};
 ghost use Rattle.tracks.specs.Tracks.{after, emptied, setUp, delivered, received, lookedUp, smallest, nextAbove};
-ghost use Rattle.tracks.specs.Parts.{scanned};
-
-// A track and its key; the key 0 is nobody's.
-pub struct Place {
-    pub key: u32,
-    pub track: Track,
-}
-
-// What a table has beside its places.
-pub struct Head {
-    pub clock: u64,
-    pub site: Site,
-}
-
-// What set-up answers, and the head to go on with.
-pub struct Started {
-    pub answer: SetUp,
-    pub head: Head,
-}
-
-// What a message earned, and the head to go on with.
-pub struct Received {
-    pub answer: Decoded,
-    pub head: Head,
-}
-
-// A key, sought at a clock.
-pub(crate) struct Sought {
-    pub clock: u64,
-    pub key: u32,
-}
+ghost use Rattle.tracks.specs.Scan.{scanned};
 
 // The lowest place held with the key and the lowest free one, each the number of places if there is none.
 pub(crate) struct Found {
@@ -60,21 +22,15 @@ pub(crate) struct Found {
     pub free: usize,
 }
 
-// What a step answers, and what it puts at its place.
-pub(crate) struct Renewal {
-    pub received: Received,
-    pub place: Place,
-}
-
 // The place of a key, and the lowest free one.
 fn scan(places: &[Place], s: Sought) -> Found
     ensures { λ r. ⌜ r ≡ scanned (now (places .entry)) s (length (now (places .entry))) ⌝ }
 {
-    let mut found = parts::none_found();
+    let mut found = search::none_found();
     let mut i = 0;
     while i < places.len() {
         let p = places[i];
-        found = parts::visit(found, p, i, s);
+        found = search::visit(found, p, i, s);
         i += 1;
     }
     found
@@ -83,7 +39,7 @@ fn scan(places: &[Place], s: Sought) -> Found
 fn clear(places: &mut [Place])
     ensures { λ _. ⌜ now (places .exit) ≡ emptied (now (places .entry)) ⌝ }
 {
-    let p = parts::no_place();
+    let p = slots::no_place();
     let mut i = 0;
     while i < places.len() {
         places[i] = p;
@@ -95,8 +51,8 @@ fn clear(places: &mut [Place])
 pub fn set_up(places: &mut [Place], site: Site) -> Started
     ensures { λ r. ⌜ after (r .answer) (r .head) (now (places .exit)) ≡ setUp (now (places .entry)) site ⌝ }
 {
-    let s = parts::start(places.len(), site);
-    if parts::is_done(s) {
+    let s = slots::start(places.len(), site);
+    if slots::is_done(s) {
         clear(places);
         return s;
     }
@@ -107,23 +63,23 @@ pub fn set_up(places: &mut [Place], site: Site) -> Started
 fn deliver(places: &mut [Place], due: Received) -> Received
     ensures { λ r. ⌜ after (r .answer) (r .head) (now (places .exit)) ≡ delivered (now (places .entry)) (due .head) (due .answer) ⌝ }
 {
-    if parts::is_refused(due) {
+    if slots::is_refused(due) {
         return due;
     }
-    let i = parts::choose(scan(places, parts::sought_by(due)), places.len());
+    let i = search::choose(scan(places, slots::sought_by(due)), places.len());
     if i < places.len() {
-        let next = parts::next_of(due, places[i]);
-        places[i] = parts::place_in(next);
-        return parts::received_in(next);
+        let next = slots::next_of(due, places[i]);
+        places[i] = slots::place_in(next);
+        return slots::received_in(next);
     }
-    parts::full(due)
+    slots::full(due)
 }
 
 // What a message received at a time does to the table: the decoded message, or the number that it earns.
 pub fn receive(places: &mut [Place], head: Head, message: &[u8], time: u64) -> Received
     ensures { λ r. ⌜ after (r .answer) (r .head) (now (places .exit)) ≡ received (now (places .entry)) head (now (message .entry)) time ⌝ }
 {
-    let due = parts::judge(places.len(), head, message, time);
+    let due = slots::judge(places.len(), head, message, time);
     deliver(places, due)
 }
 
@@ -131,14 +87,14 @@ pub fn receive(places: &mut [Place], head: Head, message: &[u8], time: u64) -> R
 pub fn look_up(places: &[Place], head: Head, key: u32) -> Looked
     ensures { λ r. ⌜ r ≡ lookedUp (now (places .entry)) head key ⌝ }
 {
-    if parts::misfits(places.len()) {
-        return parts::not_looked();
+    if slots::misfits(places.len()) {
+        return slots::not_looked();
     }
-    let i = parts::own(scan(places, parts::seek(head, key)));
+    let i = search::own(scan(places, slots::seek(head, key)));
     if i < places.len() {
-        return parts::look_at(places[i]);
+        return slots::look_at(places[i]);
     }
-    parts::unheld()
+    slots::unheld()
 }
 
 fn smallest_above(places: &[Place], s: Sought) -> u32
@@ -148,7 +104,7 @@ fn smallest_above(places: &[Place], s: Sought) -> u32
     let mut i = 0;
     while i < places.len() {
         let p = places[i];
-        best = parts::better_of(best, p, s);
+        best = slots::better_of(best, p, s);
         i += 1;
     }
     best
@@ -158,8 +114,8 @@ fn smallest_above(places: &[Place], s: Sought) -> u32
 pub fn next(places: &[Place], head: Head, above: u32) -> NextKey
     ensures { λ r. ⌜ r ≡ nextAbove (now (places .entry)) head above ⌝ }
 {
-    if parts::misfits(places.len()) {
-        return parts::no_next();
+    if slots::misfits(places.len()) {
+        return slots::no_next();
     }
-    parts::key_or_end(smallest_above(places, parts::seek(head, above)))
+    slots::key_or_end(smallest_above(places, slots::seek(head, above)))
 }

@@ -44,15 +44,15 @@ use denote.Triple.Entry.{Vals, onEntry}
 use denote.Triple.Spec.{Meets, tripleOf}
 use denote.Triple.Table.{entered, cited}
 use denote.Triple.Walked.{says, Stays, stay-slice, walkOf, goes-slice, Walks, ends-at, walked, walk-meets}
-use Rattle.tracks.specs.declared.Place.{Place}
-use Rattle.tracks.specs.Ranges.{noPlace}
+use Rattle.slots.specs.declared.Place.{Place}
+use Rattle.slots.specs.Ranges.{noPlace}
+use Rattle.slots.proofs.Place as T
+use Rattle.slots.proofs.Place.Laws as T′
+use Rattle.slots.proofs.no_place as none
+use Rattle.slots.proofs.no_place.Symbol as none-def
+use Rattle.slots.proofs.no_place.Symbol.{name as #none}
+use Rattle.slots.proofs.no_place.Met as none-thm
 use Rattle.tracks.proofs.Filled.{filled, filled-length, filled-all}
-use Rattle.tracks.proofs.Place as T
-use Rattle.tracks.proofs.Place.Laws as T′
-use Rattle.tracks.proofs.parts.no_place as none
-use Rattle.tracks.proofs.parts.no_place.Symbol as none-def
-use Rattle.tracks.proofs.parts.no_place.Symbol.{name as #none}
-use Rattle.tracks.proofs.parts.no_place.Met as none-thm
 use Rattle.tracks.proofs.clear.Key.{name as #clear}
 use Rattle.tracks.proofs.clear as clear
 use Rattle.tracks.proofs.clear.Statement as stated
@@ -238,4 +238,4 @@ clear-spec 𝓤 H 𝓜 𝓖 𝓡 =
     entered 𝓤 H (tripleOf 𝓤 H (𝓖 .A) clear.signature (clear.spec 𝓤 H (𝓖 .A) (𝓜 .mem) (𝓡 .run)))
     (tables 𝓤 H 𝓜 𝓡 code.env .C) (tables 𝓤 H 𝓜 𝓡 code.env .Λ) #clear code.function (code.unfolded 𝓤 H 𝓜 𝓡)
     (clear-meets 𝓤 H (𝓖 .A) (givenOf 𝓤 H 𝓜 𝓖) (𝓜 .mem) (𝓡 .run) (tablesOf 𝓤 H 𝓜 (tables 𝓤 H 𝓜 𝓡 code.env))
-    (cited 𝓤 H (None 𝓤 H (𝓖 .A) (𝓜 .mem) (𝓡 .run)) 𝓜 𝓡 code.env #none none-def.routine code.calls-tracks·parts·no-place (none-thm.met 𝓤 H 𝓜 𝓖 𝓡)))
+    (cited 𝓤 H (None 𝓤 H (𝓖 .A) (𝓜 .mem) (𝓡 .run)) 𝓜 𝓡 code.env #none none-def.routine code.calls-slots·no-place (none-thm.met 𝓤 H 𝓜 𝓖 𝓡)))

@@ -47,54 +47,55 @@ use denote.Triple.Table.{entered, cited}
 use denote.Triple.Walked.{says, Stays, stay-slice, stay-none, walkOf, goes-slice, goes-none, Walks, ends-at, walked, walk-meets}
 use denote.Exit.{yes}
 use Rattle.refusals.specs.declared.Refusal.the-variants.{Full}
-use Rattle.tracks.specs.declared.Place.{Place}
-use Rattle.tracks.specs.declared.Received.{Received}
-use Rattle.tracks.specs.declared.Sought.{Sought}
+use Rattle.slots.specs.declared.Place.{Place}
+use Rattle.slots.specs.declared.Received.{Received}
+use Rattle.slots.specs.declared.Sought.{Sought}
+use Rattle.slots.specs.declared.Renewal.{Renewal}
+use Rattle.slots.specs.Ranges.{noPlace}
+use Rattle.slots.specs.Decided.{isRefused, soughtBy, nextOf, refusedWith}
+use Rattle.slots.proofs.Place as T
+use Rattle.slots.proofs.Place.Laws as T′
+use Rattle.slots.proofs.Received as Y
+use Rattle.slots.proofs.Received.Laws as Y′
+use Rattle.slots.proofs.Sought as S
+use Rattle.slots.proofs.Sought.Laws as S′
+use Rattle.slots.proofs.Renewal as X
+use Rattle.slots.proofs.Renewal.Laws as X′
+use Rattle.slots.proofs.is_refused as refused
+use Rattle.slots.proofs.is_refused.Symbol as refused-def
+use Rattle.slots.proofs.is_refused.Symbol.{name as #refused}
+use Rattle.slots.proofs.is_refused.Met as refused-thm
+use Rattle.slots.proofs.sought_by as sought-by
+use Rattle.slots.proofs.sought_by.Symbol as sought-by-def
+use Rattle.slots.proofs.sought_by.Symbol.{name as #sought-by}
+use Rattle.slots.proofs.sought_by.Met as sought-by-thm
+use Rattle.slots.proofs.next_of as next-of
+use Rattle.slots.proofs.next_of.Symbol as next-of-def
+use Rattle.slots.proofs.next_of.Symbol.{name as #next-of}
+use Rattle.slots.proofs.next_of.Met as next-of-thm
+use Rattle.slots.proofs.place_in as place-in
+use Rattle.slots.proofs.place_in.Symbol as place-in-def
+use Rattle.slots.proofs.place_in.Symbol.{name as #place-in}
+use Rattle.slots.proofs.place_in.Met as place-in-thm
+use Rattle.slots.proofs.received_in as received-in
+use Rattle.slots.proofs.received_in.Symbol as received-in-def
+use Rattle.slots.proofs.received_in.Symbol.{name as #received-in}
+use Rattle.slots.proofs.received_in.Met as received-in-thm
+use Rattle.slots.proofs.full as full
+use Rattle.slots.proofs.full.Symbol as full-def
+use Rattle.slots.proofs.full.Symbol.{name as #full}
+use Rattle.slots.proofs.full.Met as full-thm
 use Rattle.tracks.specs.declared.Found.{Found}
-use Rattle.tracks.specs.declared.Renewal.{Renewal}
-use Rattle.tracks.specs.Ranges.{noPlace}
 use Rattle.tracks.specs.Tracks.{after, delivered}
-use Rattle.tracks.specs.Parts.{isRefused, soughtBy, scanned, chosen, nextOf, refusedWith}
+use Rattle.tracks.specs.Scan.{scanned, chosen}
 use Rattle.tracks.proofs.Ways.{passed, failed}
 use Rattle.tracks.proofs.Delivered.{delivered-refused, delivered-at, delivered-full}
-use Rattle.tracks.proofs.Place as T
-use Rattle.tracks.proofs.Place.Laws as T′
-use Rattle.tracks.proofs.Received as Y
-use Rattle.tracks.proofs.Received.Laws as Y′
-use Rattle.tracks.proofs.Sought as S
-use Rattle.tracks.proofs.Sought.Laws as S′
 use Rattle.tracks.proofs.Found as F
 use Rattle.tracks.proofs.Found.Laws as F′
-use Rattle.tracks.proofs.Renewal as X
-use Rattle.tracks.proofs.Renewal.Laws as X′
-use Rattle.tracks.proofs.parts.is_refused as refused
-use Rattle.tracks.proofs.parts.is_refused.Symbol as refused-def
-use Rattle.tracks.proofs.parts.is_refused.Symbol.{name as #refused}
-use Rattle.tracks.proofs.parts.is_refused.Met as refused-thm
-use Rattle.tracks.proofs.parts.sought_by as sought-by
-use Rattle.tracks.proofs.parts.sought_by.Symbol as sought-by-def
-use Rattle.tracks.proofs.parts.sought_by.Symbol.{name as #sought-by}
-use Rattle.tracks.proofs.parts.sought_by.Met as sought-by-thm
-use Rattle.tracks.proofs.parts.choose as choose
-use Rattle.tracks.proofs.parts.choose.Symbol as choose-def
-use Rattle.tracks.proofs.parts.choose.Symbol.{name as #choose}
-use Rattle.tracks.proofs.parts.choose.Met as choose-thm
-use Rattle.tracks.proofs.parts.next_of as next-of
-use Rattle.tracks.proofs.parts.next_of.Symbol as next-of-def
-use Rattle.tracks.proofs.parts.next_of.Symbol.{name as #next-of}
-use Rattle.tracks.proofs.parts.next_of.Met as next-of-thm
-use Rattle.tracks.proofs.parts.place_in as place-in
-use Rattle.tracks.proofs.parts.place_in.Symbol as place-in-def
-use Rattle.tracks.proofs.parts.place_in.Symbol.{name as #place-in}
-use Rattle.tracks.proofs.parts.place_in.Met as place-in-thm
-use Rattle.tracks.proofs.parts.received_in as received-in
-use Rattle.tracks.proofs.parts.received_in.Symbol as received-in-def
-use Rattle.tracks.proofs.parts.received_in.Symbol.{name as #received-in}
-use Rattle.tracks.proofs.parts.received_in.Met as received-in-thm
-use Rattle.tracks.proofs.parts.full as full
-use Rattle.tracks.proofs.parts.full.Symbol as full-def
-use Rattle.tracks.proofs.parts.full.Symbol.{name as #full}
-use Rattle.tracks.proofs.parts.full.Met as full-thm
+use Rattle.tracks.proofs.search.choose as choose
+use Rattle.tracks.proofs.search.choose.Symbol as choose-def
+use Rattle.tracks.proofs.search.choose.Symbol.{name as #choose}
+use Rattle.tracks.proofs.search.choose.Met as choose-thm
 use Rattle.tracks.proofs.scan as scan
 use Rattle.tracks.proofs.scan.Symbol as scan-def
 use Rattle.tracks.proofs.scan.Symbol.{name as #scan}
@@ -521,11 +522,11 @@ deliver-spec 𝓤 H 𝓜 𝓖 𝓡 =
     entered 𝓤 H (tripleOf 𝓤 H (𝓖 .A) deliver.signature (deliver.spec 𝓤 H (𝓖 .A) (𝓜 .mem) (𝓡 .run)))
     (tables 𝓤 H 𝓜 𝓡 code.env .C) (tables 𝓤 H 𝓜 𝓡 code.env .Λ) #deliver code.function (code.unfolded 𝓤 H 𝓜 𝓡)
     (deliver-meets 𝓤 H (𝓖 .A) (givenOf 𝓤 H 𝓜 𝓖) (𝓜 .mem) (𝓡 .run) (tablesOf 𝓤 H 𝓜 (tables 𝓤 H 𝓜 𝓡 code.env))
-    (cited 𝓤 H (IsRefused 𝓤 H (𝓖 .A) (𝓜 .mem) (𝓡 .run)) 𝓜 𝓡 code.env #refused refused-def.routine code.calls-tracks·parts·is-refused (refused-thm.met 𝓤 H 𝓜 𝓖 𝓡))
-    (cited 𝓤 H (SoughtBy 𝓤 H (𝓖 .A) (𝓜 .mem) (𝓡 .run)) 𝓜 𝓡 code.env #sought-by sought-by-def.routine code.calls-tracks·parts·sought-by (sought-by-thm.met 𝓤 H 𝓜 𝓖 𝓡))
+    (cited 𝓤 H (IsRefused 𝓤 H (𝓖 .A) (𝓜 .mem) (𝓡 .run)) 𝓜 𝓡 code.env #refused refused-def.routine code.calls-slots·is-refused (refused-thm.met 𝓤 H 𝓜 𝓖 𝓡))
+    (cited 𝓤 H (SoughtBy 𝓤 H (𝓖 .A) (𝓜 .mem) (𝓡 .run)) 𝓜 𝓡 code.env #sought-by sought-by-def.routine code.calls-slots·sought-by (sought-by-thm.met 𝓤 H 𝓜 𝓖 𝓡))
     (cited 𝓤 H (Scan 𝓤 H (𝓖 .A) (𝓜 .mem) (𝓡 .run)) 𝓜 𝓡 code.env #scan scan-def.routine code.calls-tracks·scan (scan-thm.met 𝓤 H 𝓜 𝓖 𝓡))
-    (cited 𝓤 H (Choose 𝓤 H (𝓖 .A) (𝓜 .mem) (𝓡 .run)) 𝓜 𝓡 code.env #choose choose-def.routine code.calls-tracks·parts·choose (choose-thm.met 𝓤 H 𝓜 𝓖 𝓡))
-    (cited 𝓤 H (NextOf 𝓤 H (𝓖 .A) (𝓜 .mem) (𝓡 .run)) 𝓜 𝓡 code.env #next-of next-of-def.routine code.calls-tracks·parts·next-of (next-of-thm.met 𝓤 H 𝓜 𝓖 𝓡))
-    (cited 𝓤 H (PlaceIn 𝓤 H (𝓖 .A) (𝓜 .mem) (𝓡 .run)) 𝓜 𝓡 code.env #place-in place-in-def.routine code.calls-tracks·parts·place-in (place-in-thm.met 𝓤 H 𝓜 𝓖 𝓡))
-    (cited 𝓤 H (ReceivedIn 𝓤 H (𝓖 .A) (𝓜 .mem) (𝓡 .run)) 𝓜 𝓡 code.env #received-in received-in-def.routine code.calls-tracks·parts·received-in (received-in-thm.met 𝓤 H 𝓜 𝓖 𝓡))
-    (cited 𝓤 H (IsFull 𝓤 H (𝓖 .A) (𝓜 .mem) (𝓡 .run)) 𝓜 𝓡 code.env #full full-def.routine code.calls-tracks·parts·full (full-thm.met 𝓤 H 𝓜 𝓖 𝓡)))
+    (cited 𝓤 H (Choose 𝓤 H (𝓖 .A) (𝓜 .mem) (𝓡 .run)) 𝓜 𝓡 code.env #choose choose-def.routine code.calls-tracks·search·choose (choose-thm.met 𝓤 H 𝓜 𝓖 𝓡))
+    (cited 𝓤 H (NextOf 𝓤 H (𝓖 .A) (𝓜 .mem) (𝓡 .run)) 𝓜 𝓡 code.env #next-of next-of-def.routine code.calls-slots·next-of (next-of-thm.met 𝓤 H 𝓜 𝓖 𝓡))
+    (cited 𝓤 H (PlaceIn 𝓤 H (𝓖 .A) (𝓜 .mem) (𝓡 .run)) 𝓜 𝓡 code.env #place-in place-in-def.routine code.calls-slots·place-in (place-in-thm.met 𝓤 H 𝓜 𝓖 𝓡))
+    (cited 𝓤 H (ReceivedIn 𝓤 H (𝓖 .A) (𝓜 .mem) (𝓡 .run)) 𝓜 𝓡 code.env #received-in received-in-def.routine code.calls-slots·received-in (received-in-thm.met 𝓤 H 𝓜 𝓖 𝓡))
+    (cited 𝓤 H (IsFull 𝓤 H (𝓖 .A) (𝓜 .mem) (𝓡 .run)) 𝓜 𝓡 code.env #full full-def.routine code.calls-slots·full (full-thm.met 𝓤 H 𝓜 𝓖 𝓡)))

@@ -49,46 +49,48 @@ use Rattle.refusals.specs.declared.Refusal.the-variants.{Places}
 use Rattle.table.proofs.Looked as K
 use Rattle.table.proofs.Looked.Laws as K′
 use Rattle.track.specs.Track.{newTrack}
-use Rattle.tracks.specs.declared.Place.{Place}
-use Rattle.tracks.specs.declared.Head.{Head}
-use Rattle.tracks.specs.declared.Sought.{Sought}
+use Rattle.slots.specs.declared.Place.{Place}
+use Rattle.slots.specs.declared.Head.{Head}
+use Rattle.slots.specs.declared.Sought.{Sought}
+use Rattle.slots.specs.Ranges.{noPlace}
+use Rattle.slots.specs.Head.{placesFit}
+use Rattle.slots.specs.Decided.{sought, looked}
+use Rattle.slots.proofs.Place as T
+use Rattle.slots.proofs.Place.Laws as T′
+use Rattle.slots.proofs.Head as E
+use Rattle.slots.proofs.Head.Laws as E′
+use Rattle.slots.proofs.Sought as S
+use Rattle.slots.proofs.Sought.Laws as S′
+use Rattle.slots.proofs.misfits as misfits
+use Rattle.slots.proofs.misfits.Symbol as misfits-def
+use Rattle.slots.proofs.misfits.Symbol.{name as #misfits}
+use Rattle.slots.proofs.misfits.Met as misfits-thm
+use Rattle.slots.proofs.not_looked as not-looked
+use Rattle.slots.proofs.not_looked.Symbol as not-looked-def
+use Rattle.slots.proofs.not_looked.Symbol.{name as #not-looked}
+use Rattle.slots.proofs.not_looked.Met as not-looked-thm
+use Rattle.slots.proofs.seek as seek
+use Rattle.slots.proofs.seek.Symbol as seek-def
+use Rattle.slots.proofs.seek.Symbol.{name as #seek}
+use Rattle.slots.proofs.seek.Met as seek-thm
+use Rattle.slots.proofs.look_at as look-at
+use Rattle.slots.proofs.look_at.Symbol as look-at-def
+use Rattle.slots.proofs.look_at.Symbol.{name as #look-at}
+use Rattle.slots.proofs.look_at.Met as look-at-thm
+use Rattle.slots.proofs.unheld as unheld
+use Rattle.slots.proofs.unheld.Symbol as unheld-def
+use Rattle.slots.proofs.unheld.Symbol.{name as #unheld}
+use Rattle.slots.proofs.unheld.Met as unheld-thm
 use Rattle.tracks.specs.declared.Found.{Found}
-use Rattle.tracks.specs.Ranges.{noPlace}
-use Rattle.tracks.specs.Tracks.{placesFit, lookedUp}
-use Rattle.tracks.specs.Parts.{sought, scanned, looked}
+use Rattle.tracks.specs.Tracks.{lookedUp}
+use Rattle.tracks.specs.Scan.{scanned}
 use Rattle.tracks.proofs.Ways.{passed, failed, looked-not, looked-held, looked-none}
-use Rattle.tracks.proofs.Place as T
-use Rattle.tracks.proofs.Place.Laws as T′
-use Rattle.tracks.proofs.Head as E
-use Rattle.tracks.proofs.Head.Laws as E′
-use Rattle.tracks.proofs.Sought as S
-use Rattle.tracks.proofs.Sought.Laws as S′
 use Rattle.tracks.proofs.Found as F
 use Rattle.tracks.proofs.Found.Laws as F′
-use Rattle.tracks.proofs.parts.misfits as misfits
-use Rattle.tracks.proofs.parts.misfits.Symbol as misfits-def
-use Rattle.tracks.proofs.parts.misfits.Symbol.{name as #misfits}
-use Rattle.tracks.proofs.parts.misfits.Met as misfits-thm
-use Rattle.tracks.proofs.parts.not_looked as not-looked
-use Rattle.tracks.proofs.parts.not_looked.Symbol as not-looked-def
-use Rattle.tracks.proofs.parts.not_looked.Symbol.{name as #not-looked}
-use Rattle.tracks.proofs.parts.not_looked.Met as not-looked-thm
-use Rattle.tracks.proofs.parts.seek as seek
-use Rattle.tracks.proofs.parts.seek.Symbol as seek-def
-use Rattle.tracks.proofs.parts.seek.Symbol.{name as #seek}
-use Rattle.tracks.proofs.parts.seek.Met as seek-thm
-use Rattle.tracks.proofs.parts.own as own
-use Rattle.tracks.proofs.parts.own.Symbol as own-def
-use Rattle.tracks.proofs.parts.own.Symbol.{name as #own}
-use Rattle.tracks.proofs.parts.own.Met as own-thm
-use Rattle.tracks.proofs.parts.look_at as look-at
-use Rattle.tracks.proofs.parts.look_at.Symbol as look-at-def
-use Rattle.tracks.proofs.parts.look_at.Symbol.{name as #look-at}
-use Rattle.tracks.proofs.parts.look_at.Met as look-at-thm
-use Rattle.tracks.proofs.parts.unheld as unheld
-use Rattle.tracks.proofs.parts.unheld.Symbol as unheld-def
-use Rattle.tracks.proofs.parts.unheld.Symbol.{name as #unheld}
-use Rattle.tracks.proofs.parts.unheld.Met as unheld-thm
+use Rattle.tracks.proofs.search.own as own
+use Rattle.tracks.proofs.search.own.Symbol as own-def
+use Rattle.tracks.proofs.search.own.Symbol.{name as #own}
+use Rattle.tracks.proofs.search.own.Met as own-thm
 use Rattle.tracks.proofs.scan as scan
 use Rattle.tracks.proofs.scan.Symbol as scan-def
 use Rattle.tracks.proofs.scan.Symbol.{name as #scan}
@@ -414,10 +416,10 @@ look-up-spec 𝓤 H 𝓜 𝓖 𝓡 =
     entered 𝓤 H (tripleOf 𝓤 H (𝓖 .A) look-up.signature (look-up.spec 𝓤 H (𝓖 .A) (𝓜 .mem) (𝓡 .run)))
     (tables 𝓤 H 𝓜 𝓡 code.env .C) (tables 𝓤 H 𝓜 𝓡 code.env .Λ) #look-up code.function (code.unfolded 𝓤 H 𝓜 𝓡)
     (look-up-meets 𝓤 H (𝓖 .A) (givenOf 𝓤 H 𝓜 𝓖) (𝓜 .mem) (𝓡 .run) (tablesOf 𝓤 H 𝓜 (tables 𝓤 H 𝓜 𝓡 code.env))
-    (cited 𝓤 H (Misfits 𝓤 H (𝓖 .A) (𝓜 .mem) (𝓡 .run)) 𝓜 𝓡 code.env #misfits misfits-def.routine code.calls-tracks·parts·misfits (misfits-thm.met 𝓤 H 𝓜 𝓖 𝓡))
-    (cited 𝓤 H (NotLooked 𝓤 H (𝓖 .A) (𝓜 .mem) (𝓡 .run)) 𝓜 𝓡 code.env #not-looked not-looked-def.routine code.calls-tracks·parts·not-looked (not-looked-thm.met 𝓤 H 𝓜 𝓖 𝓡))
-    (cited 𝓤 H (Seek 𝓤 H (𝓖 .A) (𝓜 .mem) (𝓡 .run)) 𝓜 𝓡 code.env #seek seek-def.routine code.calls-tracks·parts·seek (seek-thm.met 𝓤 H 𝓜 𝓖 𝓡))
+    (cited 𝓤 H (Misfits 𝓤 H (𝓖 .A) (𝓜 .mem) (𝓡 .run)) 𝓜 𝓡 code.env #misfits misfits-def.routine code.calls-slots·misfits (misfits-thm.met 𝓤 H 𝓜 𝓖 𝓡))
+    (cited 𝓤 H (NotLooked 𝓤 H (𝓖 .A) (𝓜 .mem) (𝓡 .run)) 𝓜 𝓡 code.env #not-looked not-looked-def.routine code.calls-slots·not-looked (not-looked-thm.met 𝓤 H 𝓜 𝓖 𝓡))
+    (cited 𝓤 H (Seek 𝓤 H (𝓖 .A) (𝓜 .mem) (𝓡 .run)) 𝓜 𝓡 code.env #seek seek-def.routine code.calls-slots·seek (seek-thm.met 𝓤 H 𝓜 𝓖 𝓡))
     (cited 𝓤 H (Scan 𝓤 H (𝓖 .A) (𝓜 .mem) (𝓡 .run)) 𝓜 𝓡 code.env #scan scan-def.routine code.calls-tracks·scan (scan-thm.met 𝓤 H 𝓜 𝓖 𝓡))
-    (cited 𝓤 H (OwnOf 𝓤 H (𝓖 .A) (𝓜 .mem) (𝓡 .run)) 𝓜 𝓡 code.env #own own-def.routine code.calls-tracks·parts·own (own-thm.met 𝓤 H 𝓜 𝓖 𝓡))
-    (cited 𝓤 H (LookAt 𝓤 H (𝓖 .A) (𝓜 .mem) (𝓡 .run)) 𝓜 𝓡 code.env #look-at look-at-def.routine code.calls-tracks·parts·look-at (look-at-thm.met 𝓤 H 𝓜 𝓖 𝓡))
-    (cited 𝓤 H (Unheld 𝓤 H (𝓖 .A) (𝓜 .mem) (𝓡 .run)) 𝓜 𝓡 code.env #unheld unheld-def.routine code.calls-tracks·parts·unheld (unheld-thm.met 𝓤 H 𝓜 𝓖 𝓡)))
+    (cited 𝓤 H (OwnOf 𝓤 H (𝓖 .A) (𝓜 .mem) (𝓡 .run)) 𝓜 𝓡 code.env #own own-def.routine code.calls-tracks·search·own (own-thm.met 𝓤 H 𝓜 𝓖 𝓡))
+    (cited 𝓤 H (LookAt 𝓤 H (𝓖 .A) (𝓜 .mem) (𝓡 .run)) 𝓜 𝓡 code.env #look-at look-at-def.routine code.calls-slots·look-at (look-at-thm.met 𝓤 H 𝓜 𝓖 𝓡))
+    (cited 𝓤 H (Unheld 𝓤 H (𝓖 .A) (𝓜 .mem) (𝓡 .run)) 𝓜 𝓡 code.env #unheld unheld-def.routine code.calls-slots·unheld (unheld-thm.met 𝓤 H 𝓜 𝓖 𝓡)))

@@ -46,33 +46,34 @@ use Rattle.table.specs.declared.NextKey.the-variants as key-after
 use Rattle.table.specs.Table.{keyOrEnd}
 use Rattle.table.proofs.NextKey as K
 use Rattle.table.proofs.NextKey.Laws as K′
-use Rattle.tracks.specs.declared.Place.{Place}
-use Rattle.tracks.specs.declared.Head.{Head}
-use Rattle.tracks.specs.declared.Sought.{Sought}
-use Rattle.tracks.specs.Tracks.{placesFit, smallest, nextAbove}
-use Rattle.tracks.specs.Parts.{sought}
+use Rattle.slots.specs.declared.Place.{Place}
+use Rattle.slots.specs.declared.Head.{Head}
+use Rattle.slots.specs.declared.Sought.{Sought}
+use Rattle.slots.specs.Head.{placesFit}
+use Rattle.slots.specs.Decided.{sought}
+use Rattle.slots.proofs.Place as T
+use Rattle.slots.proofs.Head as E
+use Rattle.slots.proofs.Head.Laws as E′
+use Rattle.slots.proofs.Sought as S
+use Rattle.slots.proofs.Sought.Laws as S′
+use Rattle.slots.proofs.misfits as misfits
+use Rattle.slots.proofs.misfits.Symbol as misfits-def
+use Rattle.slots.proofs.misfits.Symbol.{name as #misfits}
+use Rattle.slots.proofs.misfits.Met as misfits-thm
+use Rattle.slots.proofs.no_next as no-next
+use Rattle.slots.proofs.no_next.Symbol as no-next-def
+use Rattle.slots.proofs.no_next.Symbol.{name as #no-next}
+use Rattle.slots.proofs.no_next.Met as no-next-thm
+use Rattle.slots.proofs.seek as seek
+use Rattle.slots.proofs.seek.Symbol as seek-def
+use Rattle.slots.proofs.seek.Symbol.{name as #seek}
+use Rattle.slots.proofs.seek.Met as seek-thm
+use Rattle.slots.proofs.key_or_end as key-or-end
+use Rattle.slots.proofs.key_or_end.Symbol as key-or-end-def
+use Rattle.slots.proofs.key_or_end.Symbol.{name as #key-or-end}
+use Rattle.slots.proofs.key_or_end.Met as key-or-end-thm
+use Rattle.tracks.specs.Tracks.{smallest, nextAbove}
 use Rattle.tracks.proofs.Ways.{passed, failed, next-not, next-is}
-use Rattle.tracks.proofs.Place as T
-use Rattle.tracks.proofs.Head as E
-use Rattle.tracks.proofs.Head.Laws as E′
-use Rattle.tracks.proofs.Sought as S
-use Rattle.tracks.proofs.Sought.Laws as S′
-use Rattle.tracks.proofs.parts.misfits as misfits
-use Rattle.tracks.proofs.parts.misfits.Symbol as misfits-def
-use Rattle.tracks.proofs.parts.misfits.Symbol.{name as #misfits}
-use Rattle.tracks.proofs.parts.misfits.Met as misfits-thm
-use Rattle.tracks.proofs.parts.no_next as no-next
-use Rattle.tracks.proofs.parts.no_next.Symbol as no-next-def
-use Rattle.tracks.proofs.parts.no_next.Symbol.{name as #no-next}
-use Rattle.tracks.proofs.parts.no_next.Met as no-next-thm
-use Rattle.tracks.proofs.parts.seek as seek
-use Rattle.tracks.proofs.parts.seek.Symbol as seek-def
-use Rattle.tracks.proofs.parts.seek.Symbol.{name as #seek}
-use Rattle.tracks.proofs.parts.seek.Met as seek-thm
-use Rattle.tracks.proofs.parts.key_or_end as key-or-end
-use Rattle.tracks.proofs.parts.key_or_end.Symbol as key-or-end-def
-use Rattle.tracks.proofs.parts.key_or_end.Symbol.{name as #key-or-end}
-use Rattle.tracks.proofs.parts.key_or_end.Met as key-or-end-thm
 use Rattle.tracks.proofs.smallest_above as least
 use Rattle.tracks.proofs.smallest_above.Symbol as least-def
 use Rattle.tracks.proofs.smallest_above.Symbol.{name as #least}
@@ -298,8 +299,8 @@ next-spec 𝓤 H 𝓜 𝓖 𝓡 =
     entered 𝓤 H (tripleOf 𝓤 H (𝓖 .A) next.signature (next.spec 𝓤 H (𝓖 .A) (𝓜 .mem) (𝓡 .run)))
     (tables 𝓤 H 𝓜 𝓡 code.env .C) (tables 𝓤 H 𝓜 𝓡 code.env .Λ) #next code.function (code.unfolded 𝓤 H 𝓜 𝓡)
     (next-meets 𝓤 H (𝓖 .A) (givenOf 𝓤 H 𝓜 𝓖) (𝓜 .mem) (𝓡 .run) (tablesOf 𝓤 H 𝓜 (tables 𝓤 H 𝓜 𝓡 code.env))
-    (cited 𝓤 H (Misfits 𝓤 H (𝓖 .A) (𝓜 .mem) (𝓡 .run)) 𝓜 𝓡 code.env #misfits misfits-def.routine code.calls-tracks·parts·misfits (misfits-thm.met 𝓤 H 𝓜 𝓖 𝓡))
-    (cited 𝓤 H (NoNext 𝓤 H (𝓖 .A) (𝓜 .mem) (𝓡 .run)) 𝓜 𝓡 code.env #no-next no-next-def.routine code.calls-tracks·parts·no-next (no-next-thm.met 𝓤 H 𝓜 𝓖 𝓡))
-    (cited 𝓤 H (Seek 𝓤 H (𝓖 .A) (𝓜 .mem) (𝓡 .run)) 𝓜 𝓡 code.env #seek seek-def.routine code.calls-tracks·parts·seek (seek-thm.met 𝓤 H 𝓜 𝓖 𝓡))
+    (cited 𝓤 H (Misfits 𝓤 H (𝓖 .A) (𝓜 .mem) (𝓡 .run)) 𝓜 𝓡 code.env #misfits misfits-def.routine code.calls-slots·misfits (misfits-thm.met 𝓤 H 𝓜 𝓖 𝓡))
+    (cited 𝓤 H (NoNext 𝓤 H (𝓖 .A) (𝓜 .mem) (𝓡 .run)) 𝓜 𝓡 code.env #no-next no-next-def.routine code.calls-slots·no-next (no-next-thm.met 𝓤 H 𝓜 𝓖 𝓡))
+    (cited 𝓤 H (Seek 𝓤 H (𝓖 .A) (𝓜 .mem) (𝓡 .run)) 𝓜 𝓡 code.env #seek seek-def.routine code.calls-slots·seek (seek-thm.met 𝓤 H 𝓜 𝓖 𝓡))
     (cited 𝓤 H (Least 𝓤 H (𝓖 .A) (𝓜 .mem) (𝓡 .run)) 𝓜 𝓡 code.env #least least-def.routine code.calls-tracks·smallest-above (least-thm.met 𝓤 H 𝓜 𝓖 𝓡))
-    (cited 𝓤 H (KeyOrEnd 𝓤 H (𝓖 .A) (𝓜 .mem) (𝓡 .run)) 𝓜 𝓡 code.env #key-or-end key-or-end-def.routine code.calls-tracks·parts·key-or-end (key-or-end-thm.met 𝓤 H 𝓜 𝓖 𝓡)))
+    (cited 𝓤 H (KeyOrEnd 𝓤 H (𝓖 .A) (𝓜 .mem) (𝓡 .run)) 𝓜 𝓡 code.env #key-or-end key-or-end-def.routine code.calls-slots·key-or-end (key-or-end-thm.met 𝓤 H 𝓜 𝓖 𝓡)))

@@ -46,26 +46,26 @@ use denote.Triple.Spec.{Meets, tripleOf}
 use denote.Triple.Table.{entered, cited}
 use denote.Triple.Walked.{says, Stays, stay-none-slice, stay-none, walkOf, goes-none-slice, goes-none, Walks, ends-at, walked, walk-meets}
 use denote.Exit.{yes}
-use Rattle.tracks.specs.declared.Place.{Place}
-use Rattle.tracks.specs.declared.Sought.{Sought}
+use Rattle.slots.specs.declared.Place.{Place}
+use Rattle.slots.specs.declared.Sought.{Sought}
+use Rattle.slots.specs.Ranges.{noPlace}
+use Rattle.slots.proofs.Place as T
+use Rattle.slots.proofs.Place.Laws as T′
+use Rattle.slots.proofs.Sought as S
+use Rattle.slots.proofs.Sought.Laws as S′
 use Rattle.tracks.specs.declared.Found.{Found}
-use Rattle.tracks.specs.Ranges.{noPlace}
-use Rattle.tracks.specs.Parts.{noneFound, visited, scanned}
+use Rattle.tracks.specs.Scan.{noneFound, visited, scanned}
 use Rattle.tracks.proofs.Scanned.{scanned-none, scanned-more}
-use Rattle.tracks.proofs.Place as T
-use Rattle.tracks.proofs.Place.Laws as T′
-use Rattle.tracks.proofs.Sought as S
-use Rattle.tracks.proofs.Sought.Laws as S′
 use Rattle.tracks.proofs.Found as F
 use Rattle.tracks.proofs.Found.Laws as F′
-use Rattle.tracks.proofs.parts.none_found as none
-use Rattle.tracks.proofs.parts.none_found.Symbol as none-def
-use Rattle.tracks.proofs.parts.none_found.Symbol.{name as #none}
-use Rattle.tracks.proofs.parts.none_found.Met as none-thm
-use Rattle.tracks.proofs.parts.visit as visit
-use Rattle.tracks.proofs.parts.visit.Symbol as visit-def
-use Rattle.tracks.proofs.parts.visit.Symbol.{name as #visit}
-use Rattle.tracks.proofs.parts.visit.Met as visit-thm
+use Rattle.tracks.proofs.search.none_found as none
+use Rattle.tracks.proofs.search.none_found.Symbol as none-def
+use Rattle.tracks.proofs.search.none_found.Symbol.{name as #none}
+use Rattle.tracks.proofs.search.none_found.Met as none-thm
+use Rattle.tracks.proofs.search.visit as visit
+use Rattle.tracks.proofs.search.visit.Symbol as visit-def
+use Rattle.tracks.proofs.search.visit.Symbol.{name as #visit}
+use Rattle.tracks.proofs.search.visit.Met as visit-thm
 use Rattle.tracks.proofs.scan.Key.{name as #scan}
 use Rattle.tracks.proofs.scan as scan
 use Rattle.tracks.proofs.scan.Statement as stated
@@ -307,5 +307,5 @@ scan-spec 𝓤 H 𝓜 𝓖 𝓡 =
     entered 𝓤 H (tripleOf 𝓤 H (𝓖 .A) scan.signature (scan.spec 𝓤 H (𝓖 .A) (𝓜 .mem) (𝓡 .run)))
     (tables 𝓤 H 𝓜 𝓡 code.env .C) (tables 𝓤 H 𝓜 𝓡 code.env .Λ) #scan code.function (code.unfolded 𝓤 H 𝓜 𝓡)
     (scan-meets 𝓤 H (𝓖 .A) (givenOf 𝓤 H 𝓜 𝓖) (𝓜 .mem) (𝓡 .run) (tablesOf 𝓤 H 𝓜 (tables 𝓤 H 𝓜 𝓡 code.env))
-    (cited 𝓤 H (None 𝓤 H (𝓖 .A) (𝓜 .mem) (𝓡 .run)) 𝓜 𝓡 code.env #none none-def.routine code.calls-tracks·parts·none-found (none-thm.met 𝓤 H 𝓜 𝓖 𝓡))
-    (cited 𝓤 H (Visit 𝓤 H (𝓖 .A) (𝓜 .mem) (𝓡 .run)) 𝓜 𝓡 code.env #visit visit-def.routine code.calls-tracks·parts·visit (visit-thm.met 𝓤 H 𝓜 𝓖 𝓡)))
+    (cited 𝓤 H (None 𝓤 H (𝓖 .A) (𝓜 .mem) (𝓡 .run)) 𝓜 𝓡 code.env #none none-def.routine code.calls-tracks·search·none-found (none-thm.met 𝓤 H 𝓜 𝓖 𝓡))
+    (cited 𝓤 H (Visit 𝓤 H (𝓖 .A) (𝓜 .mem) (𝓡 .run)) 𝓜 𝓡 code.env #visit visit-def.routine code.calls-tracks·search·visit (visit-thm.met 𝓤 H 𝓜 𝓖 𝓡)))

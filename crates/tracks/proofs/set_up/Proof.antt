@@ -43,23 +43,23 @@ use denote.Exit.{yes}
 use Rattle.located.specs.declared.Site.{Site}
 use Rattle.located.proofs.Site as S
 use Rattle.located.proofs.Site.Laws as S′
-use Rattle.tracks.specs.declared.Place.{Place}
-use Rattle.tracks.specs.declared.Started.{Started}
+use Rattle.slots.specs.declared.Place.{Place}
+use Rattle.slots.specs.declared.Started.{Started}
+use Rattle.slots.specs.Decided.{started, isDone}
+use Rattle.slots.proofs.Place as T
+use Rattle.slots.proofs.Started as D
+use Rattle.slots.proofs.Started.Laws as D′
+use Rattle.slots.proofs.start as start
+use Rattle.slots.proofs.start.Symbol as start-def
+use Rattle.slots.proofs.start.Symbol.{name as #start}
+use Rattle.slots.proofs.start.Met as start-thm
+use Rattle.slots.proofs.is_done as is-done
+use Rattle.slots.proofs.is_done.Symbol as is-done-def
+use Rattle.slots.proofs.is_done.Symbol.{name as #is-done}
+use Rattle.slots.proofs.is_done.Met as is-done-thm
 use Rattle.tracks.specs.Tracks.{after, emptied, setUp}
-use Rattle.tracks.specs.Parts.{started, isDone}
 use Rattle.tracks.proofs.Again.{LentAgain, lends-again, comes-back}
 use Rattle.tracks.proofs.Ways.{passed, failed, set-on, set-off}
-use Rattle.tracks.proofs.Place as T
-use Rattle.tracks.proofs.Started as D
-use Rattle.tracks.proofs.Started.Laws as D′
-use Rattle.tracks.proofs.parts.start as start
-use Rattle.tracks.proofs.parts.start.Symbol as start-def
-use Rattle.tracks.proofs.parts.start.Symbol.{name as #start}
-use Rattle.tracks.proofs.parts.start.Met as start-thm
-use Rattle.tracks.proofs.parts.is_done as is-done
-use Rattle.tracks.proofs.parts.is_done.Symbol as is-done-def
-use Rattle.tracks.proofs.parts.is_done.Symbol.{name as #is-done}
-use Rattle.tracks.proofs.parts.is_done.Met as is-done-thm
 use Rattle.tracks.proofs.clear as clear
 use Rattle.tracks.proofs.clear.Symbol as clear-def
 use Rattle.tracks.proofs.clear.Symbol.{name as #clear}
@@ -249,6 +249,6 @@ set-up-spec 𝓤 H 𝓜 𝓖 𝓡 =
     entered 𝓤 H (tripleOf 𝓤 H (𝓖 .A) set-up.signature (set-up.spec 𝓤 H (𝓖 .A) (𝓜 .mem) (𝓡 .run)))
     (tables 𝓤 H 𝓜 𝓡 code.env .C) (tables 𝓤 H 𝓜 𝓡 code.env .Λ) #set-up code.function (code.unfolded 𝓤 H 𝓜 𝓡)
     (set-up-meets 𝓤 H (𝓖 .A) (givenOf 𝓤 H 𝓜 𝓖) (𝓜 .mem) (𝓡 .run) (tablesOf 𝓤 H 𝓜 (tables 𝓤 H 𝓜 𝓡 code.env))
-    (cited 𝓤 H (Start 𝓤 H (𝓖 .A) (𝓜 .mem) (𝓡 .run)) 𝓜 𝓡 code.env #start start-def.routine code.calls-tracks·parts·start (start-thm.met 𝓤 H 𝓜 𝓖 𝓡))
-    (cited 𝓤 H (IsDone 𝓤 H (𝓖 .A) (𝓜 .mem) (𝓡 .run)) 𝓜 𝓡 code.env #is-done is-done-def.routine code.calls-tracks·parts·is-done (is-done-thm.met 𝓤 H 𝓜 𝓖 𝓡))
+    (cited 𝓤 H (Start 𝓤 H (𝓖 .A) (𝓜 .mem) (𝓡 .run)) 𝓜 𝓡 code.env #start start-def.routine code.calls-slots·start (start-thm.met 𝓤 H 𝓜 𝓖 𝓡))
+    (cited 𝓤 H (IsDone 𝓤 H (𝓖 .A) (𝓜 .mem) (𝓡 .run)) 𝓜 𝓡 code.env #is-done is-done-def.routine code.calls-slots·is-done (is-done-thm.met 𝓤 H 𝓜 𝓖 𝓡))
     (cited 𝓤 H (Clear 𝓤 H (𝓖 .A) (𝓜 .mem) (𝓡 .run)) 𝓜 𝓡 code.env #clear clear-def.routine code.calls-tracks·clear (clear-thm.met 𝓤 H 𝓜 𝓖 𝓡)))

@@ -46,18 +46,19 @@ use denote.Triple.Spec.{Meets, tripleOf}
 use denote.Triple.Table.{entered, cited}
 use denote.Triple.Walked.{says, Stays, stay-none-slice, stay-none, walkOf, goes-none-slice, goes-none, Walks, ends-at, walked, walk-meets}
 use denote.Exit.{yes}
-use Rattle.tracks.specs.declared.Place.{Place}
-use Rattle.tracks.specs.declared.Sought.{Sought}
-use Rattle.tracks.specs.Ranges.{noPlace}
-use Rattle.tracks.specs.Tracks.{better, smallest}
-use Rattle.tracks.proofs.Place as T
-use Rattle.tracks.proofs.Place.Laws as T′
-use Rattle.tracks.proofs.Sought as S
-use Rattle.tracks.proofs.Sought.Laws as S′
-use Rattle.tracks.proofs.parts.better_of as better-of
-use Rattle.tracks.proofs.parts.better_of.Symbol as better-of-def
-use Rattle.tracks.proofs.parts.better_of.Symbol.{name as #better-of}
-use Rattle.tracks.proofs.parts.better_of.Met as better-of-thm
+use Rattle.slots.specs.declared.Place.{Place}
+use Rattle.slots.specs.declared.Sought.{Sought}
+use Rattle.slots.specs.Ranges.{noPlace}
+use Rattle.slots.specs.Decided.{better}
+use Rattle.slots.proofs.Place as T
+use Rattle.slots.proofs.Place.Laws as T′
+use Rattle.slots.proofs.Sought as S
+use Rattle.slots.proofs.Sought.Laws as S′
+use Rattle.slots.proofs.better_of as better-of
+use Rattle.slots.proofs.better_of.Symbol as better-of-def
+use Rattle.slots.proofs.better_of.Symbol.{name as #better-of}
+use Rattle.slots.proofs.better_of.Met as better-of-thm
+use Rattle.tracks.specs.Tracks.{smallest}
 use Rattle.tracks.proofs.smallest_above.Key.{name as #above}
 use Rattle.tracks.proofs.smallest_above as above
 use Rattle.tracks.proofs.smallest_above.Statement as stated
@@ -279,4 +280,4 @@ smallest-above-spec 𝓤 H 𝓜 𝓖 𝓡 =
     entered 𝓤 H (tripleOf 𝓤 H (𝓖 .A) above.signature (above.spec 𝓤 H (𝓖 .A) (𝓜 .mem) (𝓡 .run)))
     (tables 𝓤 H 𝓜 𝓡 code.env .C) (tables 𝓤 H 𝓜 𝓡 code.env .Λ) #above code.function (code.unfolded 𝓤 H 𝓜 𝓡)
     (above-meets 𝓤 H (𝓖 .A) (givenOf 𝓤 H 𝓜 𝓖) (𝓜 .mem) (𝓡 .run) (tablesOf 𝓤 H 𝓜 (tables 𝓤 H 𝓜 𝓡 code.env))
-    (cited 𝓤 H (Better 𝓤 H (𝓖 .A) (𝓜 .mem) (𝓡 .run)) 𝓜 𝓡 code.env #better-of better-of-def.routine code.calls-tracks·parts·better-of (better-of-thm.met 𝓤 H 𝓜 𝓖 𝓡)))
+    (cited 𝓤 H (Better 𝓤 H (𝓖 .A) (𝓜 .mem) (𝓡 .run)) 𝓜 𝓡 code.env #better-of better-of-def.routine code.calls-slots·better-of (better-of-thm.met 𝓤 H 𝓜 𝓖 𝓡)))

@@ -47,17 +47,17 @@ use denote.Triple.Table.{entered, cited}
 use denote.Triple.Walked.{Stays, stay-none-slice, stay-none, walkOf, goes-none-slice, goes-none, Walks, ends-at, walked, walk-meets}
 use denote.Exit.{yes}
 use Rattle.table.specs.declared.Looked.{Looked}
-use Rattle.tracks.specs.declared.Place.{Place}
-use Rattle.tracks.specs.declared.Head.{Head}
-use Rattle.tracks.specs.declared.Received.{Received}
+use Rattle.slots.specs.declared.Place.{Place}
+use Rattle.slots.specs.declared.Head.{Head}
+use Rattle.slots.specs.declared.Received.{Received}
 use Rattle.tracks.specs.Tracks.{after, received}
 use Rattle.tracks_example.specs.declared.Heard.{Heard}
-use Rattle.tracks.proofs.Place as T
-use Rattle.tracks.proofs.Place.Laws as T′
-use Rattle.tracks.proofs.Head as E
-use Rattle.tracks.proofs.Head.Laws as E′
-use Rattle.tracks.proofs.Received as Y
-use Rattle.tracks.proofs.Received.Laws as Y′
+use Rattle.slots.proofs.Place as T
+use Rattle.slots.proofs.Place.Laws as T′
+use Rattle.slots.proofs.Head as E
+use Rattle.slots.proofs.Head.Laws as E′
+use Rattle.slots.proofs.Received as Y
+use Rattle.slots.proofs.Received.Laws as Y′
 use Rattle.table.proofs.Looked as K
 use Rattle.table.proofs.Looked.Laws as K′
 use Rattle.tracks_example.proofs.Heard as Z

@@ -1,0 +1,104 @@
+-- Each public function has one answer: two that satisfy its contract both equal its definition.
+-- Assumes nothing.
+use mathlib.Core.Path.{sym, _∙_}
+use Rattle.refusals.specs.Answers.{OneAnswer}
+use Rattle.slots.proofs.ranges.is_held.Kinds as is-held-kinds
+use Rattle.slots.proofs.ranges.is_held.Reads as is-held
+use Rattle.slots.proofs.ranges.has_key.Kinds as has-key-kinds
+use Rattle.slots.proofs.ranges.has_key.Reads as has-key
+use Rattle.slots.proofs.no_place.Kinds as no-place-kinds
+use Rattle.slots.proofs.no_place.Reads as no-place
+use Rattle.slots.proofs.misfits.Kinds as misfits-kinds
+use Rattle.slots.proofs.misfits.Reads as misfits
+use Rattle.slots.proofs.judge.Kinds as judge-kinds
+use Rattle.slots.proofs.judge.Reads as judge
+use Rattle.slots.proofs.is_refused.Kinds as is-refused-kinds
+use Rattle.slots.proofs.is_refused.Reads as is-refused
+use Rattle.slots.proofs.seek.Kinds as seek-kinds
+use Rattle.slots.proofs.seek.Reads as seek
+use Rattle.slots.proofs.sought_by.Kinds as sought-by-kinds
+use Rattle.slots.proofs.sought_by.Reads as sought-by
+use Rattle.slots.proofs.next_of.Kinds as next-of-kinds
+use Rattle.slots.proofs.next_of.Reads as next-of
+use Rattle.slots.proofs.place_in.Kinds as place-in-kinds
+use Rattle.slots.proofs.place_in.Reads as place-in
+use Rattle.slots.proofs.received_in.Kinds as received-in-kinds
+use Rattle.slots.proofs.received_in.Reads as received-in
+use Rattle.slots.proofs.full.Kinds as full-kinds
+use Rattle.slots.proofs.full.Reads as full
+use Rattle.slots.proofs.start.Kinds as start-kinds
+use Rattle.slots.proofs.start.Reads as start
+use Rattle.slots.proofs.is_done.Kinds as is-done-kinds
+use Rattle.slots.proofs.is_done.Reads as is-done
+use Rattle.slots.proofs.look_at.Kinds as look-at-kinds
+use Rattle.slots.proofs.look_at.Reads as look-at
+use Rattle.slots.proofs.unheld.Kinds as unheld-kinds
+use Rattle.slots.proofs.unheld.Reads as unheld
+use Rattle.slots.proofs.not_looked.Kinds as not-looked-kinds
+use Rattle.slots.proofs.not_looked.Reads as not-looked
+use Rattle.slots.proofs.better_of.Kinds as better-of-kinds
+use Rattle.slots.proofs.better_of.Reads as better-of
+use Rattle.slots.proofs.key_or_end.Kinds as key-or-end-kinds
+use Rattle.slots.proofs.key_or_end.Reads as key-or-end
+use Rattle.slots.proofs.no_next.Kinds as no-next-kinds
+use Rattle.slots.proofs.no_next.Reads as no-next
+
+pub is-held-once : OneAnswer 0 is-held-kinds.ps is-held-kinds.r is-held.Post
+is-held-once κs args x y left left′ p q = p ∙ sym q
+
+pub has-key-once : OneAnswer 0 has-key-kinds.ps has-key-kinds.r has-key.Post
+has-key-once κs args x y left left′ p q = p ∙ sym q
+
+pub no-place-once : OneAnswer 0 no-place-kinds.ps no-place-kinds.r no-place.Post
+no-place-once κs args x y left left′ p q = p ∙ sym q
+
+pub misfits-once : OneAnswer 0 misfits-kinds.ps misfits-kinds.r misfits.Post
+misfits-once κs args x y left left′ p q = p ∙ sym q
+
+pub judge-once : OneAnswer 1 judge-kinds.ps judge-kinds.r judge.Post
+judge-once κs args x y left left′ p q = p ∙ sym q
+
+pub is-refused-once : OneAnswer 0 is-refused-kinds.ps is-refused-kinds.r is-refused.Post
+is-refused-once κs args x y left left′ p q = p ∙ sym q
+
+pub seek-once : OneAnswer 0 seek-kinds.ps seek-kinds.r seek.Post
+seek-once κs args x y left left′ p q = p ∙ sym q
+
+pub sought-by-once : OneAnswer 0 sought-by-kinds.ps sought-by-kinds.r sought-by.Post
+sought-by-once κs args x y left left′ p q = p ∙ sym q
+
+pub next-of-once : OneAnswer 0 next-of-kinds.ps next-of-kinds.r next-of.Post
+next-of-once κs args x y left left′ p q = p ∙ sym q
+
+pub place-in-once : OneAnswer 0 place-in-kinds.ps place-in-kinds.r place-in.Post
+place-in-once κs args x y left left′ p q = p ∙ sym q
+
+pub received-in-once : OneAnswer 0 received-in-kinds.ps received-in-kinds.r received-in.Post
+received-in-once κs args x y left left′ p q = p ∙ sym q
+
+pub full-once : OneAnswer 0 full-kinds.ps full-kinds.r full.Post
+full-once κs args x y left left′ p q = p ∙ sym q
+
+pub start-once : OneAnswer 0 start-kinds.ps start-kinds.r start.Post
+start-once κs args x y left left′ p q = p ∙ sym q
+
+pub is-done-once : OneAnswer 0 is-done-kinds.ps is-done-kinds.r is-done.Post
+is-done-once κs args x y left left′ p q = p ∙ sym q
+
+pub look-at-once : OneAnswer 0 look-at-kinds.ps look-at-kinds.r look-at.Post
+look-at-once κs args x y left left′ p q = p ∙ sym q
+
+pub unheld-once : OneAnswer 0 unheld-kinds.ps unheld-kinds.r unheld.Post
+unheld-once κs args x y left left′ p q = p ∙ sym q
+
+pub not-looked-once : OneAnswer 0 not-looked-kinds.ps not-looked-kinds.r not-looked.Post
+not-looked-once κs args x y left left′ p q = p ∙ sym q
+
+pub better-of-once : OneAnswer 0 better-of-kinds.ps better-of-kinds.r better-of.Post
+better-of-once κs args x y left left′ p q = p ∙ sym q
+
+pub key-or-end-once : OneAnswer 0 key-or-end-kinds.ps key-or-end-kinds.r key-or-end.Post
+key-or-end-once κs args x y left left′ p q = p ∙ sym q
+
+pub no-next-once : OneAnswer 0 no-next-kinds.ps no-next-kinds.r no-next.Post
+no-next-once κs args x y left left′ p q = p ∙ sym q

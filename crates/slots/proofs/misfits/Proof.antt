@@ -1,0 +1,14 @@
+-- `slots::misfits` meets its contract: by `places_fit`.
+-- Assumes nothing.
+use borrow.Author.Needs.{needs}
+use Rattle.slots.proofs.misfits.Statement.{statement}
+use Rattle.slots.proofs.misfits.Tie as tie
+
+places-fit-requires : tie.Need-places-fit-requires
+places-fit-requires c κs = search needs
+
+returns : tie.Need-returns
+returns c = rw (c .places-fit .ensures)
+
+pub misfits-spec : {M : Type 1} → statement M
+misfits-spec = tie.close (tie.spec places-fit-requires returns)

@@ -1,0 +1,16 @@
+-- `slots::ranges::in_range` meets its contract: its tests are the definition's.
+-- Assumes nothing.
+use Rattle.slots.specs.Ranges.{inRange}
+use borrow.Author.Needs.{needs}
+use Rattle.slots.proofs.ranges.in_range.Statement.{statement}
+use Rattle.slots.proofs.ranges.in_range.Tie as tie
+
+track-fits-requires : tie.Need-track-fits-requires
+track-fits-requires c κs = search needs
+
+returns : tie.Need-returns
+unfolding inRange
+returns c = rw (c .track-fits .ensures)
+
+pub in-range-spec : {M : Type 1} → statement M
+in-range-spec = tie.close (tie.spec track-fits-requires returns)

@@ -1,0 +1,23 @@
+-- `slots::track_in` meets its contract: its test is the definition's.
+-- Assumes nothing.
+use Rattle.slots.specs.Decided.{trackIn}
+use borrow.Author.Needs.{needs}
+use Rattle.slots.proofs.track_in.Statement.{statement}
+use Rattle.slots.proofs.track_in.Tie as tie
+
+has-key-requires : tie.Need-has-key-requires
+has-key-requires c κs = search needs
+
+new-track-requires : tie.Need-new-track-requires
+new-track-requires c κs = search needs
+
+returns : tie.Need-returns
+unfolding trackIn
+returns c = rw (← c .before .before .has-key .ensures, c .before .if1 .taken)
+
+returns-2 : tie.Need-returns-2
+unfolding trackIn
+returns-2 c = rw (← c .before .before .has-key .ensures, c .before .if1 .left, c .new-track .ensures)
+
+pub track-in-spec : {M : Type 1} → statement M
+track-in-spec = tie.close (tie.spec has-key-requires new-track-requires returns returns-2)

@@ -1,0 +1,3 @@
+pub mod Ranges
+pub mod Head
+pub mod Decided
