@@ -29,7 +29,7 @@ use Rattle.messages.proofs.BothWays as messages
 use Rattle.encoder.proofs.BothWays as encoder
 use Rattle.track.specs.declared.Track.{Track}
 use Rattle.text.proofs.Fits.{header-most, row-most}
-use Rattle.table.specs.Layout.{clockOf}
+use Rattle.lent.specs.Layout.{clockOf}
 use Rattle.report.specs.Listing.{rowOf as lineRow, counted, headerFor, lineFor}
 use Rattle.values.specs.From.{messageFrom}
 use Rattle.values.specs.Rows.{rowOf, bodyRow, messageRow}

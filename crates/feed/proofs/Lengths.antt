@@ -11,9 +11,9 @@ use Rattle.messages.specs.declared.Decoded.{Decoded}
 use Rattle.messages.specs.declared.Decoded.the-variants as decode
 use Rattle.messages.specs.Message.{decoded, keyOf}
 use Rattle.capture.specs.Block.{countOf, good, timeOf, messageOf}
-use Rattle.table.specs.Layout.{wholePlaces, placesIn, clockOf, moved}
+use Rattle.lent.specs.Layout.{wholePlaces, placesIn, clockOf, moved}
+use Rattle.lent.proofs.Places.{moved-length, stored-length}
 use Rattle.table.specs.Table.{After, placeOf, freePlace, delivered, received}
-use Rattle.table.proofs.Places.{moved-length, stored-length}
 use Rattle.feed.specs.Feed.{recordsInto, blockInto, blockAt, blocksInto}
 
 -- an outcome whose table is as long as s

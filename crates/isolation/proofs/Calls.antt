@@ -17,7 +17,7 @@ use Rattle.messages.specs.declared.Decoded.the-variants as decode
 use Rattle.messages.specs.Message.{decoded, keyOf}
 use Rattle.track.specs.declared.Track.{Track}
 use Rattle.track.specs.Track.{stepBody}
-use Rattle.table.specs.Layout.{clockOf, siteOf, moved}
+use Rattle.lent.specs.Layout.{clockOf, siteOf, moved}
 use Rattle.table.specs.Table.{After, delivered, received}
 use Rattle.table.specs.View.{view, laterAt, orNew, Table}
 use Rattle.table.proofs.Ways.{not-refused, received-in-time}

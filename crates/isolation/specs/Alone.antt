@@ -13,7 +13,7 @@ use Rattle.messages.specs.Message.{decoded, keyOf}
 use Rattle.located.specs.declared.Site.{Site}
 use Rattle.track.specs.declared.Track.{Track}
 use Rattle.track.specs.Track.{stepBody}
-use Rattle.table.specs.Layout.{clockOf}
+use Rattle.lent.specs.Layout.{clockOf}
 use Rattle.table.specs.View.{view, laterAt, orNew}
 use Rattle.isolation.specs.Runs.{Call, Seen}
 

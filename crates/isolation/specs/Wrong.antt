@@ -9,7 +9,7 @@ use Rattle.messages.specs.declared.Decoded.the-variants as decode
 use Rattle.messages.specs.Message.{decoded, keyOf}
 use Rattle.track.specs.Track.{newTrack, stepped}
 use Rattle.words.specs.Bytes.{lowBytes, put}
-use Rattle.table.specs.Layout.{placesIn, siteOf, moved}
+use Rattle.lent.specs.Layout.{placesIn, siteOf, moved}
 use Rattle.table.specs.Table.{After, after, placed, delivered, received}
 use Rattle.isolation.specs.Runs.{Rule}
 

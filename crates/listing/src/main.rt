@@ -6,7 +6,7 @@ use table::NextKey;
 use text::Line;
 ghost use mathlib.Core.Path.{_≡_};
 ghost use lib.ListN.{length};
-ghost use Rattle.table.specs.Layout.{emptied};
+ghost use Rattle.lent.specs.Layout.{emptied};
 ghost use Rattle.listing.specs.Input.{SomeFed};
 
 // Feeds the input, block by block, to an empty table, and counts the bad blocks. A short read is the end, or a failed read, which ends it too.

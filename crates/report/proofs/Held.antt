@@ -12,8 +12,8 @@ use Rattle.fields.proofs.Bools.{and-left, and-right}
 use Rattle.words.specs.Bytes.{numberAt}
 use Rattle.held.specs.Ranges.{inRange, held}
 use Rattle.track.specs.declared.Track.{Track}
-use Rattle.table.specs.Layout.{placesIn, clockOf, Place, holds}
-use Rattle.table.specs.Table.{lowest}
+use Rattle.lent.specs.Layout.{placesIn, clockOf, Place, holds}
+use Rattle.lent.specs.Scan.{lowest}
 use Rattle.table.specs.View.{places, trackIn, viewAt, view, HeldKey}
 use Rattle.table.proofs.Search.{lowest-passes, none-passes}
 

@@ -12,7 +12,7 @@ ghost use mathlib.Core.List.{[]};
 ghost use Prim.Native.Nat.{_*_, _^_};
 ghost use lib.ListN.{length};
 ghost use Rattle.text.specs.Lines.{lineOf};
-ghost use Rattle.table.specs.Layout.{wholePlaces};
+ghost use Rattle.lent.specs.Layout.{wholePlaces};
 ghost use Rattle.table.specs.Table.{nextAbove};
 ghost use Rattle.report.specs.Listing.{counted, headerIn, lineIn};
 ghost use Rattle.report.specs.Listing.{without as withoutLine};

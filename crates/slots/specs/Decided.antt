@@ -18,7 +18,7 @@ use Rattle.table.specs.declared.SetUp.{SetUp}
 use Rattle.table.specs.declared.SetUp.the-variants as setting
 use Rattle.table.specs.declared.Holding.{Holding}
 use Rattle.table.specs.declared.Looked.{Looked}
-use Rattle.table.specs.Layout.{noSite}
+use Rattle.lent.specs.Layout.{noSite}
 use Rattle.slots.specs.declared.Place.{Place}
 use Rattle.slots.specs.declared.Head.{Head}
 use Rattle.slots.specs.declared.Received.{Received}

@@ -27,7 +27,7 @@ ghost use mathlib.Core.Bool.{not};
 ghost use Rattle.track.specs.Track.{newTrack};
 ghost use Rattle.table.specs.declared.Holding.the-variants as holding;
 ghost use Rattle.table.specs.declared.NextKey.the-variants as next;
-ghost use Rattle.table.specs.Layout.{noSite};
+ghost use Rattle.lent.specs.Layout.{noSite};
 ghost use Rattle.table.specs.Table.{keyOrEnd};
 ghost use Rattle.refusals.specs.declared.Refusal.the-variants.{Full, Places};
 ghost use Rattle.slots.specs.Ranges.{noPlace};

@@ -22,25 +22,17 @@ use Rattle.track.specs.declared.Stepped.{Stepped}
 use Rattle.track.specs.Track.{newTrack, stepped}
 use Rattle.words.specs.Bytes.{lowBytes, put}
 use Rattle.place.specs.Place.{raised, trackOf}
-use Rattle.table.specs.declared.scan.Target.{Target}
+use Rattle.lent.specs.declared.scan.Target.{Target}
+use Rattle.lent.specs.Layout.{wholePlaces, placesIn, clockOf, siteOf, bodyAt, placeAt, isHeld, holds, moved, stored, emptied, emptiedAt}
+use Rattle.lent.specs.Scan.{lowest, targetOf}
+use Rattle.lent.specs.Walk.{smallest}
 use Rattle.table.specs.declared.SetUp.the-variants as setting
 use Rattle.table.specs.declared.Holding.the-variants as holding
 use Rattle.table.specs.declared.NextKey.{NextKey}
 use Rattle.table.specs.declared.NextKey.the-variants as next
 use Rattle.table.specs.declared.Clock.the-variants as clock
 use Rattle.table.specs.declared.Sited.the-variants as sited
-use Rattle.table.specs.Layout.{Place, wholePlaces, placesIn, clockOf, siteOf, bodyAt, placeAt, isHeld, holds, moved, stored, emptied, emptiedAt}
-use Rattle.table.specs.Scan.{targetOf}
-use Rattle.table.specs.Table.{After, after, setUp, setUpAt, lowest, placeOf, freePlace, placed, delivered, received, lookedUp, smallest, keyOrEnd, nextAbove, clockIn, siteIn}
-
--- ---- where a message goes
-
-module _ (f : ℕ → Place) (n clock key : ℕ) {i : ℕ} (i-is : i ≡ lowest (λ j. holds clock key (f j)) n) where
-  pub target-held : i < n → record { held = true; at = i } ≡ targetOf f n clock key
-  target-held h = rw (← i-is, lt-ltb i n h)
-
-  pub target-free : n ≤ i → {j : ℕ} → j ≡ lowest (λ j. not (isHeld clock (f j))) n → record { held = false; at = j } ≡ targetOf f n clock key
-  target-free h e = rw (← i-is, le-ltb i n h, ← e)
+use Rattle.table.specs.Table.{After, after, setUp, setUpAt, placeOf, freePlace, placed, delivered, received, lookedUp, keyOrEnd, nextAbove, clockIn, siteIn}
 
 -- ---- a message reaches the table
 

@@ -26,8 +26,9 @@ use Rattle.track.proofs.Rules.{accepted, heard-at-its-time}
 use Rattle.place.specs.Place.{trackOf, Fits}
 use Rattle.place.proofs.BothWays.{read-fits}
 use Rattle.place.proofs.Steps.{new-fits, stepped-fits}
-use Rattle.table.specs.Layout.{Place, placesIn, siteOf, bodyAt, isHeld, holds, stored}
-use Rattle.table.specs.Table.{After, after, lowest, placeOf, freePlace, placed, delivered}
+use Rattle.lent.specs.Layout.{Place, placesIn, siteOf, bodyAt, isHeld, holds, stored}
+use Rattle.lent.specs.Scan.{lowest}
+use Rattle.table.specs.Table.{After, after, placeOf, freePlace, placed, delivered}
 use Rattle.table.specs.View.{places, trackIn, viewAt, orNew, Once, AllTaken}
 use Rattle.table.proofs.Search.{clash, fails, alike, lowest-passes, none-passes}
 use Rattle.table.proofs.Steps.{Single, put-other, once-other, put-own, once-own}

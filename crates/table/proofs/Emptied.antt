@@ -20,10 +20,10 @@ use Rattle.place.specs.Place.{raised}
 use Rattle.held.specs.Ranges.{inRange, held}
 use Rattle.place.proofs.Latitudes.{raised-small, lowered-raised}
 use Rattle.words.proofs.Put.{put-length, put-append}
-use Rattle.table.specs.Layout.{wholePlaces, placesIn, clockOf, noSite, siteFrom, siteOf, keyAt, holds, emptied, emptiedAt}
+use Rattle.lent.specs.Layout.{wholePlaces, placesIn, clockOf, noSite, siteFrom, siteOf, keyAt, holds, emptied, emptiedAt}
+use Rattle.lent.proofs.Stores.{byte-out, number-agree, number-there, put-bytes, append-bytes, low-bytes}
 use Rattle.table.specs.View.{places, trackIn, viewAt, Fresh}
 use Rattle.table.proofs.Search.{fails, look-miss}
-use Rattle.table.proofs.Stores.{byte-out, number-agree, number-there, put-bytes, append-bytes, low-bytes}
 
 zeros : (l j : ℕ) → getD {A = ℕ} (replicate l 0) j 0 ≡ 0
 zeros zero j = refl

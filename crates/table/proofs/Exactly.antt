@@ -31,8 +31,9 @@ use Rattle.track.specs.declared.Stepped.{Stepped}
 use Rattle.track.specs.declared.Track.{Track}
 use Rattle.track.specs.Track.{stepped}
 use Rattle.track.proofs.Rules.{accepted}
-use Rattle.table.specs.Layout.{Place, placesIn, isHeld, holds, moved}
-use Rattle.table.specs.Table.{After, after, lowest, placeOf, freePlace, delivered, received}
+use Rattle.lent.specs.Layout.{Place, placesIn, isHeld, holds, moved}
+use Rattle.lent.specs.Scan.{lowest}
+use Rattle.table.specs.Table.{After, after, placeOf, freePlace, delivered, received}
 use Rattle.table.specs.View.{places, AllTaken}
 use Rattle.table.specs.Said.{keyIn, keyHeld, placeFree, earns2, earns6, earns7, receiveTable}
 use Rattle.table.proofs.Search.{clash, fails, lowest-passes, none-passes}

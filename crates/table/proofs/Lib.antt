@@ -1,11 +1,7 @@
-pub mod Parts
-pub mod Scanned
 pub mod Answers
 pub mod Unique
 pub mod KeyOrder
 pub mod Search
-pub mod Stores
-pub mod Places
 pub mod Steps
 pub mod Delivered
 pub mod Ways

@@ -10,7 +10,7 @@ use mathlib.Core.Path.{_≡_, refl, ap, sym, _∙_}
 use lib.Dec.{ltb, eqb}
 use borrow.Author.Tests.{lt-ltb, ltb-true, ltb-false, eqb-true, eqb-false}
 use Rattle.fields.proofs.Bools.{each}
-use Rattle.table.specs.Table.{lowest}
+use Rattle.lent.specs.Scan.{lowest}
 use Rattle.table.specs.View.{look, Once}
 
 pub clash : {x : Bool} → x ≡ true → x ≡ false → ⊥

@@ -15,10 +15,10 @@ use Rattle.words.specs.Bytes.{numberAt}
 use Rattle.place.specs.Place.{trackOf, bodyOf, Fits}
 use Rattle.held.specs.Ranges.{held}
 use Rattle.place.proofs.BothWays.{read-written, written-held, held-later}
-use Rattle.table.specs.Layout.{Place, placesIn, placeAs, placeAt, isHeld, holds, moved, stored}
+use Rattle.lent.specs.Layout.{Place, placesIn, placeAs, placeAt, isHeld, holds, moved, stored}
+use Rattle.lent.proofs.Places.{moved-length, place-head, stored-length, place-other, place-same}
 use Rattle.table.specs.View.{places, look, trackIn, viewAt, laterAt, Once, AllTaken}
 use Rattle.table.proofs.Search.{clash, alike, keep, once-same, look-same, once-only, look-only, once-aged, look-aged}
-use Rattle.table.proofs.Places.{moved-length, place-head, stored-length, place-other, place-same}
 
 -- each key is held at most once at a clock
 abbrev pub Single : ℕ → List ℕ → Type 0

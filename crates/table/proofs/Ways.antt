@@ -26,7 +26,7 @@ use Rattle.messages.specs.declared.Decoded.{Decoded}
 use Rattle.messages.specs.declared.Decoded.the-variants as decode
 use Rattle.messages.specs.Message.{bits, headWidths, headFields, formatTaken, withBody, opened, decoded}
 use Rattle.messages.proofs.BothWays.{decoded-good}
-use Rattle.table.specs.Layout.{wholePlaces, clockOf, moved}
+use Rattle.lent.specs.Layout.{wholePlaces, clockOf, moved}
 use Rattle.table.specs.Table.{After, after, delivered, received}
 use Rattle.table.specs.View.{Early, Undecoded}
 

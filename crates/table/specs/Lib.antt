@@ -1,5 +1,3 @@
-pub mod Layout
 pub mod Said
-pub mod Scan
 pub mod Table
 pub mod View

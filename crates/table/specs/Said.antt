@@ -14,6 +14,8 @@ use Rattle.messages.specs.Table.{earns1, earns3, earns4, earns5, layoutWidths}
 use Rattle.messages.specs.Table as messages
 use Rattle.located.specs.declared.Site.{Site}
 use Rattle.track.specs.declared.Track.{Track}
+use Rattle.lent.specs.Layout.{wholePlaces, placesIn, clockOf}
+use Rattle.lent.specs.Walk.{smallest}
 use Rattle.table.specs.declared.SetUp.{SetUp}
 use Rattle.table.specs.declared.SetUp.the-variants as setting
 use Rattle.table.specs.declared.Holding.{Holding}
@@ -25,8 +27,7 @@ use Rattle.table.specs.declared.Clock.{Clock}
 use Rattle.table.specs.declared.Clock.the-variants as clocked
 use Rattle.table.specs.declared.Sited.{Sited}
 use Rattle.table.specs.declared.Sited.the-variants as sited
-use Rattle.table.specs.Layout.{wholePlaces, placesIn, clockOf}
-use Rattle.table.specs.Table.{placeOf, freePlace, smallest}
+use Rattle.table.specs.Table.{placeOf, freePlace}
 use Rattle.table.specs.View.{places}
 
 -- a number; that a set-up is done; the track of a key, or that it is not held; the next key, or that there is none; the clock; the site, or that there is none

@@ -1,6 +1,6 @@
 -- The lent table: set-up, what a received message does, and what can be read.
-use Prim.Native.Nat.{ℕ, zero, suc}
-use mathlib.Core.Bool.{Bool, cond, not, _&&_, _||_}
+use Prim.Native.Nat.{ℕ}
+use mathlib.Core.Bool.{cond, not}
 use mathlib.Core.List.{List}
 use lib.Dec.{eqb, ltb}
 use lib.ListN.{length}
@@ -13,6 +13,9 @@ use Rattle.messages.specs.Message.{decoded, keyOf}
 use Rattle.track.specs.declared.Stepped.{Stepped}
 use Rattle.track.specs.Track.{newTrack, stepped}
 use Rattle.place.specs.Place.{trackOf}
+use Rattle.lent.specs.Layout.{wholePlaces, placesIn, clockOf, siteOf, bodyAt, placeAt, isHeld, holds, moved, stored, emptied, emptiedAt}
+use Rattle.lent.specs.Scan.{lowest}
+use Rattle.lent.specs.Walk.{smallest}
 use Rattle.table.specs.declared.SetUp.{SetUp}
 use Rattle.table.specs.declared.SetUp.the-variants as setting
 use Rattle.table.specs.declared.Holding.the-variants as holding
@@ -23,7 +26,6 @@ use Rattle.table.specs.declared.Clock.{Clock}
 use Rattle.table.specs.declared.Clock.the-variants as clock
 use Rattle.table.specs.declared.Sited.{Sited}
 use Rattle.table.specs.declared.Sited.the-variants as sited
-use Rattle.table.specs.Layout.{wholePlaces, placesIn, clockOf, siteOf, Place, bodyAt, placeAt, isHeld, holds, moved, stored, emptied, emptiedAt}
 
 -- what a call answers, and the table that it leaves
 pub record After (A : Type 0) : Type 0 where
@@ -45,11 +47,6 @@ setUpAt s spot =
     (after setting.Done (emptiedAt s spot)))
 
 -- ---- the place of a key
-
--- the lowest number below n that passes the test; n if none does
-abbrev pub lowest : (ℕ → Bool) → ℕ → ℕ
-lowest p zero = zero
-lowest p (suc n) = cond (ltb (lowest p n) n) (lowest p n) (cond (p n) n (suc n))
 
 -- the lowest place held at the clock with the key; the number of places if there is none
 unfoldable pub placeOf : List ℕ → ℕ → ℕ → ℕ
@@ -91,15 +88,6 @@ lookedUp s key =
     (cond (ltb (placeOf s (clockOf s) key) (placesIn s))
     (record { answer = holding.Held; track = trackOf (bodyAt s (placesIn s) (placeOf s (clockOf s) key)) })
     (record { answer = holding.Unheld; track = newTrack }))
-
--- the lesser of the best key so far, 0 for none, and the place's, if that is held and above
-unfoldable pub better : ℕ → ℕ → ℕ → Place → ℕ
-better clock above best p = cond (ltb above (p .key) && (eqb best 0 || ltb (p .key) best) && isHeld clock p) (p .key) best
-
--- the smallest key above that the first n places hold; 0 if there is none
-abbrev pub smallest : (ℕ → Place) → ℕ → ℕ → ℕ → ℕ
-smallest f clock above zero = 0
-smallest f clock above (suc n) = better clock above (smallest f clock above n) (f n)
 
 abbrev pub keyOrEnd : ℕ → NextKey
 keyOrEnd key = cond (eqb key 0) next.End (next.Key key)

@@ -17,12 +17,12 @@ use Rattle.located.specs.declared.Site.{Site}
 use Rattle.track.specs.declared.Track.{Track}
 use Rattle.track.specs.Track.{newTrack}
 use Rattle.place.specs.Place.{trackOf}
+use Rattle.lent.specs.Layout.{Place, wholePlaces, placesIn, clockOf, siteOf, placeAt, isHeld, holds}
+use Rattle.lent.specs.Scan.{lowest}
 use Rattle.table.specs.declared.Holding.the-variants as holding
 use Rattle.table.specs.declared.Looked.{Looked}
 use Rattle.table.specs.declared.NextKey.{NextKey}
 use Rattle.table.specs.declared.NextKey.the-variants as next
-use Rattle.table.specs.Layout.{Place, wholePlaces, placesIn, clockOf, siteOf, placeAt, isHeld, holds}
-use Rattle.table.specs.Table.{lowest}
 
 -- the places of a table
 abbrev pub places : List ℕ → ℕ → Place

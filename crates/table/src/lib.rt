@@ -1,22 +1,9 @@
-// The lent table: 1 to 1,024 places in bytes that the caller lends. A track is held while it is in date, which is read by the clock: nothing sweeps.
-//
-// offset                       bytes  value                                              range
-// 0                                8  the clock                                          any
-// 8                                4  the site's latitude plus 2^30 + 1, 0 if none       0 to 2^31 + 1
-// 12                               4  the site's longitude                               any
-// 16 + 4 i                         4  the key of the place i                             its kind, 1 or 2, above 24 bits
-// 16 + 4 n + 75 i                 75  the body of the place i, as in `place`             as there
-//
-// A number out of its range: of the site, there is none; of a place, it is free.
-mod layout;
-mod scan;
-mod walk;
-
+// The lent table: 1 to 1,024 places in bytes that the caller lends, laid out as `lent` says.
+use lent::Target;
 use located::Site;
 use messages::Decoded;
 use positions::Spot;
 use refusals::Refusal;
-use scan::Target;
 use track::Track;
 ghost use mathlib.Core.Path.{_≡_};
 ghost use Prim.Native.Nat.{_+_, _*_, _≤_, _<_};
@@ -24,7 +11,7 @@ ghost use mathlib.Core.Bool.{true, cond};
 ghost use lib.ListN.{length};
 ghost use Rattle.track.specs.Track.{newTrack, stepped};
 ghost use Rattle.place.specs.Place.{trackOf};
-ghost use Rattle.table.specs.Layout.{wholePlaces, siteOf, bodyAt};
+ghost use Rattle.lent.specs.Layout.{wholePlaces, siteOf, bodyAt};
 ghost use Rattle.table.specs.Table.{after, placed, delivered, received, setUp, setUpAt, lookedUp, keyOrEnd, nextAbove, clockIn, siteIn};
 
 pub enum SetUp {
@@ -64,10 +51,10 @@ pub enum Sited {
 pub fn set_up(table: &mut [u8]) -> SetUp
     ensures { λ r. ⌜ after r (now (table .exit)) ≡ setUp (now (table .entry)) ⌝ }
 {
-    if !layout::whole_places(table.len()) {
+    if !lent::whole_places(table.len()) {
         return SetUp::Refused(Refusal::Places);
     }
-    layout::clear(table);
+    lent::clear(table);
     SetUp::Done
 }
 
@@ -75,14 +62,14 @@ pub fn set_up(table: &mut [u8]) -> SetUp
 pub fn set_up_at(table: &mut [u8], site: Spot) -> SetUp
     ensures { λ r. ⌜ after r (now (table .exit)) ≡ setUpAt (now (table .entry)) site ⌝ }
 {
-    if !layout::whole_places(table.len()) {
+    if !lent::whole_places(table.len()) {
         return SetUp::Refused(Refusal::Places);
     }
-    if !layout::pole_to_pole(site.latitude) {
+    if !lent::pole_to_pole(site.latitude) {
         return SetUp::Refused(Refusal::Field);
     }
-    layout::clear(table);
-    layout::put_site(table, site);
+    lent::clear(table);
+    lent::put_site(table, site);
     SetUp::Done
 }
 
@@ -92,7 +79,7 @@ fn start_of(table: &[u8], n: usize, target: Target) -> Track
     ensures { λ r. ⌜ r ≡ cond (target .held) (trackOf (bodyAt (now (table .entry)) n (target .at))) newTrack ⌝ }
 {
     if target.held {
-        place::load(layout::body(table, n, target.at))
+        place::load(lent::body(table, n, target.at))
     } else {
         track::new_track()
     }
@@ -111,10 +98,10 @@ fn step_at(
     requires { ⌜ (n ≤ 1024) × ((i < n) × (16 + 79 * n ≤ length (now table))) ⌝ }
     ensures { λ r. ⌜ after r (now (table .exit)) ≡ placed (now (table .entry)) n i key (stepped t answer (siteOf (now (table .entry))) time) ⌝ }
 {
-    let site = layout::site_of(table);
+    let site = lent::site_of(table);
     let next = track::step(t, answer, site, time);
     let track = next.track;
-    layout::store(table, n, i, key, track);
+    lent::store(table, n, i, key, track);
     next.answer
 }
 
@@ -127,8 +114,8 @@ fn deliver(table: &mut [u8], answer: Decoded, time: u64) -> Decoded
         return answer;
     };
     let key = messages::key_of(m);
-    let n = layout::places_in(table);
-    let target = scan::target_of(table, n, time, key);
+    let n = lent::places_in(table);
+    let target = lent::target_of(table, n, time, key);
     if target.at < n {
         let t = start_of(table, n, target);
         return step_at(table, n, target.at, key, t, answer, time);
@@ -143,7 +130,7 @@ pub fn receive(table: &mut [u8], message: &[u8], time: u64) -> Decoded
     if message.len() != 14 {
         return Decoded::Refused(Refusal::Length);
     }
-    if !layout::whole_places(table.len()) {
+    if !lent::whole_places(table.len()) {
         return Decoded::Refused(Refusal::Places);
     }
     if time < words::get8(table, 0) {
@@ -157,18 +144,18 @@ pub fn receive(table: &mut [u8], message: &[u8], time: u64) -> Decoded
 pub fn look_up(table: &[u8], key: u32) -> Looked
     ensures { λ r. ⌜ r ≡ lookedUp (now (table .entry)) key ⌝ }
 {
-    if !layout::whole_places(table.len()) {
+    if !lent::whole_places(table.len()) {
         return Looked {
             answer: Holding::Refused(Refusal::Places),
             track: track::new_track(),
         };
     }
-    let n = layout::places_in(table);
-    let i = scan::find_key(table, n, words::get8(table, 0), key);
+    let n = lent::places_in(table);
+    let i = lent::find_key(table, n, words::get8(table, 0), key);
     if i < n {
         return Looked {
             answer: Holding::Held,
-            track: place::load(layout::body(table, n, i)),
+            track: place::load(lent::body(table, n, i)),
         };
     }
     Looked {
@@ -191,17 +178,17 @@ fn key_or_end(key: u32) -> NextKey
 pub fn next(table: &[u8], above: u32) -> NextKey
     ensures { λ r. ⌜ r ≡ nextAbove (now (table .entry)) above ⌝ }
 {
-    if !layout::whole_places(table.len()) {
+    if !lent::whole_places(table.len()) {
         return NextKey::Refused(Refusal::Places);
     }
-    let n = layout::places_in(table);
-    key_or_end(walk::smallest_above(table, n, words::get8(table, 0), above))
+    let n = lent::places_in(table);
+    key_or_end(lent::smallest_above(table, n, words::get8(table, 0), above))
 }
 
 pub fn clock_of(table: &[u8]) -> Clock
     ensures { λ r. ⌜ r ≡ clockIn (now (table .entry)) ⌝ }
 {
-    if layout::whole_places(table.len()) {
+    if lent::whole_places(table.len()) {
         Clock::At(words::get8(table, 0))
     } else {
         Clock::Refused(Refusal::Places)
@@ -211,8 +198,8 @@ pub fn clock_of(table: &[u8]) -> Clock
 pub fn site_of(table: &[u8]) -> Sited
     ensures { λ r. ⌜ r ≡ siteIn (now (table .entry)) ⌝ }
 {
-    if layout::whole_places(table.len()) {
-        Sited::Site(layout::site_of(table))
+    if lent::whole_places(table.len()) {
+        Sited::Site(lent::site_of(table))
     } else {
         Sited::Refused(Refusal::Places)
     }

@@ -25,11 +25,13 @@ use Rattle.place.specs.Place.{trackOf, bodyOf, Fits}
 use Rattle.place.proofs.BothWays.{read-fits}
 use Rattle.place.proofs.Steps.{new-fits, stepped-fits}
 use Rattle.table.specs.declared.Holding.the-variants as holding
-use Rattle.table.specs.Layout as layout
+use Rattle.lent.specs.Layout as layout
+use Rattle.lent.specs.Walk as walk
 use Rattle.table.specs.Table as table
-use Rattle.table.specs.Table.{lowest, keyOrEnd}
-use Rattle.table.proofs.Parts.{sized}
-use Rattle.table.proofs.Places as places
+use Rattle.table.specs.Table.{keyOrEnd}
+use Rattle.lent.specs.Scan.{lowest}
+use Rattle.lent.proofs.Parts.{sized}
+use Rattle.lent.proofs.Places as places
 use Rattle.table.proofs.Search.{alike, lowest-passes}
 use Rattle.slots.specs.declared.Place.{Place}
 use Rattle.slots.specs.declared.Head.{Head}
@@ -246,10 +248,10 @@ module _ (s : List ℕ) (head : Head) (ps : List Place) (a : Agree s head ps) wh
           → trackOf (layout.bodyAt s (layout.placesIn s) (table.placeOf s (layout.clockOf s) key)) ≡ getD ps (placeOf ps (head .clock) key) noPlace .track
       track-at key h = ap (λ (c : ℕ). trackOf (layout.bodyAt s (layout.placesIn s) (table.placeOf s c key))) (a .clock) ∙ own-track s head ps a key h
 
-  least-same : (above m : ℕ) → m ≤ length ps → table.smallest (layout.placeAt s (layout.placesIn s)) (head .clock) above m ≡ smallest ps (head .clock) above m
+  least-same : (above m : ℕ) → m ≤ length ps → walk.smallest (layout.placeAt s (layout.placesIn s)) (head .clock) above m ≡ smallest ps (head .clock) above m
   least-same above zero h = refl
   least-same above (suc m) h =
-      ap (λ (k : ℕ). table.better (head .clock) above k (layout.placeAt s (layout.placesIn s) m)) (least-same above m (omega arith))
+      ap (λ (k : ℕ). walk.better (head .clock) above k (layout.placeAt s (layout.placesIn s) m)) (least-same above m (omega arith))
       ∙ same-better (head .clock) above (smallest ps (head .clock) above m) (layout.placeAt s (layout.placesIn s) m) (getD ps m noPlace) (a .same m (omega arith))
 
   -- .. and so is the next key
@@ -258,6 +260,6 @@ module _ (s : List ℕ) (head : Head) (ps : List Place) (a : Agree s head ps) wh
   next-agrees above =
       chosen-alike _ _ _ _ (ap not (a .size)) (λ _. refl)
       (λ _. ap keyOrEnd
-      (ap (λ (c : ℕ). table.smallest (layout.placeAt s (layout.placesIn s)) c above (layout.placesIn s)) (a .clock)
-      ∙ ap (table.smallest (layout.placeAt s (layout.placesIn s)) (head .clock) above) (a .count)
+      (ap (λ (c : ℕ). walk.smallest (layout.placeAt s (layout.placesIn s)) c above (layout.placesIn s)) (a .clock)
+      ∙ ap (walk.smallest (layout.placeAt s (layout.placesIn s)) (head .clock) above) (a .count)
       ∙ least-same above (length ps) (le-refl (length ps))))

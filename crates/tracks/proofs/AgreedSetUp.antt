@@ -15,9 +15,9 @@ use Rattle.located.specs.declared.Site.{Site}
 use Rattle.words.proofs.Put.{put-length}
 use Rattle.table.specs.declared.SetUp.{SetUp}
 use Rattle.table.specs.declared.SetUp.the-variants as setting
-use Rattle.table.specs.Layout as layout
+use Rattle.lent.specs.Layout as layout
 use Rattle.table.specs.Table as table
-use Rattle.table.specs.Table.{lowest}
+use Rattle.lent.specs.Scan.{lowest}
 use Rattle.table.specs.View.{trackIn, viewAt, Fresh}
 use Rattle.table.proofs.Search.{none-passes}
 use Rattle.table.proofs.Laws.{set-up-table, set-up-at-table}

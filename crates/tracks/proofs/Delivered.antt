@@ -17,7 +17,7 @@ use Rattle.messages.specs.Message.{decoded, keyOf}
 use Rattle.track.specs.declared.Track.{Track}
 use Rattle.track.specs.Track.{newTrack, stepped}
 use Rattle.table.proofs.Search.{lowest-passes}
-use Rattle.table.specs.Table.{lowest}
+use Rattle.lent.specs.Scan.{lowest}
 use Rattle.slots.specs.declared.Place.{Place}
 use Rattle.slots.specs.declared.Head.{Head}
 use Rattle.slots.specs.declared.Received.{Received}

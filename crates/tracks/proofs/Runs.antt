@@ -11,7 +11,7 @@ use borrow.Author.Tests.{le-leb, leb-true, eq-eqb}
 use Rattle.fields.proofs.Bools.{each, both}
 use Rattle.located.specs.declared.Site.{Site}
 use Rattle.table.specs.declared.SetUp.the-variants as setting
-use Rattle.table.specs.Layout as layout
+use Rattle.lent.specs.Layout as layout
 use Rattle.table.specs.Table as table
 use Rattle.slots.specs.declared.Place.{Place}
 use Rattle.slots.specs.declared.Head.{Head}

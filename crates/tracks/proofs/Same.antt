@@ -16,8 +16,8 @@ use Rattle.words.specs.Bytes.{numberAt}
 use Rattle.place.specs.Place.{trackOf, bodyOf, Fits, FitsGroups, FitsSaved}
 use Rattle.held.specs.Ranges.{held}
 use Rattle.place.proofs.BothWays.{read-written, written-in-range, held-later}
-use Rattle.table.specs.Layout as layout
-use Rattle.table.specs.Table as table
+use Rattle.lent.specs.Layout as layout
+use Rattle.lent.specs.Walk as walk
 use Rattle.slots.specs.declared.Place.{Place}
 use Rattle.slots.specs.Ranges.{groupsFit, countsFit, trackFits, inRange, isHeld, holds}
 use Rattle.slots.specs.Decided.{better}
@@ -86,8 +86,8 @@ module _ (clock above best : ℕ) (b : layout.Place) (p : Place) (same : Same cl
       ap (λ (h : Bool). cond h (b .key) best) (ap (λ (h : Bool). passes (b .key) && h) (same .held ∙ e) ∙ and-false (passes (b .key)))
       ∙ sym (ap (λ (h : Bool). cond h (p .key) best) (ap (λ (h : Bool). passes (p .key) && h) e ∙ and-false (passes (p .key))))
 
-  pub same-better : table.better clock above best b ≡ better clock above best p
-  unfolding table.better better
+  pub same-better : walk.better clock above best b ≡ better clock above best p
+  unfolding walk.better better
   same-better = by-holding (isHeld clock p) refl
 
 -- ---- after a store

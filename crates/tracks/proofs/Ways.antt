@@ -15,7 +15,7 @@ use Rattle.table.specs.declared.SetUp.{SetUp}
 use Rattle.table.specs.declared.SetUp.the-variants as setting
 use Rattle.table.specs.declared.Holding.the-variants as holding
 use Rattle.table.specs.declared.NextKey.the-variants as key-after
-use Rattle.table.specs.Layout.{noSite}
+use Rattle.lent.specs.Layout.{noSite}
 use Rattle.table.specs.Table.{keyOrEnd}
 use Rattle.slots.specs.declared.Place.{Place}
 use Rattle.slots.specs.declared.Head.{Head}

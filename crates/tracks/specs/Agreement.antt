@@ -8,7 +8,7 @@ use Rattle.fields.specs.Bytes.{Bytes}
 use Rattle.place.specs.Place.{trackOf}
 use Rattle.table.specs.declared.SetUp.{SetUp}
 use Rattle.table.specs.declared.SetUp.the-variants.{Done}
-use Rattle.table.specs.Layout as layout
+use Rattle.lent.specs.Layout as layout
 use Rattle.table.specs.Table as table
 use Rattle.slots.specs.declared.Place.{Place}
 use Rattle.slots.specs.declared.Head.{Head}

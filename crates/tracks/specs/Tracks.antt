@@ -18,8 +18,9 @@ use Rattle.table.specs.declared.Holding.the-variants as holding
 use Rattle.table.specs.declared.Looked.{Looked}
 use Rattle.table.specs.declared.NextKey.{NextKey}
 use Rattle.table.specs.declared.NextKey.the-variants as next
-use Rattle.table.specs.Layout.{noSite}
-use Rattle.table.specs.Table.{lowest, keyOrEnd}
+use Rattle.lent.specs.Layout.{noSite}
+use Rattle.table.specs.Table.{keyOrEnd}
+use Rattle.lent.specs.Scan.{lowest}
 use Rattle.slots.specs.declared.Place.{Place}
 use Rattle.slots.specs.declared.Head.{Head}
 use Rattle.slots.specs.Ranges.{noPlace, isHeld, holds}

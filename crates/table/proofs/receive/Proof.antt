@@ -2,7 +2,7 @@
 -- Assumes nothing.
 use native.Mathlib.Omega.{arith}
 use Rattle.words.proofs.Put.{put-length}
-use Rattle.table.proofs.Parts.{sized, whole}
+use Rattle.lent.proofs.Parts.{sized, whole}
 use Rattle.table.proofs.Answers.{receive-length, receive-size, receive-late, receive-on}
 use borrow.Author.Needs.{needs}
 use Rattle.table.proofs.receive.Statement.{statement}

@@ -6,7 +6,7 @@ use mir.Syntax.{w32}
 use mathlib.Core.Path.{ap, sym, _∙_}
 use borrow.Author.Tests.{not-false}
 use Rattle.positions.specs.Positions.{poleToPole}
-use Rattle.table.proofs.Parts.{sized, whole}
+use Rattle.lent.proofs.Parts.{sized, whole}
 use Rattle.table.proofs.Answers.{site-size, site-pole, site-on}
 use borrow.Author.Needs.{needs}
 use Rattle.table.proofs.set_up_at.Statement.{statement}

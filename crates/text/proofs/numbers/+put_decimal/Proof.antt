@@ -6,7 +6,7 @@ use borrow.Author.Needs.{needs}
 use lib.ListN.{length, length-append}
 use Rattle.text.proofs.Buffer.{wrote-then, wrote-as}
 use Rattle.text.proofs.Digits.{decimal-small, decimal-large, decimal-most}
-use Prim.Native.Nat.{ℕ}
+use Prim.Native.Nat.{ℕ, _<_}
 use borrow.Fn.Kinds.{In}
 use borrow.Fn.PlainCycle.{Measures, is, falls, and}
 use Rattle.text.proofs.numbers.put_decimal.Reads as put-decimal

@@ -1,0 +1,16 @@
+-- `lent::layout::pole_to_pole` meets its contract: a latitude is from pole to pole by its number.
+-- Assumes nothing.
+use mir.Facts.{toZ-ofZ}
+use Rattle.lent.proofs.Parts.{pole-number}
+use borrow.Author.Needs.{needs}
+use Rattle.lent.proofs.layout.pole_to_pole.Statement.{statement}
+use Rattle.lent.proofs.layout.pole_to_pole.Tie as tie
+
+raise-requires : tie.Need-raise-requires
+raise-requires c κs = search needs
+
+returns : tie.Need-returns
+returns c = rw (c .raise .ensures, toZ-ofZ (c .before .fits .latitude)) (pole-number (c .before .args .latitude))
+
+pub pole-to-pole-spec : {M : Type 1} → statement M
+pole-to-pole-spec = tie.close (tie.spec raise-requires returns)

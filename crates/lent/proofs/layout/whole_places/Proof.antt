@@ -1,0 +1,13 @@
+-- `lent::layout::whole_places` meets its contract: it is the definition.
+-- Assumes nothing.
+use mathlib.Core.Path.{refl}
+use Rattle.lent.specs.Layout.{wholePlaces}
+use Rattle.lent.proofs.layout.whole_places.Statement.{statement}
+use Rattle.lent.proofs.layout.whole_places.Tie as tie
+
+returns : tie.Need-returns
+unfolding wholePlaces
+returns c = refl
+
+pub whole-places-spec : {M : Type 1} → statement M
+whole-places-spec = tie.close (tie.spec returns)
