@@ -12,9 +12,9 @@ use Rattle.encoder.specs.declared.Encoded.the-variants as encode
 use Rattle.encoder.specs.Encoded.{encoded, encodedBytes}
 use Rattle.messages.specs.Table.{Said, number, values}
 use Rattle.track.specs.declared.Track.{Track}
-use Rattle.table.specs.declared.Holding.{Holding}
-use Rattle.table.specs.declared.Holding.the-variants as holding
-use Rattle.table.specs.declared.Looked.{Looked}
+use Rattle.answers.specs.declared.Holding.{Holding}
+use Rattle.answers.specs.declared.Holding.the-variants as holding
+use Rattle.answers.specs.declared.Looked.{Looked}
 use Rattle.values.specs.From.{messageFrom}
 use Rattle.values.specs.Rows.{messageRow}
 use Rattle.values.specs.Tracks.{trackRow}

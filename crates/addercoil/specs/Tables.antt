@@ -9,14 +9,14 @@ use Rattle.messages.specs.declared.Decoded.{Decoded}
 use Rattle.messages.specs.declared.Decoded.the-variants as decode
 use Rattle.messages.specs.Table.{Said, number, values}
 use Rattle.located.specs.declared.Site.{Site}
-use Rattle.table.specs.declared.SetUp.{SetUp}
-use Rattle.table.specs.declared.SetUp.the-variants as setting
-use Rattle.table.specs.declared.NextKey.{NextKey}
-use Rattle.table.specs.declared.NextKey.the-variants as next
-use Rattle.table.specs.declared.Clock.{Clock}
-use Rattle.table.specs.declared.Clock.the-variants as clock
-use Rattle.table.specs.declared.Sited.{Sited}
-use Rattle.table.specs.declared.Sited.the-variants as sited
+use Rattle.answers.specs.declared.SetUp.{SetUp}
+use Rattle.answers.specs.declared.SetUp.the-variants as setting
+use Rattle.answers.specs.declared.NextKey.{NextKey}
+use Rattle.answers.specs.declared.NextKey.the-variants as next
+use Rattle.answers.specs.declared.Clock.{Clock}
+use Rattle.answers.specs.declared.Clock.the-variants as clock
+use Rattle.answers.specs.declared.Sited.{Sited}
+use Rattle.answers.specs.declared.Sited.the-variants as sited
 use Rattle.table.specs.Table.{After}
 use Rattle.addercoil.specs.Sent.{Sent, sent}
 

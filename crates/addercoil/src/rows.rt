@@ -1,8 +1,8 @@
 // A track and a message as rows of numbers, and a message back from its row.
 use crate::give::give;
+use answers::Holding;
 use encoder::Encoded;
 use messages::Decoded;
-use table::Holding;
 use track::Track;
 ghost use mathlib.Core.Path.{_≡_};
 ghost use Rattle.messages.specs.Message.{decoded};

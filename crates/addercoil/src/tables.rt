@@ -1,13 +1,13 @@
 // The lent table: set-up, a received message, the clock, the site, and the walk of its keys.
 use crate::give::bit;
 use crate::give::give;
+use answers::Clock;
+use answers::NextKey;
+use answers::SetUp;
+use answers::Sited;
 use located::Site;
 use messages::Decoded;
 use positions::Spot;
-use table::Clock;
-use table::NextKey;
-use table::SetUp;
-use table::Sited;
 ghost use mathlib.Core.Path.{_≡_};
 ghost use Rattle.table.specs.Table.{setUp, setUpAt, received, nextAbove, clockIn, siteIn};
 ghost use Rattle.addercoil.specs.Sent.{sent, given, into};

@@ -20,8 +20,8 @@ use Rattle.capture.specs.declared.Record.the-variants.{At, Ended}
 use Rattle.capture.proofs.Records.{record-at, message-at, message-ended}
 use Rattle.capture.proofs.Rules.{block-good, block-refused}
 use Rattle.lent.specs.Layout.{wholePlaces}
-use Rattle.table.specs.declared.Clock.{Clock}
-use Rattle.table.specs.declared.Clock.the-variants as clock
+use Rattle.answers.specs.declared.Clock.{Clock}
+use Rattle.answers.specs.declared.Clock.the-variants as clock
 use Rattle.table.specs.Table.{After, after, received, clockIn}
 use Rattle.feed.specs.declared.Fed.the-variants.{Bad, Refused}
 use Rattle.feed.specs.Feed.{recordsInto, blockInto, counted, blocksIn, blockAt, blocksInto, badIn, fed, fedBlock}

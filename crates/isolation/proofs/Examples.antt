@@ -23,7 +23,7 @@ use Rattle.words.specs.Bytes.{numberAt, lowBytes, put}
 use Rattle.place.specs.Place.{savedFrom, groupsIn, lowered, positionIn, trackOf, raised, marksOf, savedNumber, savedBytes, messageBytes, spotBytes, bodyOf}
 use Rattle.held.specs.Ranges.{inRange, held}
 use Rattle.lent.specs.Layout.{wholePlaces, siteFrom, keyAt, bodyAt, holds, moved, stored, emptied}
-use Rattle.table.specs.declared.SetUp.the-variants.{Done}
+use Rattle.answers.specs.declared.SetUp.the-variants.{Done}
 use Rattle.table.specs.Table.{setUp, placeOf, freePlace, delivered, received}
 use Rattle.table.specs.View.{viewAt}
 use Rattle.isolation.specs.Runs.{Call, own, Alike, Alike.end, Alike.its, Alike.others, Rule, call, NeverFull, Seen, seen, begun, Isolation}

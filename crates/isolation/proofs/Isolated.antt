@@ -13,8 +13,9 @@ use Rattle.messages.specs.declared.Decoded.{Decoded}
 use Rattle.messages.specs.declared.Decoded.the-variants as decode
 use Rattle.messages.specs.Message.{decoded}
 use Rattle.located.specs.declared.Site.{Site}
-use Rattle.lent.specs.Layout.{clockOf, noSite, siteOf}
-use Rattle.table.specs.declared.SetUp.the-variants.{Done}
+use Rattle.lent.specs.Layout.{clockOf, siteOf}
+use Rattle.located.specs.Located.{noSite}
+use Rattle.answers.specs.declared.SetUp.the-variants.{Done}
 use Rattle.table.specs.Table.{After, received}
 use Rattle.table.specs.View.{Table, Fresh}
 use Rattle.table.proofs.Laws.{table-after, site-after, set-up-table, set-up-at-table}

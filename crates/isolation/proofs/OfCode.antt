@@ -13,8 +13,8 @@ use Rattle.refusals.specs.declared.Refusal.the-variants.{Full}
 use Rattle.positions.specs.declared.Spot.{Spot}
 use Rattle.messages.specs.declared.Decoded.{Decoded}
 use Rattle.messages.specs.declared.Decoded.the-variants as decode
-use Rattle.table.specs.declared.SetUp.{SetUp}
-use Rattle.table.specs.declared.SetUp.the-variants.{Done}
+use Rattle.answers.specs.declared.SetUp.{SetUp}
+use Rattle.answers.specs.declared.SetUp.the-variants.{Done}
 use Rattle.table.specs.Table.{After, after, setUp, setUpAt, received}
 use Rattle.table.proofs.set_up.Kinds as set-up-kinds
 use Rattle.table.proofs.set_up.Reads as set-up

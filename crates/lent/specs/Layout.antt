@@ -1,12 +1,12 @@
 -- The bytes of a lent table of n places: a head of 16 bytes, a key of 4 bytes for each place, then a body of 75 bytes for each.
 use Prim.Native.Nat.{ℕ, _+_, _*_, _-_, _/_, _%_}
-use mathlib.Core.Bool.{Bool, true, false, cond, _&&_}
+use mathlib.Core.Bool.{Bool, true, cond, _&&_}
 use mathlib.Core.List.{List, _++_}
 use lib.Dec.{eqb, leb}
-use lib.IntN.{pos}
 use lib.ListN.{length, take, drop, replicate}
 use Rattle.positions.specs.declared.Spot.{Spot}
 use Rattle.located.specs.declared.Site.{Site}
+use Rattle.located.specs.Located.{noSite}
 use Rattle.track.specs.declared.Track.{Track}
 use Rattle.words.specs.Bytes.{numberAt, lowBytes, put}
 use Rattle.place.specs.Place.{lowered, raised, bodyOf}
@@ -23,9 +23,6 @@ placesIn s = (length s - 16) / 79
 
 abbrev pub clockOf : List ℕ → ℕ
 clockOf s = numberAt 8 s 0
-
-abbrev pub noSite : Site
-noSite = record { known = false; spot = record { latitude = pos 0; longitude = 0 } }
 
 -- 0 where there is none, else the latitude plus 2^30 + 1; a number above the north pole's is out of its range and counts as none
 unfoldable pub siteFrom : ℕ → ℕ → Site

@@ -10,7 +10,7 @@ ghost use lib.ListN.{length};
 ghost use Rattle.positions.specs.Positions.{poleToPole};
 ghost use Rattle.words.specs.Bytes.{lowBytes, put};
 ghost use Rattle.place.specs.Place.{raised};
-ghost use Rattle.lent.specs.Layout.{wholePlaces, placesIn, noSite, siteFrom, siteOf, bodyAt, stored, emptied};
+ghost use Rattle.lent.specs.Layout.{wholePlaces, placesIn, siteFrom, siteOf, bodyAt, stored, emptied};
 
 pub fn whole_places(l: usize) -> bool
     ensures { λ r. ⌜ r ≡ wholePlaces l ⌝ }
@@ -34,18 +34,6 @@ pub fn body(s: &[u8], n: usize, i: usize) -> &[u8]
     &s[at..at + 75]
 }
 
-fn no_site() -> Site
-    ensures { λ r. ⌜ r ≡ noSite ⌝ }
-{
-    Site {
-        known: false,
-        spot: Spot {
-            latitude: 0,
-            longitude: 0,
-        },
-    }
-}
-
 fn site_from(n: u32, longitude: u32) -> Site
     ensures { λ r. ⌜ r ≡ siteFrom n longitude ⌝ }
 {
@@ -58,7 +46,7 @@ fn site_from(n: u32, longitude: u32) -> Site
             },
         }
     } else {
-        no_site()
+        located::no_site()
     }
 }
 

@@ -8,7 +8,7 @@ use native.Mathlib.Omega.{arith}
 use lib.ListN.{length, length-append}
 use Rattle.refusals.specs.declared.Refusal.{Refusal}
 use Rattle.lent.specs.Layout.{wholePlaces, emptied}
-use Rattle.table.specs.declared.SetUp.{SetUp}
+use Rattle.answers.specs.declared.SetUp.{SetUp}
 use Rattle.table.specs.Table.{After, after, setUp}
 use Rattle.feed.specs.declared.Fed.the-variants.{Bad, Refused}
 use Rattle.feed.specs.Feed.{fed, fedBlock}

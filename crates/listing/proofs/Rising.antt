@@ -8,8 +8,8 @@ use native.Mathlib.Omega.{arith}
 use lib.ListN.{length}
 use Rattle.refusals.specs.declared.Refusal.the-variants.{Places}
 use Rattle.lent.specs.Layout.{wholePlaces}
-use Rattle.table.specs.declared.NextKey.{NextKey}
-use Rattle.table.specs.declared.NextKey.the-variants.{Key, Refused}
+use Rattle.answers.specs.declared.NextKey.{NextKey}
+use Rattle.answers.specs.declared.NextKey.the-variants.{Key, Refused}
 use Rattle.table.specs.Table.{nextAbove}
 use Rattle.table.specs.View.{Follows}
 use Rattle.table.proofs.KeyOrder.{next-follows}

@@ -1,8 +1,8 @@
 // Reads a capture on standard input to its end and prints the listing: 256 places, no site. It keeps one block at a time, so that memory does not grow with the capture.
+use answers::NextKey;
 use feed::Fed;
 use libc::STDIN_FILENO;
 use libc::STDOUT_FILENO;
-use table::NextKey;
 use text::Line;
 ghost use mathlib.Core.Path.{_≡_};
 ghost use lib.ListN.{length};

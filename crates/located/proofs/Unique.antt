@@ -4,6 +4,8 @@ use mathlib.Core.Path.{sym, _∙_}
 use Rattle.refusals.specs.Answers.{OneAnswer}
 use Rattle.located.proofs.no_position.Kinds as no-position-kinds
 use Rattle.located.proofs.no_position.Reads as no-position
+use Rattle.located.proofs.no_site.Kinds as no-site-kinds
+use Rattle.located.proofs.no_site.Reads as no-site
 use Rattle.located.proofs.format_of.Kinds as format-of-kinds
 use Rattle.located.proofs.format_of.Reads as format-of
 use Rattle.located.proofs.airborne_position.Kinds as airborne-position-kinds
@@ -13,6 +15,9 @@ use Rattle.located.proofs.surface_position.Reads as surface-position
 
 pub no-position-once : OneAnswer 0 no-position-kinds.ps no-position-kinds.r no-position.Post
 no-position-once κs args x y left left′ p q = p ∙ sym q
+
+pub no-site-once : OneAnswer 0 no-site-kinds.ps no-site-kinds.r no-site.Post
+no-site-once κs args x y left left′ p q = p ∙ sym q
 
 pub format-of-once : OneAnswer 0 format-of-kinds.ps format-of-kinds.r format-of.Post
 format-of-once κs args x y left left′ p q = p ∙ sym q

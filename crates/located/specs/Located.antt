@@ -19,6 +19,9 @@ use Rattle.located.specs.declared.Site.{Site}
 abbrev pub noPosition : Position
 noPosition = record { known = false; spot = record { latitude = pos 0; longitude = 0 }; time = 0 }
 
+abbrev pub noSite : Site
+noSite = record { known = false; spot = record { latitude = pos 0; longitude = 0 } }
+
 -- F is 0 for even, 1 for odd
 abbrev pub formatOf : ℕ → Format
 formatOf f = cond (eqb f 0) Even Odd

@@ -5,7 +5,7 @@ use positions::Found;
 use positions::Spot;
 use positions::Turn;
 ghost use mathlib.Core.Path.{_≡_};
-ghost use Rattle.located.specs.Located.{noPosition, formatOf, isWithin, isFresh, foundAt, settled, readNear, readSingly, afterPair, pairedWith, airbornePosition, surfacePosition};
+ghost use Rattle.located.specs.Located.{noPosition, noSite, formatOf, isWithin, isFresh, foundAt, settled, readNear, readSingly, afterPair, pairedWith, airbornePosition, surfacePosition};
 
 // An encoded position, airborne, with its time.
 pub struct Saved {
@@ -36,6 +36,18 @@ pub fn no_position() -> Position
             longitude: 0,
         },
         time: 0,
+    }
+}
+
+pub fn no_site() -> Site
+    ensures { λ r. ⌜ r ≡ noSite ⌝ }
+{
+    Site {
+        known: false,
+        spot: Spot {
+            latitude: 0,
+            longitude: 0,
+        },
     }
 }
 

@@ -11,8 +11,8 @@ use lib.ListN.{length}
 use Rattle.track.specs.declared.Track.{Track}
 use Rattle.text.specs.Lines.{rowText}
 use Rattle.lent.specs.Layout.{wholePlaces}
-use Rattle.table.specs.declared.NextKey.{NextKey}
-use Rattle.table.specs.declared.NextKey.the-variants as next
+use Rattle.answers.specs.declared.NextKey.{NextKey}
+use Rattle.answers.specs.declared.NextKey.the-variants as next
 use Rattle.table.specs.Table.{nextAbove}
 use Rattle.table.specs.View.{view, Follows}
 use Rattle.table.proofs.KeyOrder.{next-follows}

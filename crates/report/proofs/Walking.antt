@@ -9,8 +9,8 @@ use lib.ListN.{length}
 use Rattle.text.specs.Lines.{rowText, textIn}
 use Rattle.text.proofs.Fits.{line-text}
 use Rattle.lent.specs.Layout.{wholePlaces}
-use Rattle.table.specs.declared.NextKey.{NextKey}
-use Rattle.table.specs.declared.NextKey.the-variants as next
+use Rattle.answers.specs.declared.NextKey.{NextKey}
+use Rattle.answers.specs.declared.NextKey.the-variants as next
 use Rattle.table.specs.Table.{nextAbove}
 use Rattle.table.specs.View.{Follows}
 use Rattle.table.proofs.KeyOrder.{next-follows}

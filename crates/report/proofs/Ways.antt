@@ -16,11 +16,11 @@ use Rattle.text.specs.declared.Line.{Line}
 use Rattle.text.specs.declared.Row.{Row}
 use Rattle.text.specs.Lines.{headerText, rowText, lineOf}
 use Rattle.lent.specs.Layout.{wholePlaces, placesIn, clockOf, bodyAt}
-use Rattle.table.specs.declared.Clock.{Clock}
-use Rattle.table.specs.declared.Clock.the-variants as clock
-use Rattle.table.specs.declared.Holding.{Holding}
-use Rattle.table.specs.declared.Holding.the-variants as holding
-use Rattle.table.specs.declared.Looked.{Looked}
+use Rattle.answers.specs.declared.Clock.{Clock}
+use Rattle.answers.specs.declared.Clock.the-variants as clock
+use Rattle.answers.specs.declared.Holding.{Holding}
+use Rattle.answers.specs.declared.Holding.the-variants as holding
+use Rattle.answers.specs.declared.Looked.{Looked}
 use Rattle.table.specs.Table.{placeOf, lookedUp, clockIn}
 use Rattle.table.specs.View.{places, trackIn, viewAt}
 use Rattle.report.specs.declared.Printed.the-variants.{Text, Refused, Nothing}

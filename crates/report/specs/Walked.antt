@@ -3,8 +3,8 @@ use Prim.Native.Nat.{ℕ, suc}
 use mathlib.Core.Path.{_≡_}
 use mathlib.Core.List.{List, [], _++_}
 use Rattle.text.specs.Lines.{textIn}
-use Rattle.table.specs.declared.NextKey.{NextKey}
-use Rattle.table.specs.declared.NextKey.the-variants.{Key, End, Refused}
+use Rattle.answers.specs.declared.NextKey.{NextKey}
+use Rattle.answers.specs.declared.NextKey.the-variants.{Key, End, Refused}
 use Rattle.table.specs.Table.{nextAbove}
 use Rattle.report.specs.Listing.{lineIn}
 

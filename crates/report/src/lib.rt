@@ -1,10 +1,10 @@
 // The listing of a lent table, line by line: the header with its counts, and the line of a key. A caller walks the keys by `table::next`.
 mod rows;
 
+use answers::Clock;
+use answers::Holding;
+use answers::NextKey;
 use refusals::Refusal;
-use table::Clock;
-use table::Holding;
-use table::NextKey;
 use text::Line;
 ghost use mathlib.Core.Path.{_≡_};
 ghost use mathlib.Core.Bool.{true};

@@ -38,8 +38,6 @@ use Rattle.slots.proofs.not_looked.Kinds as not-looked-kinds
 use Rattle.slots.proofs.not_looked.Reads as not-looked
 use Rattle.slots.proofs.better_of.Kinds as better-of-kinds
 use Rattle.slots.proofs.better_of.Reads as better-of
-use Rattle.slots.proofs.key_or_end.Kinds as key-or-end-kinds
-use Rattle.slots.proofs.key_or_end.Reads as key-or-end
 use Rattle.slots.proofs.no_next.Kinds as no-next-kinds
 use Rattle.slots.proofs.no_next.Reads as no-next
 
@@ -96,9 +94,6 @@ not-looked-once κs args x y left left′ p q = p ∙ sym q
 
 pub better-of-once : OneAnswer 0 better-of-kinds.ps better-of-kinds.r better-of.Post
 better-of-once κs args x y left left′ p q = p ∙ sym q
-
-pub key-or-end-once : OneAnswer 0 key-or-end-kinds.ps key-or-end-kinds.r key-or-end.Post
-key-or-end-once κs args x y left left′ p q = p ∙ sym q
 
 pub no-next-once : OneAnswer 0 no-next-kinds.ps no-next-kinds.r no-next.Post
 no-next-once κs args x y left left′ p q = p ∙ sym q

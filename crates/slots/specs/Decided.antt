@@ -14,11 +14,11 @@ use Rattle.located.specs.declared.Site.{Site}
 use Rattle.track.specs.declared.Stepped.{Stepped}
 use Rattle.track.specs.declared.Track.{Track}
 use Rattle.track.specs.Track.{newTrack, stepped}
-use Rattle.table.specs.declared.SetUp.{SetUp}
-use Rattle.table.specs.declared.SetUp.the-variants as setting
-use Rattle.table.specs.declared.Holding.{Holding}
-use Rattle.table.specs.declared.Looked.{Looked}
-use Rattle.lent.specs.Layout.{noSite}
+use Rattle.answers.specs.declared.SetUp.{SetUp}
+use Rattle.answers.specs.declared.SetUp.the-variants as setting
+use Rattle.answers.specs.declared.Holding.{Holding}
+use Rattle.answers.specs.declared.Looked.{Looked}
+use Rattle.located.specs.Located.{noSite}
 use Rattle.slots.specs.declared.Place.{Place}
 use Rattle.slots.specs.declared.Head.{Head}
 use Rattle.slots.specs.declared.Received.{Received}

@@ -4,7 +4,7 @@ use mathlib.Core.Bool.{Bool, cond, _&&_}
 use lib.Dec.{leb}
 use Rattle.positions.specs.Positions.{poleToPole}
 use Rattle.located.specs.declared.Site.{Site}
-use Rattle.lent.specs.Layout.{noSite}
+use Rattle.located.specs.Located.{noSite}
 use Rattle.slots.specs.declared.Head.{Head}
 
 -- 1 to 1,024 places

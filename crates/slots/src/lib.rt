@@ -11,24 +11,21 @@
 // A place with any value out of its range is free. A site whose latitude is out of its range counts as none.
 mod ranges;
 
+use answers::Holding;
+use answers::Looked;
+use answers::NextKey;
+use answers::SetUp;
 use located::Site;
 use messages::Decoded;
-use positions::Spot;
 pub use ranges::has_key;
 pub use ranges::is_held;
 use refusals::Refusal;
-use table::Holding;
-use table::Looked;
-use table::NextKey;
-use table::SetUp;
 use track::Track;
 ghost use mathlib.Core.Path.{_≡_};
 ghost use mathlib.Core.Bool.{not};
 ghost use Rattle.track.specs.Track.{newTrack};
-ghost use Rattle.table.specs.declared.Holding.the-variants as holding;
-ghost use Rattle.table.specs.declared.NextKey.the-variants as next;
-ghost use Rattle.lent.specs.Layout.{noSite};
-ghost use Rattle.table.specs.Table.{keyOrEnd};
+ghost use Rattle.answers.specs.declared.Holding.the-variants as holding;
+ghost use Rattle.answers.specs.declared.NextKey.the-variants as next;
 ghost use Rattle.refusals.specs.declared.Refusal.the-variants.{Full, Places};
 ghost use Rattle.slots.specs.Ranges.{noPlace};
 ghost use Rattle.slots.specs.Head.{placesFit, siteOf};
@@ -91,18 +88,6 @@ pub fn misfits(n: usize) -> bool
     !places_fit(n)
 }
 
-fn no_site() -> Site
-    ensures { λ r. ⌜ r ≡ noSite ⌝ }
-{
-    Site {
-        known: false,
-        spot: Spot {
-            latitude: 0,
-            longitude: 0,
-        },
-    }
-}
-
 fn site_of(head: Head) -> Site
     ensures { λ r. ⌜ r ≡ siteOf head ⌝ }
 {
@@ -111,7 +96,7 @@ fn site_of(head: Head) -> Site
     if site.known & ranges::pole_to_pole(spot) {
         site
     } else {
-        no_site()
+        located::no_site()
     }
 }
 
@@ -243,7 +228,7 @@ fn not_started(refusal: Refusal) -> Started
         answer: SetUp::Refused(refusal),
         head: Head {
             clock: 0,
-            site: no_site(),
+            site: located::no_site(),
         },
     }
 }
@@ -317,16 +302,6 @@ pub fn better_of(best: u32, p: Place, s: Sought) -> u32
         }
     }
     best
-}
-
-pub fn key_or_end(key: u32) -> NextKey
-    ensures { λ r. ⌜ r ≡ keyOrEnd key ⌝ }
-{
-    if key == 0 {
-        NextKey::End
-    } else {
-        NextKey::Key(key)
-    }
 }
 
 pub fn no_next() -> NextKey

@@ -26,13 +26,14 @@ use Rattle.lent.specs.declared.scan.Target.{Target}
 use Rattle.lent.specs.Layout.{wholePlaces, placesIn, clockOf, siteOf, bodyAt, placeAt, isHeld, holds, moved, stored, emptied, emptiedAt}
 use Rattle.lent.specs.Scan.{lowest, targetOf}
 use Rattle.lent.specs.Walk.{smallest}
-use Rattle.table.specs.declared.SetUp.the-variants as setting
-use Rattle.table.specs.declared.Holding.the-variants as holding
-use Rattle.table.specs.declared.NextKey.{NextKey}
-use Rattle.table.specs.declared.NextKey.the-variants as next
-use Rattle.table.specs.declared.Clock.the-variants as clock
-use Rattle.table.specs.declared.Sited.the-variants as sited
-use Rattle.table.specs.Table.{After, after, setUp, setUpAt, placeOf, freePlace, placed, delivered, received, lookedUp, keyOrEnd, nextAbove, clockIn, siteIn}
+use Rattle.answers.specs.declared.SetUp.the-variants as setting
+use Rattle.answers.specs.declared.Holding.the-variants as holding
+use Rattle.answers.specs.declared.NextKey.{NextKey}
+use Rattle.answers.specs.declared.NextKey.the-variants as next
+use Rattle.answers.specs.declared.Clock.the-variants as clock
+use Rattle.answers.specs.declared.Sited.the-variants as sited
+use Rattle.table.specs.Table.{After, after, setUp, setUpAt, placeOf, freePlace, placed, delivered, received, lookedUp, nextAbove, clockIn, siteIn}
+use Rattle.answers.specs.Keys.{keyOrEnd}
 
 -- ---- a message reaches the table
 

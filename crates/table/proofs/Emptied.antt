@@ -20,7 +20,8 @@ use Rattle.place.specs.Place.{raised}
 use Rattle.held.specs.Ranges.{inRange, held}
 use Rattle.place.proofs.Latitudes.{raised-small, lowered-raised}
 use Rattle.words.proofs.Put.{put-length, put-append}
-use Rattle.lent.specs.Layout.{wholePlaces, placesIn, clockOf, noSite, siteFrom, siteOf, keyAt, holds, emptied, emptiedAt}
+use Rattle.lent.specs.Layout.{wholePlaces, placesIn, clockOf, siteFrom, siteOf, keyAt, holds, emptied, emptiedAt}
+use Rattle.located.specs.Located.{noSite}
 use Rattle.lent.proofs.Stores.{byte-out, number-agree, number-there, put-bytes, append-bytes, low-bytes}
 use Rattle.table.specs.View.{places, trackIn, viewAt, Fresh}
 use Rattle.table.proofs.Search.{fails, look-miss}

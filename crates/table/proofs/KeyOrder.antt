@@ -13,9 +13,10 @@ use borrow.Author.Tests.{ltb-true, ltb-false, eqb-true, eqb-false, eq-eqb}
 use Rattle.fields.proofs.Bools.{and-left, and-right, both}
 use Rattle.lent.specs.Layout.{wholePlaces, placesIn, clockOf, Place, placeAt, isHeld, holds}
 use Rattle.lent.specs.Walk.{better, smallest}
-use Rattle.table.specs.declared.NextKey.the-variants as next
+use Rattle.answers.specs.declared.NextKey.the-variants as next
 use Rattle.table.specs.View.{HeldKey, Follows}
-use Rattle.table.specs.Table.{keyOrEnd, nextAbove}
+use Rattle.table.specs.Table.{nextAbove}
+use Rattle.answers.specs.Keys.{keyOrEnd}
 
 -- ---- the smallest key of places
 

@@ -26,12 +26,13 @@ use Rattle.located.specs.declared.Site.{Site}
 use Rattle.track.specs.declared.Track.{Track}
 use Rattle.track.specs.Track.{newTrack, stepBody}
 use Rattle.place.specs.Place.{trackOf}
-use Rattle.lent.specs.Layout.{wholePlaces, placesIn, clockOf, noSite, siteOf, bodyAt, holds, moved, stored}
+use Rattle.lent.specs.Layout.{wholePlaces, placesIn, clockOf, siteOf, bodyAt, holds, moved, stored}
+use Rattle.located.specs.Located.{noSite}
 use Rattle.lent.specs.Scan.{lowest}
 use Rattle.lent.proofs.Places.{moved-length, moved-clock, moved-site, moved-bytes, stored-length, stored-clock, stored-site, stored-bytes}
-use Rattle.table.specs.declared.SetUp.{SetUp}
-use Rattle.table.specs.declared.SetUp.the-variants as setting
-use Rattle.table.specs.declared.Holding.the-variants as holding
+use Rattle.answers.specs.declared.SetUp.{SetUp}
+use Rattle.answers.specs.declared.SetUp.the-variants as setting
+use Rattle.answers.specs.declared.Holding.the-variants as holding
 use Rattle.table.specs.Table.{After, setUp, setUpAt, placeOf, delivered, received, lookedUp}
 use Rattle.table.specs.View.{places, trackIn, viewAt, view, lookedAs, laterAt, orNew, Once, Table, Fresh, AllTaken, NoRoom, Early, Undecoded}
 use Rattle.table.proofs.Search.{clash, alike}

@@ -19,11 +19,11 @@ use Rattle.located.specs.declared.Site.{Site}
 use Rattle.track.specs.declared.Track.{Track}
 use Rattle.lent.specs.Layout.{wholePlaces, placesIn, clockOf, siteOf, emptied, emptiedAt}
 use Rattle.lent.specs.Walk.{smallest}
-use Rattle.table.specs.declared.SetUp.{SetUp}
-use Rattle.table.specs.declared.SetUp.the-variants as setting
-use Rattle.table.specs.declared.NextKey.the-variants as following
-use Rattle.table.specs.declared.Clock.the-variants as clocked
-use Rattle.table.specs.declared.Sited.the-variants as sited
+use Rattle.answers.specs.declared.SetUp.{SetUp}
+use Rattle.answers.specs.declared.SetUp.the-variants as setting
+use Rattle.answers.specs.declared.NextKey.the-variants as following
+use Rattle.answers.specs.declared.Clock.the-variants as clocked
+use Rattle.answers.specs.declared.Sited.the-variants as sited
 use Rattle.table.specs.Table.{After, after, setUp, setUpAt, lookedUp, nextAbove, clockIn, siteIn}
 use Rattle.table.specs.View.{places, view, lookedAs}
 use Rattle.table.specs.Said.{

@@ -3,7 +3,7 @@
 use mathlib.Core.Path.{sym, _∙_}
 use Rattle.refusals.specs.Answers.{OneAnswer, OneOutcome}
 use Rattle.messages.specs.declared.Decoded.{Decoded}
-use Rattle.table.specs.declared.SetUp.{SetUp}
+use Rattle.answers.specs.declared.SetUp.{SetUp}
 use Rattle.table.specs.Table.{After, after}
 use Rattle.table.proofs.set_up.Kinds as set-up-kinds
 use Rattle.table.proofs.set_up.Reads as set-up

@@ -16,17 +16,17 @@ use Rattle.located.specs.declared.Site.{Site}
 use Rattle.track.specs.declared.Track.{Track}
 use Rattle.lent.specs.Layout.{wholePlaces, placesIn, clockOf}
 use Rattle.lent.specs.Walk.{smallest}
-use Rattle.table.specs.declared.SetUp.{SetUp}
-use Rattle.table.specs.declared.SetUp.the-variants as setting
-use Rattle.table.specs.declared.Holding.{Holding}
-use Rattle.table.specs.declared.Holding.the-variants as holding
-use Rattle.table.specs.declared.Looked.{Looked}
-use Rattle.table.specs.declared.NextKey.{NextKey}
-use Rattle.table.specs.declared.NextKey.the-variants as next
-use Rattle.table.specs.declared.Clock.{Clock}
-use Rattle.table.specs.declared.Clock.the-variants as clocked
-use Rattle.table.specs.declared.Sited.{Sited}
-use Rattle.table.specs.declared.Sited.the-variants as sited
+use Rattle.answers.specs.declared.SetUp.{SetUp}
+use Rattle.answers.specs.declared.SetUp.the-variants as setting
+use Rattle.answers.specs.declared.Holding.{Holding}
+use Rattle.answers.specs.declared.Holding.the-variants as holding
+use Rattle.answers.specs.declared.Looked.{Looked}
+use Rattle.answers.specs.declared.NextKey.{NextKey}
+use Rattle.answers.specs.declared.NextKey.the-variants as next
+use Rattle.answers.specs.declared.Clock.{Clock}
+use Rattle.answers.specs.declared.Clock.the-variants as clocked
+use Rattle.answers.specs.declared.Sited.{Sited}
+use Rattle.answers.specs.declared.Sited.the-variants as sited
 use Rattle.table.specs.Table.{placeOf, freePlace}
 use Rattle.table.specs.View.{places}
 

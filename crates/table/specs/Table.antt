@@ -16,16 +16,17 @@ use Rattle.place.specs.Place.{trackOf}
 use Rattle.lent.specs.Layout.{wholePlaces, placesIn, clockOf, siteOf, bodyAt, placeAt, isHeld, holds, moved, stored, emptied, emptiedAt}
 use Rattle.lent.specs.Scan.{lowest}
 use Rattle.lent.specs.Walk.{smallest}
-use Rattle.table.specs.declared.SetUp.{SetUp}
-use Rattle.table.specs.declared.SetUp.the-variants as setting
-use Rattle.table.specs.declared.Holding.the-variants as holding
-use Rattle.table.specs.declared.Looked.{Looked}
-use Rattle.table.specs.declared.NextKey.{NextKey}
-use Rattle.table.specs.declared.NextKey.the-variants as next
-use Rattle.table.specs.declared.Clock.{Clock}
-use Rattle.table.specs.declared.Clock.the-variants as clock
-use Rattle.table.specs.declared.Sited.{Sited}
-use Rattle.table.specs.declared.Sited.the-variants as sited
+use Rattle.answers.specs.declared.SetUp.{SetUp}
+use Rattle.answers.specs.declared.SetUp.the-variants as setting
+use Rattle.answers.specs.declared.Holding.the-variants as holding
+use Rattle.answers.specs.declared.Looked.{Looked}
+use Rattle.answers.specs.declared.NextKey.{NextKey}
+use Rattle.answers.specs.declared.NextKey.the-variants as next
+use Rattle.answers.specs.Keys.{keyOrEnd}
+use Rattle.answers.specs.declared.Clock.{Clock}
+use Rattle.answers.specs.declared.Clock.the-variants as clock
+use Rattle.answers.specs.declared.Sited.{Sited}
+use Rattle.answers.specs.declared.Sited.the-variants as sited
 
 -- what a call answers, and the table that it leaves
 pub record After (A : Type 0) : Type 0 where
@@ -88,9 +89,6 @@ lookedUp s key =
     (cond (ltb (placeOf s (clockOf s) key) (placesIn s))
     (record { answer = holding.Held; track = trackOf (bodyAt s (placesIn s) (placeOf s (clockOf s) key)) })
     (record { answer = holding.Unheld; track = newTrack }))
-
-abbrev pub keyOrEnd : ℕ → NextKey
-keyOrEnd key = cond (eqb key 0) next.End (next.Key key)
 
 unfoldable pub nextAbove : List ℕ → ℕ → NextKey
 nextAbove s above =

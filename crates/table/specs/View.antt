@@ -19,10 +19,10 @@ use Rattle.track.specs.Track.{newTrack}
 use Rattle.place.specs.Place.{trackOf}
 use Rattle.lent.specs.Layout.{Place, wholePlaces, placesIn, clockOf, siteOf, placeAt, isHeld, holds}
 use Rattle.lent.specs.Scan.{lowest}
-use Rattle.table.specs.declared.Holding.the-variants as holding
-use Rattle.table.specs.declared.Looked.{Looked}
-use Rattle.table.specs.declared.NextKey.{NextKey}
-use Rattle.table.specs.declared.NextKey.the-variants as next
+use Rattle.answers.specs.declared.Holding.the-variants as holding
+use Rattle.answers.specs.declared.Looked.{Looked}
+use Rattle.answers.specs.declared.NextKey.{NextKey}
+use Rattle.answers.specs.declared.NextKey.the-variants as next
 
 -- the places of a table
 abbrev pub places : List ℕ → ℕ → Place

@@ -1,6 +1,11 @@
 // The lent table: 1 to 1,024 places in bytes that the caller lends, laid out as `lent` says.
+use answers::Clock;
+use answers::Holding;
+use answers::Looked;
+use answers::NextKey;
+use answers::SetUp;
+use answers::Sited;
 use lent::Target;
-use located::Site;
 use messages::Decoded;
 use positions::Spot;
 use refusals::Refusal;
@@ -12,40 +17,7 @@ ghost use lib.ListN.{length};
 ghost use Rattle.track.specs.Track.{newTrack, stepped};
 ghost use Rattle.place.specs.Place.{trackOf};
 ghost use Rattle.lent.specs.Layout.{wholePlaces, siteOf, bodyAt};
-ghost use Rattle.table.specs.Table.{after, placed, delivered, received, setUp, setUpAt, lookedUp, keyOrEnd, nextAbove, clockIn, siteIn};
-
-pub enum SetUp {
-    Done,
-    Refused(Refusal),
-}
-
-pub enum Holding {
-    Held,
-    Unheld,
-    Refused(Refusal),
-}
-
-// Whether a key is held, and its track; where it is not, one that has heard nothing.
-pub struct Looked {
-    pub answer: Holding,
-    pub track: Track,
-}
-
-pub enum NextKey {
-    Key(u32),
-    End,
-    Refused(Refusal),
-}
-
-pub enum Clock {
-    At(u64),
-    Refused(Refusal),
-}
-
-pub enum Sited {
-    Site(Site),
-    Refused(Refusal),
-}
+ghost use Rattle.table.specs.Table.{after, placed, delivered, received, setUp, setUpAt, lookedUp, nextAbove, clockIn, siteIn};
 
 // Empties the table: no track, no site, clock 0.
 pub fn set_up(table: &mut [u8]) -> SetUp
@@ -164,16 +136,6 @@ pub fn look_up(table: &[u8], key: u32) -> Looked
     }
 }
 
-fn key_or_end(key: u32) -> NextKey
-    ensures { λ r. ⌜ r ≡ keyOrEnd key ⌝ }
-{
-    if key == 0 {
-        NextKey::End
-    } else {
-        NextKey::Key(key)
-    }
-}
-
 // The smallest key held above a given one: from 0 on, this walks the table in the order of its keys.
 pub fn next(table: &[u8], above: u32) -> NextKey
     ensures { λ r. ⌜ r ≡ nextAbove (now (table .entry)) above ⌝ }
@@ -182,7 +144,7 @@ pub fn next(table: &[u8], above: u32) -> NextKey
         return NextKey::Refused(Refusal::Places);
     }
     let n = lent::places_in(table);
-    key_or_end(lent::smallest_above(table, n, words::get8(table, 0), above))
+    answers::key_or_end(lent::smallest_above(table, n, words::get8(table, 0), above))
 }
 
 pub fn clock_of(table: &[u8]) -> Clock

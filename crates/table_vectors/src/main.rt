@@ -5,6 +5,11 @@
 //   P offset count bytes: other bytes in the buffer. R time count bytes: receive. K key: look up. N key: the next key.
 //   W: the clock, the site and each key with its track. B: the parity remainder of the whole table.
 // `reference/vectors/bench.py` has what each writes.
+use answers::Clock;
+use answers::Holding;
+use answers::NextKey;
+use answers::SetUp;
+use answers::Sited;
 use encoder::Encoded;
 use libc::STDIN_FILENO;
 use libc::STDOUT_FILENO;
@@ -15,11 +20,6 @@ use messages::Decoded;
 use messages::Message;
 use positions::Spot;
 use refusals::Refusal;
-use table::Clock;
-use table::Holding;
-use table::NextKey;
-use table::SetUp;
-use table::Sited;
 use track::Groups;
 use track::Track;
 

@@ -24,11 +24,11 @@ use Rattle.track.specs.Track.{newTrack, stepped}
 use Rattle.place.specs.Place.{trackOf, bodyOf, Fits}
 use Rattle.place.proofs.BothWays.{read-fits}
 use Rattle.place.proofs.Steps.{new-fits, stepped-fits}
-use Rattle.table.specs.declared.Holding.the-variants as holding
+use Rattle.answers.specs.declared.Holding.the-variants as holding
 use Rattle.lent.specs.Layout as layout
 use Rattle.lent.specs.Walk as walk
 use Rattle.table.specs.Table as table
-use Rattle.table.specs.Table.{keyOrEnd}
+use Rattle.answers.specs.Keys.{keyOrEnd}
 use Rattle.lent.specs.Scan.{lowest}
 use Rattle.lent.proofs.Parts.{sized}
 use Rattle.lent.proofs.Places as places

@@ -13,8 +13,9 @@ use Rattle.refusals.specs.declared.Refusal.the-variants.{Places, Field}
 use Rattle.positions.specs.Positions.{poleToPole}
 use Rattle.located.specs.declared.Site.{Site}
 use Rattle.words.proofs.Put.{put-length}
-use Rattle.table.specs.declared.SetUp.{SetUp}
-use Rattle.table.specs.declared.SetUp.the-variants as setting
+use Rattle.answers.specs.declared.SetUp.{SetUp}
+use Rattle.answers.specs.declared.SetUp.the-variants as setting
+use Rattle.located.specs.Located.{noSite}
 use Rattle.lent.specs.Layout as layout
 use Rattle.table.specs.Table as table
 use Rattle.lent.specs.Scan.{lowest}
@@ -89,11 +90,11 @@ module _ (s : List ℕ) (ps : List Place) (site : Site) (size : layout.wholePlac
 
   -- of the slice
 
-  set-misfit : placesFit (length ps) ≡ false → setUp ps site ≡ after (setting.Refused Places) (headOf 0 layout.noSite) ps
+  set-misfit : placesFit (length ps) ≡ false → setUp ps site ≡ after (setting.Refused Places) (headOf 0 noSite) ps
   unfolding setUp
   set-misfit f = rw f
 
-  set-wrong : placesFit (length ps) ≡ true → wrong ≡ true → setUp ps site ≡ after (setting.Refused Field) (headOf 0 layout.noSite) ps
+  set-wrong : placesFit (length ps) ≡ true → wrong ≡ true → setUp ps site ≡ after (setting.Refused Field) (headOf 0 noSite) ps
   unfolding setUp
   set-wrong f w = rw (f, w)
 
@@ -136,7 +137,7 @@ module _ (s : List ℕ) (ps : List Place) (site : Site) (size : layout.wholePlac
   unfolding layout.emptiedAt
   emptied-at-count = ap (λ (l : ℕ). (l - 16) / 79) (put-length (layout.emptied s) 8 _) ∙ emptied-count
 
-  siteless : site .known ≡ false → siteOf (headOf 0 site) ≡ layout.noSite
+  siteless : site .known ≡ false → siteOf (headOf 0 site) ≡ noSite
   unfolding siteOf
   siteless e = rw e
 
@@ -161,7 +162,7 @@ module _ (s : List ℕ) (ps : List Place) (site : Site) (size : layout.wholePlac
       by-size true f =
           let e = bytes-done f in
           done-alike f (table.setUp s) (layout.emptied s) e (ap (λ (b : Bool). b && not (poleToPole (site .spot .latitude))) k) emptied-count
-          (subst (λ (y : Site). Fresh y (layout.emptied s)) (sym (siteless k)) (subst (λ (y : table.After SetUp). Fresh layout.noSite (y .table)) e (set-up-table s (ap (λ (y : table.After SetUp). y .answer) e))))
+          (subst (λ (y : Site). Fresh y (layout.emptied s)) (sym (siteless k)) (subst (λ (y : table.After SetUp). Fresh noSite (y .table)) e (set-up-table s (ap (λ (y : table.After SetUp). y .answer) e))))
 
   -- with one
   pub set-up-at-agrees : site .known ≡ true → site .spot .longitude < 2 ^ 32 → AlikeSet (table.setUpAt s (site .spot)) (setUp ps site)

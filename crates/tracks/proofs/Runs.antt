@@ -10,7 +10,7 @@ use lib.ListN.{length, length-replicate}
 use borrow.Author.Tests.{le-leb, leb-true, eq-eqb}
 use Rattle.fields.proofs.Bools.{each, both}
 use Rattle.located.specs.declared.Site.{Site}
-use Rattle.table.specs.declared.SetUp.the-variants as setting
+use Rattle.answers.specs.declared.SetUp.the-variants as setting
 use Rattle.lent.specs.Layout as layout
 use Rattle.table.specs.Table as table
 use Rattle.slots.specs.declared.Place.{Place}

@@ -15,9 +15,9 @@ use denote.Triple.Entry.{Args, Res}
 use denote.Triple.Clauses.{Ended, Clauses, AtExit}
 use denote.Triple.Walked.{needs}
 use Rattle.messages.specs.declared.Decoded.{Decoded}
-use Rattle.table.specs.declared.SetUp.{SetUp}
-use Rattle.table.specs.declared.Looked.{Looked}
-use Rattle.table.specs.declared.NextKey.{NextKey}
+use Rattle.answers.specs.declared.SetUp.{SetUp}
+use Rattle.answers.specs.declared.Looked.{Looked}
+use Rattle.answers.specs.declared.NextKey.{NextKey}
 use Rattle.tracks.specs.Tracks.{After, after}
 use Rattle.tracks.proofs.set_up as set-up
 use Rattle.tracks.proofs.receive as receive

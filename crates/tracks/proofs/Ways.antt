@@ -11,12 +11,12 @@ use Rattle.refusals.specs.declared.Refusal.the-variants.{Places, Field}
 use Rattle.positions.specs.Positions.{poleToPole}
 use Rattle.located.specs.declared.Site.{Site}
 use Rattle.track.specs.Track.{newTrack}
-use Rattle.table.specs.declared.SetUp.{SetUp}
-use Rattle.table.specs.declared.SetUp.the-variants as setting
-use Rattle.table.specs.declared.Holding.the-variants as holding
-use Rattle.table.specs.declared.NextKey.the-variants as key-after
-use Rattle.lent.specs.Layout.{noSite}
-use Rattle.table.specs.Table.{keyOrEnd}
+use Rattle.answers.specs.declared.SetUp.{SetUp}
+use Rattle.answers.specs.declared.SetUp.the-variants as setting
+use Rattle.answers.specs.declared.Holding.the-variants as holding
+use Rattle.answers.specs.declared.NextKey.the-variants as key-after
+use Rattle.located.specs.Located.{noSite}
+use Rattle.answers.specs.Keys.{keyOrEnd}
 use Rattle.slots.specs.declared.Place.{Place}
 use Rattle.slots.specs.declared.Head.{Head}
 use Rattle.slots.specs.declared.Started.{Started}

@@ -6,8 +6,8 @@ use mathlib.Core.List.{List, [], _∷_}
 use lib.ListN.{length, getD, replicate}
 use Rattle.fields.specs.Bytes.{Bytes}
 use Rattle.place.specs.Place.{trackOf}
-use Rattle.table.specs.declared.SetUp.{SetUp}
-use Rattle.table.specs.declared.SetUp.the-variants.{Done}
+use Rattle.answers.specs.declared.SetUp.{SetUp}
+use Rattle.answers.specs.declared.SetUp.the-variants.{Done}
 use Rattle.lent.specs.Layout as layout
 use Rattle.table.specs.Table as table
 use Rattle.slots.specs.declared.Place.{Place}

@@ -12,14 +12,14 @@ use Rattle.messages.specs.Message.{decoded, keyOf}
 use Rattle.located.specs.declared.Site.{Site}
 use Rattle.track.specs.declared.Stepped.{Stepped}
 use Rattle.track.specs.Track.{newTrack, stepped}
-use Rattle.table.specs.declared.SetUp.{SetUp}
-use Rattle.table.specs.declared.SetUp.the-variants as setting
-use Rattle.table.specs.declared.Holding.the-variants as holding
-use Rattle.table.specs.declared.Looked.{Looked}
-use Rattle.table.specs.declared.NextKey.{NextKey}
-use Rattle.table.specs.declared.NextKey.the-variants as next
-use Rattle.lent.specs.Layout.{noSite}
-use Rattle.table.specs.Table.{keyOrEnd}
+use Rattle.answers.specs.declared.SetUp.{SetUp}
+use Rattle.answers.specs.declared.SetUp.the-variants as setting
+use Rattle.answers.specs.declared.Holding.the-variants as holding
+use Rattle.answers.specs.declared.Looked.{Looked}
+use Rattle.answers.specs.declared.NextKey.{NextKey}
+use Rattle.answers.specs.declared.NextKey.the-variants as next
+use Rattle.located.specs.Located.{noSite}
+use Rattle.answers.specs.Keys.{keyOrEnd}
 use Rattle.lent.specs.Scan.{lowest}
 use Rattle.slots.specs.declared.Place.{Place}
 use Rattle.slots.specs.declared.Head.{Head}

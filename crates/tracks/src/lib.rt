@@ -3,14 +3,14 @@
 // The functions below are thin, since their proofs follow each step by hand: they read, call by value and store.
 mod search;
 
+use answers::Looked;
+use answers::NextKey;
 use located::Site;
 pub use slots::Head;
 pub use slots::Place;
 pub use slots::Received;
 use slots::Sought;
 pub use slots::Started;
-use table::Looked;
-use table::NextKey;
 ghost use mathlib.Core.Path.{_≡_};
 ghost use lib.ListN.{length};
 ghost use Rattle.tracks.specs.Tracks.{after, emptied, setUp, delivered, received, lookedUp, smallest, nextAbove};
@@ -117,5 +117,5 @@ pub fn next(places: &[Place], head: Head, above: u32) -> NextKey
     if slots::misfits(places.len()) {
         return slots::no_next();
     }
-    slots::key_or_end(smallest_above(places, slots::seek(head, above)))
+    answers::key_or_end(smallest_above(places, slots::seek(head, above)))
 }

@@ -1,10 +1,10 @@
 // A table of four places on the stack: a message is received in it, and a key is looked up. It prints what each answers.
+use answers::Holding;
+use answers::Looked;
 use libc::STDOUT_FILENO;
 use located::Site;
 use messages::Decoded;
 use positions::Spot;
-use table::Holding;
-use table::Looked;
 use tracks::Head;
 use tracks::Place;
 use tracks::Received;

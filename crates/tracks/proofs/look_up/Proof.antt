@@ -43,11 +43,11 @@ use denote.Triple.Spec.{Meets, tripleOf}
 use denote.Triple.Table.{entered, cited}
 use denote.Triple.Walked.{says, Stays, stay-none-slice, stay-none, walkOf, goes-none-slice, goes-none, Walks, ends-at, walked, walk-meets}
 use denote.Exit.{yes}
-use Rattle.table.specs.declared.Looked.{Looked}
-use Rattle.table.specs.declared.Holding.the-variants as holding
+use Rattle.answers.specs.declared.Looked.{Looked}
+use Rattle.answers.specs.declared.Holding.the-variants as holding
 use Rattle.refusals.specs.declared.Refusal.the-variants.{Places}
-use Rattle.table.proofs.Looked as K
-use Rattle.table.proofs.Looked.Laws as K′
+use Rattle.answers.proofs.Looked as K
+use Rattle.answers.proofs.Looked.Laws as K′
 use Rattle.track.specs.Track.{newTrack}
 use Rattle.slots.specs.declared.Place.{Place}
 use Rattle.slots.specs.declared.Head.{Head}

@@ -41,11 +41,11 @@ use denote.Triple.Table.{entered, cited}
 use denote.Triple.Walked.{says, Stays, stay-none-slice, stay-none, walkOf, goes-none-slice, goes-none, Walks, ends-at, walked, walk-meets}
 use denote.Exit.{yes}
 use Rattle.refusals.specs.declared.Refusal.the-variants.{Places}
-use Rattle.table.specs.declared.NextKey.{NextKey}
-use Rattle.table.specs.declared.NextKey.the-variants as key-after
-use Rattle.table.specs.Table.{keyOrEnd}
-use Rattle.table.proofs.NextKey as K
-use Rattle.table.proofs.NextKey.Laws as K′
+use Rattle.answers.specs.declared.NextKey.{NextKey}
+use Rattle.answers.specs.declared.NextKey.the-variants as key-after
+use Rattle.answers.specs.Keys.{keyOrEnd}
+use Rattle.answers.proofs.NextKey as K
+use Rattle.answers.proofs.NextKey.Laws as K′
 use Rattle.slots.specs.declared.Place.{Place}
 use Rattle.slots.specs.declared.Head.{Head}
 use Rattle.slots.specs.declared.Sought.{Sought}
@@ -68,10 +68,10 @@ use Rattle.slots.proofs.seek as seek
 use Rattle.slots.proofs.seek.Symbol as seek-def
 use Rattle.slots.proofs.seek.Symbol.{name as #seek}
 use Rattle.slots.proofs.seek.Met as seek-thm
-use Rattle.slots.proofs.key_or_end as key-or-end
-use Rattle.slots.proofs.key_or_end.Symbol as key-or-end-def
-use Rattle.slots.proofs.key_or_end.Symbol.{name as #key-or-end}
-use Rattle.slots.proofs.key_or_end.Met as key-or-end-thm
+use Rattle.answers.proofs.key_or_end as key-or-end
+use Rattle.answers.proofs.key_or_end.Symbol as key-or-end-def
+use Rattle.answers.proofs.key_or_end.Symbol.{name as #key-or-end}
+use Rattle.answers.proofs.key_or_end.Met as key-or-end-thm
 use Rattle.tracks.specs.Tracks.{smallest, nextAbove}
 use Rattle.tracks.proofs.Ways.{passed, failed, next-not, next-is}
 use Rattle.tracks.proofs.smallest_above as least
@@ -303,4 +303,4 @@ next-spec 𝓤 H 𝓜 𝓖 𝓡 =
     (cited 𝓤 H (NoNext 𝓤 H (𝓖 .A) (𝓜 .mem) (𝓡 .run)) 𝓜 𝓡 code.env #no-next no-next-def.routine code.calls-slots·no-next (no-next-thm.met 𝓤 H 𝓜 𝓖 𝓡))
     (cited 𝓤 H (Seek 𝓤 H (𝓖 .A) (𝓜 .mem) (𝓡 .run)) 𝓜 𝓡 code.env #seek seek-def.routine code.calls-slots·seek (seek-thm.met 𝓤 H 𝓜 𝓖 𝓡))
     (cited 𝓤 H (Least 𝓤 H (𝓖 .A) (𝓜 .mem) (𝓡 .run)) 𝓜 𝓡 code.env #least least-def.routine code.calls-tracks·smallest-above (least-thm.met 𝓤 H 𝓜 𝓖 𝓡))
-    (cited 𝓤 H (KeyOrEnd 𝓤 H (𝓖 .A) (𝓜 .mem) (𝓡 .run)) 𝓜 𝓡 code.env #key-or-end key-or-end-def.routine code.calls-slots·key-or-end (key-or-end-thm.met 𝓤 H 𝓜 𝓖 𝓡)))
+    (cited 𝓤 H (KeyOrEnd 𝓤 H (𝓖 .A) (𝓜 .mem) (𝓡 .run)) 𝓜 𝓡 code.env #key-or-end key-or-end-def.routine code.calls-answers·key-or-end (key-or-end-thm.met 𝓤 H 𝓜 𝓖 𝓡)))

@@ -46,7 +46,7 @@ use denote.Triple.Spec.{Meets, tripleOf}
 use denote.Triple.Table.{entered, cited}
 use denote.Triple.Walked.{Stays, stay-none-slice, stay-none, walkOf, goes-none-slice, goes-none, Walks, ends-at, walked, walk-meets}
 use denote.Exit.{yes}
-use Rattle.table.specs.declared.Looked.{Looked}
+use Rattle.answers.specs.declared.Looked.{Looked}
 use Rattle.slots.specs.declared.Place.{Place}
 use Rattle.slots.specs.declared.Head.{Head}
 use Rattle.slots.specs.declared.Received.{Received}
@@ -58,8 +58,8 @@ use Rattle.slots.proofs.Head as E
 use Rattle.slots.proofs.Head.Laws as E′
 use Rattle.slots.proofs.Received as Y
 use Rattle.slots.proofs.Received.Laws as Y′
-use Rattle.table.proofs.Looked as K
-use Rattle.table.proofs.Looked.Laws as K′
+use Rattle.answers.proofs.Looked as K
+use Rattle.answers.proofs.Looked.Laws as K′
 use Rattle.tracks_example.proofs.Heard as Z
 use Rattle.tracks_example.proofs.Heard.Laws as Z′
 use Rattle.tracks_example.proofs.room as room

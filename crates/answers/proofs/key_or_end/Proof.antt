@@ -1,8 +1,8 @@
--- `slots::key_or_end` meets its contract: its test is the definition's.
+-- `table::key_or_end` meets its contract: its test is the definition's.
 -- Assumes nothing.
 use borrow.Author.Tests.{eq-eqb, ne-eqb}
-use Rattle.slots.proofs.key_or_end.Statement.{statement}
-use Rattle.slots.proofs.key_or_end.Tie as tie
+use Rattle.answers.proofs.key_or_end.Statement.{statement}
+use Rattle.answers.proofs.key_or_end.Tie as tie
 
 returns : tie.Need-returns
 returns c = rw (eq-eqb _ _ (c .if1 .taken))
