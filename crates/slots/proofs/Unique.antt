@@ -8,24 +8,14 @@ use Rattle.slots.proofs.ranges.has_key.Kinds as has-key-kinds
 use Rattle.slots.proofs.ranges.has_key.Reads as has-key
 use Rattle.slots.proofs.no_place.Kinds as no-place-kinds
 use Rattle.slots.proofs.no_place.Reads as no-place
+use Rattle.slots.proofs.places_fit.Kinds as places-fit-kinds
+use Rattle.slots.proofs.places_fit.Reads as places-fit
+use Rattle.slots.proofs.site_of.Kinds as site-of-kinds
+use Rattle.slots.proofs.site_of.Reads as site-of
 use Rattle.slots.proofs.misfits.Kinds as misfits-kinds
 use Rattle.slots.proofs.misfits.Reads as misfits
-use Rattle.slots.proofs.judge.Kinds as judge-kinds
-use Rattle.slots.proofs.judge.Reads as judge
-use Rattle.slots.proofs.is_refused.Kinds as is-refused-kinds
-use Rattle.slots.proofs.is_refused.Reads as is-refused
 use Rattle.slots.proofs.seek.Kinds as seek-kinds
 use Rattle.slots.proofs.seek.Reads as seek
-use Rattle.slots.proofs.sought_by.Kinds as sought-by-kinds
-use Rattle.slots.proofs.sought_by.Reads as sought-by
-use Rattle.slots.proofs.next_of.Kinds as next-of-kinds
-use Rattle.slots.proofs.next_of.Reads as next-of
-use Rattle.slots.proofs.place_in.Kinds as place-in-kinds
-use Rattle.slots.proofs.place_in.Reads as place-in
-use Rattle.slots.proofs.received_in.Kinds as received-in-kinds
-use Rattle.slots.proofs.received_in.Reads as received-in
-use Rattle.slots.proofs.full.Kinds as full-kinds
-use Rattle.slots.proofs.full.Reads as full
 use Rattle.slots.proofs.start.Kinds as start-kinds
 use Rattle.slots.proofs.start.Reads as start
 use Rattle.slots.proofs.is_done.Kinds as is-done-kinds
@@ -50,32 +40,17 @@ has-key-once κs args x y left left′ p q = p ∙ sym q
 pub no-place-once : OneAnswer 0 no-place-kinds.ps no-place-kinds.r no-place.Post
 no-place-once κs args x y left left′ p q = p ∙ sym q
 
+pub places-fit-once : OneAnswer 0 places-fit-kinds.ps places-fit-kinds.r places-fit.Post
+places-fit-once κs args x y left left′ p q = p ∙ sym q
+
+pub site-of-once : OneAnswer 0 site-of-kinds.ps site-of-kinds.r site-of.Post
+site-of-once κs args x y left left′ p q = p ∙ sym q
+
 pub misfits-once : OneAnswer 0 misfits-kinds.ps misfits-kinds.r misfits.Post
 misfits-once κs args x y left left′ p q = p ∙ sym q
 
-pub judge-once : OneAnswer 1 judge-kinds.ps judge-kinds.r judge.Post
-judge-once κs args x y left left′ p q = p ∙ sym q
-
-pub is-refused-once : OneAnswer 0 is-refused-kinds.ps is-refused-kinds.r is-refused.Post
-is-refused-once κs args x y left left′ p q = p ∙ sym q
-
 pub seek-once : OneAnswer 0 seek-kinds.ps seek-kinds.r seek.Post
 seek-once κs args x y left left′ p q = p ∙ sym q
-
-pub sought-by-once : OneAnswer 0 sought-by-kinds.ps sought-by-kinds.r sought-by.Post
-sought-by-once κs args x y left left′ p q = p ∙ sym q
-
-pub next-of-once : OneAnswer 0 next-of-kinds.ps next-of-kinds.r next-of.Post
-next-of-once κs args x y left left′ p q = p ∙ sym q
-
-pub place-in-once : OneAnswer 0 place-in-kinds.ps place-in-kinds.r place-in.Post
-place-in-once κs args x y left left′ p q = p ∙ sym q
-
-pub received-in-once : OneAnswer 0 received-in-kinds.ps received-in-kinds.r received-in.Post
-received-in-once κs args x y left left′ p q = p ∙ sym q
-
-pub full-once : OneAnswer 0 full-kinds.ps full-kinds.r full.Post
-full-once κs args x y left left′ p q = p ∙ sym q
 
 pub start-once : OneAnswer 0 start-kinds.ps start-kinds.r start.Post
 start-once κs args x y left left′ p q = p ∙ sym q

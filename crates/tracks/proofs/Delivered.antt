@@ -20,11 +20,12 @@ use Rattle.table.proofs.Search.{lowest-passes}
 use Rattle.lent.specs.Scan.{lowest}
 use Rattle.slots.specs.declared.Place.{Place}
 use Rattle.slots.specs.declared.Head.{Head}
-use Rattle.slots.specs.declared.Received.{Received}
-use Rattle.slots.specs.declared.Renewal.{Renewal}
+use Rattle.arrivals.specs.declared.Received.{Received}
+use Rattle.arrivals.specs.declared.Renewal.{Renewal}
 use Rattle.slots.specs.Ranges.{noPlace, isHeld, holds}
 use Rattle.slots.specs.Head.{placesFit, moved, siteOf}
-use Rattle.slots.specs.Decided.{sought, refusedWith, judged, isRefused, keyIn, trackIn, soughtBy, nextOf}
+use Rattle.slots.specs.Decided.{sought}
+use Rattle.arrivals.specs.Arrivals.{refusedWith, judged, isRefused, keyIn, trackIn, soughtBy, nextOf}
 use Rattle.tracks.specs.Tracks.{After, after, placeOf, freePlace, placed, delivered, received}
 use Rattle.tracks.specs.Scan.{scanned, chosen}
 

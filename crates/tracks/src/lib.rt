@@ -5,10 +5,10 @@ mod search;
 
 use answers::Looked;
 use answers::NextKey;
+pub use arrivals::Received;
 use located::Site;
 pub use slots::Head;
 pub use slots::Place;
-pub use slots::Received;
 use slots::Sought;
 pub use slots::Started;
 ghost use mathlib.Core.Path.{_≡_};
@@ -63,23 +63,23 @@ pub fn set_up(places: &mut [Place], site: Site) -> Started
 fn deliver(places: &mut [Place], due: Received) -> Received
     ensures { λ r. ⌜ after (r .answer) (r .head) (now (places .exit)) ≡ delivered (now (places .entry)) (due .head) (due .answer) ⌝ }
 {
-    if slots::is_refused(due) {
+    if arrivals::is_refused(due) {
         return due;
     }
-    let i = search::choose(scan(places, slots::sought_by(due)), places.len());
+    let i = search::choose(scan(places, arrivals::sought_by(due)), places.len());
     if i < places.len() {
-        let next = slots::next_of(due, places[i]);
-        places[i] = slots::place_in(next);
-        return slots::received_in(next);
+        let next = arrivals::next_of(due, places[i]);
+        places[i] = arrivals::place_in(next);
+        return arrivals::received_in(next);
     }
-    slots::full(due)
+    arrivals::full(due)
 }
 
 // What a message received at a time does to the table: the decoded message, or the number that it earns.
 pub fn receive(places: &mut [Place], head: Head, message: &[u8], time: u64) -> Received
     ensures { λ r. ⌜ after (r .answer) (r .head) (now (places .exit)) ≡ received (now (places .entry)) head (now (message .entry)) time ⌝ }
 {
-    let due = slots::judge(places.len(), head, message, time);
+    let due = arrivals::judge(places.len(), head, message, time);
     deliver(places, due)
 }
 

@@ -48,43 +48,43 @@ use denote.Triple.Walked.{says, Stays, stay-slice, stay-none, walkOf, goes-slice
 use denote.Exit.{yes}
 use Rattle.refusals.specs.declared.Refusal.the-variants.{Full}
 use Rattle.slots.specs.declared.Place.{Place}
-use Rattle.slots.specs.declared.Received.{Received}
+use Rattle.arrivals.specs.declared.Received.{Received}
 use Rattle.slots.specs.declared.Sought.{Sought}
-use Rattle.slots.specs.declared.Renewal.{Renewal}
+use Rattle.arrivals.specs.declared.Renewal.{Renewal}
 use Rattle.slots.specs.Ranges.{noPlace}
-use Rattle.slots.specs.Decided.{isRefused, soughtBy, nextOf, refusedWith}
+use Rattle.arrivals.specs.Arrivals.{isRefused, soughtBy, nextOf, refusedWith}
 use Rattle.slots.proofs.Place as T
 use Rattle.slots.proofs.Place.Laws as T′
-use Rattle.slots.proofs.Received as Y
-use Rattle.slots.proofs.Received.Laws as Y′
+use Rattle.arrivals.proofs.Received as Y
+use Rattle.arrivals.proofs.Received.Laws as Y′
 use Rattle.slots.proofs.Sought as S
 use Rattle.slots.proofs.Sought.Laws as S′
-use Rattle.slots.proofs.Renewal as X
-use Rattle.slots.proofs.Renewal.Laws as X′
-use Rattle.slots.proofs.is_refused as refused
-use Rattle.slots.proofs.is_refused.Symbol as refused-def
-use Rattle.slots.proofs.is_refused.Symbol.{name as #refused}
-use Rattle.slots.proofs.is_refused.Met as refused-thm
-use Rattle.slots.proofs.sought_by as sought-by
-use Rattle.slots.proofs.sought_by.Symbol as sought-by-def
-use Rattle.slots.proofs.sought_by.Symbol.{name as #sought-by}
-use Rattle.slots.proofs.sought_by.Met as sought-by-thm
-use Rattle.slots.proofs.next_of as next-of
-use Rattle.slots.proofs.next_of.Symbol as next-of-def
-use Rattle.slots.proofs.next_of.Symbol.{name as #next-of}
-use Rattle.slots.proofs.next_of.Met as next-of-thm
-use Rattle.slots.proofs.place_in as place-in
-use Rattle.slots.proofs.place_in.Symbol as place-in-def
-use Rattle.slots.proofs.place_in.Symbol.{name as #place-in}
-use Rattle.slots.proofs.place_in.Met as place-in-thm
-use Rattle.slots.proofs.received_in as received-in
-use Rattle.slots.proofs.received_in.Symbol as received-in-def
-use Rattle.slots.proofs.received_in.Symbol.{name as #received-in}
-use Rattle.slots.proofs.received_in.Met as received-in-thm
-use Rattle.slots.proofs.full as full
-use Rattle.slots.proofs.full.Symbol as full-def
-use Rattle.slots.proofs.full.Symbol.{name as #full}
-use Rattle.slots.proofs.full.Met as full-thm
+use Rattle.arrivals.proofs.Renewal as X
+use Rattle.arrivals.proofs.Renewal.Laws as X′
+use Rattle.arrivals.proofs.is_refused as refused
+use Rattle.arrivals.proofs.is_refused.Symbol as refused-def
+use Rattle.arrivals.proofs.is_refused.Symbol.{name as #refused}
+use Rattle.arrivals.proofs.is_refused.Met as refused-thm
+use Rattle.arrivals.proofs.sought_by as sought-by
+use Rattle.arrivals.proofs.sought_by.Symbol as sought-by-def
+use Rattle.arrivals.proofs.sought_by.Symbol.{name as #sought-by}
+use Rattle.arrivals.proofs.sought_by.Met as sought-by-thm
+use Rattle.arrivals.proofs.next_of as next-of
+use Rattle.arrivals.proofs.next_of.Symbol as next-of-def
+use Rattle.arrivals.proofs.next_of.Symbol.{name as #next-of}
+use Rattle.arrivals.proofs.next_of.Met as next-of-thm
+use Rattle.arrivals.proofs.place_in as place-in
+use Rattle.arrivals.proofs.place_in.Symbol as place-in-def
+use Rattle.arrivals.proofs.place_in.Symbol.{name as #place-in}
+use Rattle.arrivals.proofs.place_in.Met as place-in-thm
+use Rattle.arrivals.proofs.received_in as received-in
+use Rattle.arrivals.proofs.received_in.Symbol as received-in-def
+use Rattle.arrivals.proofs.received_in.Symbol.{name as #received-in}
+use Rattle.arrivals.proofs.received_in.Met as received-in-thm
+use Rattle.arrivals.proofs.full as full
+use Rattle.arrivals.proofs.full.Symbol as full-def
+use Rattle.arrivals.proofs.full.Symbol.{name as #full}
+use Rattle.arrivals.proofs.full.Met as full-thm
 use Rattle.tracks.specs.declared.Found.{Found}
 use Rattle.tracks.specs.Tracks.{after, delivered}
 use Rattle.tracks.specs.Scan.{scanned, chosen}
@@ -522,11 +522,11 @@ deliver-spec 𝓤 H 𝓜 𝓖 𝓡 =
     entered 𝓤 H (tripleOf 𝓤 H (𝓖 .A) deliver.signature (deliver.spec 𝓤 H (𝓖 .A) (𝓜 .mem) (𝓡 .run)))
     (tables 𝓤 H 𝓜 𝓡 code.env .C) (tables 𝓤 H 𝓜 𝓡 code.env .Λ) #deliver code.function (code.unfolded 𝓤 H 𝓜 𝓡)
     (deliver-meets 𝓤 H (𝓖 .A) (givenOf 𝓤 H 𝓜 𝓖) (𝓜 .mem) (𝓡 .run) (tablesOf 𝓤 H 𝓜 (tables 𝓤 H 𝓜 𝓡 code.env))
-    (cited 𝓤 H (IsRefused 𝓤 H (𝓖 .A) (𝓜 .mem) (𝓡 .run)) 𝓜 𝓡 code.env #refused refused-def.routine code.calls-slots·is-refused (refused-thm.met 𝓤 H 𝓜 𝓖 𝓡))
-    (cited 𝓤 H (SoughtBy 𝓤 H (𝓖 .A) (𝓜 .mem) (𝓡 .run)) 𝓜 𝓡 code.env #sought-by sought-by-def.routine code.calls-slots·sought-by (sought-by-thm.met 𝓤 H 𝓜 𝓖 𝓡))
+    (cited 𝓤 H (IsRefused 𝓤 H (𝓖 .A) (𝓜 .mem) (𝓡 .run)) 𝓜 𝓡 code.env #refused refused-def.routine code.calls-arrivals·is-refused (refused-thm.met 𝓤 H 𝓜 𝓖 𝓡))
+    (cited 𝓤 H (SoughtBy 𝓤 H (𝓖 .A) (𝓜 .mem) (𝓡 .run)) 𝓜 𝓡 code.env #sought-by sought-by-def.routine code.calls-arrivals·sought-by (sought-by-thm.met 𝓤 H 𝓜 𝓖 𝓡))
     (cited 𝓤 H (Scan 𝓤 H (𝓖 .A) (𝓜 .mem) (𝓡 .run)) 𝓜 𝓡 code.env #scan scan-def.routine code.calls-tracks·scan (scan-thm.met 𝓤 H 𝓜 𝓖 𝓡))
     (cited 𝓤 H (Choose 𝓤 H (𝓖 .A) (𝓜 .mem) (𝓡 .run)) 𝓜 𝓡 code.env #choose choose-def.routine code.calls-tracks·search·choose (choose-thm.met 𝓤 H 𝓜 𝓖 𝓡))
-    (cited 𝓤 H (NextOf 𝓤 H (𝓖 .A) (𝓜 .mem) (𝓡 .run)) 𝓜 𝓡 code.env #next-of next-of-def.routine code.calls-slots·next-of (next-of-thm.met 𝓤 H 𝓜 𝓖 𝓡))
-    (cited 𝓤 H (PlaceIn 𝓤 H (𝓖 .A) (𝓜 .mem) (𝓡 .run)) 𝓜 𝓡 code.env #place-in place-in-def.routine code.calls-slots·place-in (place-in-thm.met 𝓤 H 𝓜 𝓖 𝓡))
-    (cited 𝓤 H (ReceivedIn 𝓤 H (𝓖 .A) (𝓜 .mem) (𝓡 .run)) 𝓜 𝓡 code.env #received-in received-in-def.routine code.calls-slots·received-in (received-in-thm.met 𝓤 H 𝓜 𝓖 𝓡))
-    (cited 𝓤 H (IsFull 𝓤 H (𝓖 .A) (𝓜 .mem) (𝓡 .run)) 𝓜 𝓡 code.env #full full-def.routine code.calls-slots·full (full-thm.met 𝓤 H 𝓜 𝓖 𝓡)))
+    (cited 𝓤 H (NextOf 𝓤 H (𝓖 .A) (𝓜 .mem) (𝓡 .run)) 𝓜 𝓡 code.env #next-of next-of-def.routine code.calls-arrivals·next-of (next-of-thm.met 𝓤 H 𝓜 𝓖 𝓡))
+    (cited 𝓤 H (PlaceIn 𝓤 H (𝓖 .A) (𝓜 .mem) (𝓡 .run)) 𝓜 𝓡 code.env #place-in place-in-def.routine code.calls-arrivals·place-in (place-in-thm.met 𝓤 H 𝓜 𝓖 𝓡))
+    (cited 𝓤 H (ReceivedIn 𝓤 H (𝓖 .A) (𝓜 .mem) (𝓡 .run)) 𝓜 𝓡 code.env #received-in received-in-def.routine code.calls-arrivals·received-in (received-in-thm.met 𝓤 H 𝓜 𝓖 𝓡))
+    (cited 𝓤 H (IsFull 𝓤 H (𝓖 .A) (𝓜 .mem) (𝓡 .run)) 𝓜 𝓡 code.env #full full-def.routine code.calls-arrivals·full (full-thm.met 𝓤 H 𝓜 𝓖 𝓡)))

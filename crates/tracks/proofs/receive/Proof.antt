@@ -41,17 +41,17 @@ use denote.Triple.Walked.{says, Stays, stay-slice, stay-none-slice, stay-none, w
 use denote.Exit.{yes}
 use Rattle.slots.specs.declared.Place.{Place}
 use Rattle.slots.specs.declared.Head.{Head}
-use Rattle.slots.specs.declared.Received.{Received}
-use Rattle.slots.specs.Decided.{judged}
+use Rattle.arrivals.specs.declared.Received.{Received}
+use Rattle.arrivals.specs.Arrivals.{judged}
 use Rattle.slots.proofs.Place as T
 use Rattle.slots.proofs.Head as E
 use Rattle.slots.proofs.Head.Laws as E′
-use Rattle.slots.proofs.Received as Y
-use Rattle.slots.proofs.Received.Laws as Y′
-use Rattle.slots.proofs.judge as judge
-use Rattle.slots.proofs.judge.Symbol as judge-def
-use Rattle.slots.proofs.judge.Symbol.{name as #judge}
-use Rattle.slots.proofs.judge.Met as judge-thm
+use Rattle.arrivals.proofs.Received as Y
+use Rattle.arrivals.proofs.Received.Laws as Y′
+use Rattle.arrivals.proofs.judge as judge
+use Rattle.arrivals.proofs.judge.Symbol as judge-def
+use Rattle.arrivals.proofs.judge.Symbol.{name as #judge}
+use Rattle.arrivals.proofs.judge.Met as judge-thm
 use Rattle.tracks.specs.Tracks.{after, delivered, received}
 use Rattle.tracks.proofs.Again.{LentAgain, lends-again, comes-back}
 use Rattle.tracks.proofs.Delivered.{received-is}
@@ -225,5 +225,5 @@ receive-spec 𝓤 H 𝓜 𝓖 𝓡 =
     entered 𝓤 H (tripleOf 𝓤 H (𝓖 .A) receive.signature (receive.spec 𝓤 H (𝓖 .A) (𝓜 .mem) (𝓡 .run)))
     (tables 𝓤 H 𝓜 𝓡 code.env .C) (tables 𝓤 H 𝓜 𝓡 code.env .Λ) #receive code.function (code.unfolded 𝓤 H 𝓜 𝓡)
     (receive-meets 𝓤 H (𝓖 .A) (givenOf 𝓤 H 𝓜 𝓖) (𝓜 .mem) (𝓡 .run) (tablesOf 𝓤 H 𝓜 (tables 𝓤 H 𝓜 𝓡 code.env))
-    (cited 𝓤 H (Judge 𝓤 H (𝓖 .A) (𝓜 .mem) (𝓡 .run)) 𝓜 𝓡 code.env #judge judge-def.routine code.calls-slots·judge (judge-thm.met 𝓤 H 𝓜 𝓖 𝓡))
+    (cited 𝓤 H (Judge 𝓤 H (𝓖 .A) (𝓜 .mem) (𝓡 .run)) 𝓜 𝓡 code.env #judge judge-def.routine code.calls-arrivals·judge (judge-thm.met 𝓤 H 𝓜 𝓖 𝓡))
     (cited 𝓤 H (Deliver 𝓤 H (𝓖 .A) (𝓜 .mem) (𝓡 .run)) 𝓜 𝓡 code.env #deliver deliver-def.routine code.calls-tracks·deliver (deliver-thm.met 𝓤 H 𝓜 𝓖 𝓡)))

@@ -49,15 +49,15 @@ use denote.Exit.{yes}
 use Rattle.answers.specs.declared.Looked.{Looked}
 use Rattle.slots.specs.declared.Place.{Place}
 use Rattle.slots.specs.declared.Head.{Head}
-use Rattle.slots.specs.declared.Received.{Received}
+use Rattle.arrivals.specs.declared.Received.{Received}
 use Rattle.tracks.specs.Tracks.{after, received}
 use Rattle.tracks_example.specs.declared.Heard.{Heard}
 use Rattle.slots.proofs.Place as T
 use Rattle.slots.proofs.Place.Laws as T′
 use Rattle.slots.proofs.Head as E
 use Rattle.slots.proofs.Head.Laws as E′
-use Rattle.slots.proofs.Received as Y
-use Rattle.slots.proofs.Received.Laws as Y′
+use Rattle.arrivals.proofs.Received as Y
+use Rattle.arrivals.proofs.Received.Laws as Y′
 use Rattle.answers.proofs.Looked as K
 use Rattle.answers.proofs.Looked.Laws as K′
 use Rattle.tracks_example.proofs.Heard as Z

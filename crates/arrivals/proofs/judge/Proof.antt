@@ -2,11 +2,11 @@
 -- Assumes nothing.
 use mathlib.Core.Path.{sym, _∙_}
 use borrow.Author.Tests.{lt-ltb, eq-eqb, ne-eqb, not-false}
-use Rattle.slots.specs.Decided.{judged}
-use Rattle.slots.proofs.Judged.{judged-on}
+use Rattle.arrivals.specs.Arrivals.{judged}
+use Rattle.arrivals.proofs.Judged.{judged-on}
 use borrow.Author.Needs.{needs}
-use Rattle.slots.proofs.judge.Statement.{statement}
-use Rattle.slots.proofs.judge.Tie as tie
+use Rattle.arrivals.proofs.judge.Statement.{statement}
+use Rattle.arrivals.proofs.judge.Tie as tie
 
 refused-with-requires : tie.Need-refused-with-requires
 refused-with-requires c κs = search needs

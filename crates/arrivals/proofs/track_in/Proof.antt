@@ -1,9 +1,9 @@
 -- `slots::track_in` meets its contract: its test is the definition's.
 -- Assumes nothing.
-use Rattle.slots.specs.Decided.{trackIn}
+use Rattle.arrivals.specs.Arrivals.{trackIn}
 use borrow.Author.Needs.{needs}
-use Rattle.slots.proofs.track_in.Statement.{statement}
-use Rattle.slots.proofs.track_in.Tie as tie
+use Rattle.arrivals.proofs.track_in.Statement.{statement}
+use Rattle.arrivals.proofs.track_in.Tie as tie
 
 has-key-requires : tie.Need-has-key-requires
 has-key-requires c κs = search needs

@@ -1,8 +1,8 @@
 -- `slots::sought_by` meets its contract: the head's clock and the answer's key.
 -- Assumes nothing.
 use borrow.Author.Needs.{needs}
-use Rattle.slots.proofs.sought_by.Statement.{statement}
-use Rattle.slots.proofs.sought_by.Tie as tie
+use Rattle.arrivals.proofs.sought_by.Statement.{statement}
+use Rattle.arrivals.proofs.sought_by.Tie as tie
 
 key-in-requires : tie.Need-key-in-requires
 key-in-requires c κs = search needs

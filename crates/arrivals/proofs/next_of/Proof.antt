@@ -1,9 +1,9 @@
 -- `slots::next_of` meets its contract: its parts in order.
 -- Assumes nothing.
-use Rattle.slots.specs.Decided.{nextOf}
+use Rattle.arrivals.specs.Arrivals.{nextOf}
 use borrow.Author.Needs.{needs}
-use Rattle.slots.proofs.next_of.Statement.{statement}
-use Rattle.slots.proofs.next_of.Tie as tie
+use Rattle.arrivals.proofs.next_of.Statement.{statement}
+use Rattle.arrivals.proofs.next_of.Tie as tie
 
 sought-by-requires : tie.Need-sought-by-requires
 sought-by-requires c κs = search needs

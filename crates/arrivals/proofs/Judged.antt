@@ -8,10 +8,10 @@ use lib.ListN.{length}
 use borrow.Author.Tests.{le-ltb, eq-eqb}
 use Rattle.messages.specs.declared.Decoded.{Decoded}
 use Rattle.messages.specs.Message.{decoded}
 use Rattle.slots.specs.declared.Head.{Head}
-use Rattle.slots.specs.declared.Received.{Received}
+use Rattle.arrivals.specs.declared.Received.{Received}
 use Rattle.slots.specs.Head.{placesFit, moved}
-use Rattle.slots.specs.Decided.{judged}
+use Rattle.arrivals.specs.Arrivals.{judged}
 
 -- no test of three passes
 last-of : {A : Type 0} {a b c : Bool} (w x y z : A) → a ≡ false → b ≡ false → c ≡ false → z ≡ cond a w (cond b x (cond c y z))

@@ -1,8 +1,8 @@
 -- `slots::key_in` meets its contract: a message has its key.
 -- Assumes nothing.
 use borrow.Author.Needs.{needs}
-use Rattle.slots.proofs.key_in.Statement.{statement}
-use Rattle.slots.proofs.key_in.Tie as tie
+use Rattle.arrivals.proofs.key_in.Statement.{statement}
+use Rattle.arrivals.proofs.key_in.Tie as tie
 
 enum-known-answer : tie.Need-enum-known-answer
 enum-known-answer c = search needs
