@@ -531,7 +531,15 @@ def bytes_of_tracks():
         track = table_vectors.random_track(chance, 10**6)
         body = lent_table.body_of(track)
         equal("75 bytes", len(body), 75)
-        equal("read again", lent_table.track_of(body), track)
+        read = lent_table.track_of(body)
+        equal("read again", lent_table.track_of(lent_table.body_of(read)), read)
+        for value, due in zip((read.position, *read.saved), (track.position, *track.saved)):
+            equal("none without its mark", value, due if due.known else type(due)())
+        for name, types in (("identification", (1, 2, 3, 4)), ("surface", (5, 6, 7, 8))):
+            me = getattr(track, name)
+            equal(f"{name} of its TYPE", getattr(read, name), me if me >> 51 in types else 0)
+        of_velocity = [19 << 3 | subtype for subtype in (1, 2, 3, 4)]
+        equal("velocity of its TYPE", read.velocity, track.velocity if track.velocity >> 48 in of_velocity else 0)
     for offset, size, name in ((0, 8, "heard"), (8, 7, "identification"), (15, 7, "velocity"), (22, 7, "surface")):
         equal(name, lent_table.get(lent_table.body_of(Track(**{name: 2**55 + 7})), offset, size), 2**55 + 7)
     equal("a new track's latitude", lent_table.get(lent_table.body_of(Track()), 33, 4), 2**30)

@@ -4,7 +4,7 @@ A table of n places has 16 + 79 n bytes: the clock, the site, a column of n keys
 Numbers are low byte first. A call changes the table in place, or raises Refused.
 """
 
-from messages import decode
+from messages import IDENTIFICATION, OVER_GROUND, SURFACE, THROUGH_AIR, decode, layout
 from positions import latitude_test
 from refusals import Refused
 from tracks import I, O, Position, Saved, Track, is_stale, key_of, step
@@ -33,23 +33,38 @@ def bits(number, first, last):
 # One body
 
 
+def group_of(body, at, *layouts):
+    """The ME that gave a group; one whose TYPE, or subtype, is not of the group is read as 'none heard'."""
+    me = get(body, at, 7)
+    return me if layout(bits(me, 51, 55), bits(me, 48, 50)) in layouts else 0
+
+
 def saved_of(body, at):
     """An encoded position: bits 0-16 and 17-33 its counts, bit 34 whether there is one; then its time."""
     number = get(body, at, 5)
-    return Saved(bits(number, 34, 34), bits(number, 0, 16), bits(number, 17, 33), get(body, at + 5, 8))
+    if not bits(number, 34, 34):
+        return Saved()
+    return Saved(1, bits(number, 0, 16), bits(number, 17, 33), get(body, at + 5, 8))
+
+
+def position_of(body):
+    """The position, if bit 24 of its marks says that it is known."""
+    if not bits(get(body, 29, 4), 24, 24):
+        return Position()
+    return Position(1, get(body, LATITUDE, 4) - POLE, get(body, 37, 4), get(body, 41, 8))
 
 
 def track_of(body):
-    """The track of a body that is in range. Bits that no value has are ignored."""
+    """The track of a body that is in range. Bits that no value has are ignored, and so is what has no mark."""
     marks = get(body, 29, 4)
     return Track(
         heard=get(body, HEARD, 8),
-        identification=get(body, 8, 7),
-        velocity=get(body, 15, 7),
-        surface=get(body, 22, 7),
+        identification=group_of(body, 8, IDENTIFICATION),
+        velocity=group_of(body, 15, OVER_GROUND, THROUGH_AIR),
+        surface=group_of(body, 22, SURFACE),
         pressure=bits(marks, 0, 11),
         height=bits(marks, 12, 23),
-        position=Position(bits(marks, 24, 24), get(body, LATITUDE, 4) - POLE, get(body, 37, 4), get(body, 41, 8)),
+        position=position_of(body),
         saved=(saved_of(body, 49), saved_of(body, 62)),
     )
 

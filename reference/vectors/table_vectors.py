@@ -32,6 +32,7 @@ HERE = 2**29, 2**30  # 45 N 90 E
 NEAR = 2**29 + 2**20, 2**30 + 2**20  # a tenth of a degree away
 LAST = 2**64 - 1
 BOTH = (EVEN, ODD)
+GROUPS = (range(1, 5), [19], range(5, 9))  # the TYPEs of identification, velocity and surface fields
 
 
 def new(bench, places, site):
@@ -487,12 +488,22 @@ def random_time(chance, clock):
     return max(0, min(LAST, time))
 
 
+def random_me(chance, types):
+    """An ME of any bits: mostly its TYPE is one of these, and a subtype of TYPE 19 one that is taken."""
+    me = chance.getrandbits(56)
+    if chance.randrange(4):
+        me = me % 2**51 | chance.choice(types) << 51
+    if me >> 51 == 19 and chance.randrange(4):
+        me = me & ~(7 << 48) | chance.randrange(1, 5) << 48
+    return me
+
+
 def random_track(chance, clock):
-    """A track of any values, its times about the clock."""
+    """A track of any values, its times about the clock; with an ME of another group, or values without a mark."""
     latitude = chance.choice((-POLE, POLE, 0, random_latitude(chance), random_latitude(chance)))
     saved = [Saved(chance.randrange(4) > 0, *random_counts(chance, 2), random_time(chance, clock)) for _ in BOTH]
     return Track(
-        *(random_time(chance, clock), chance.getrandbits(56), chance.getrandbits(56), chance.getrandbits(56)),
+        *(random_time(chance, clock), *(random_me(chance, types) for types in GROUPS)),
         *(chance.getrandbits(12), chance.getrandbits(12)),
         Position(chance.randrange(4) > 0, latitude, random_longitude(chance), random_time(chance, clock)),
         tuple(saved),
@@ -575,7 +586,7 @@ def bits_without_value(bench):
 
 
 def values_that_nobody_has(bench):
-    """A position, or a saved one, whose mark says that there is none: it is not used, and stays as it is."""
+    """A position, or a saved one, whose mark says that there is none: it reads as zeros, and a step writes it so."""
     for at, size, bit in ((29, 4, 24), (49, 5, 34), (62, 5, 34)):
         three(bench)
         start = body_start(3, 0) + at
@@ -589,14 +600,29 @@ def values_that_nobody_has(bench):
         seen(bench)
 
 
+def foreign_types(bench):
+    """An ME of each TYPE and subtype in each group: if not of the group it is 'none heard', and a step writes it so."""
+    bench.set_up(1)
+    poke_number(bench, key_at(0), 4, I | 1)
+    poke_number(bench, body_start(1, 0) + 8, 7, 0x9F000000123456)
+    bench.look_up(I | 1)
+    for top in range(256):
+        me = top << 48 | 0x123456
+        bench.set_up(1)
+        poke_place(bench, 1, 0, I | ONE, Track(identification=me, velocity=me, surface=me))
+        bench.look_up(I | ONE)
+        bench.receive(airborne(TRANSPONDER, ONE, EVEN, HERE), 1_000)
+        bench.whole()
+
+
 def twins(bench):
     """Twins of a key: the lowest held one is the track; a free place below it is not taken."""
     for first, second in ((5_000, 5_001), (5_001, 5_000), (0, 130_000), (130_000, 0), (0, 0), (LAST, 130_000)):
         for places in (2, 3, 4):
             bench.set_up(places)
             poke_number(bench, 0, 8, 130_000)
-            one = Track(heard=first, identification=1, position=Position(1, *HERE, 129_000))
-            two = Track(heard=second, identification=2, position=Position(1, *NEAR, 129_000))
+            one = Track(heard=first, identification=1 << 51, position=Position(1, *HERE, 129_000))
+            two = Track(heard=second, identification=2 << 51, position=Position(1, *NEAR, 129_000))
             poke_place(bench, places, places - 2, I | ONE, one)
             poke_place(bench, places, places - 1, I | ONE, two)
             seen(bench)
@@ -702,6 +728,7 @@ SCRIPTS = [
     off_and_unknown,
     bits_without_value,
     values_that_nobody_has,
+    foreign_types,
     twins,
     times_after_the_clock,
     odd_sites,

@@ -16,6 +16,7 @@ use Rattle.arrays.specs.Arrays.{filled}
 use Rattle.arrays.proofs.Filling.{filled-at}
 use Rattle.fields.specs.Bytes.{Bytes}
 use Rattle.fields.proofs.Bools.{by-test}
+use Rattle.keys.specs.Keys.{endOfKeys}
 use Rattle.layouts.specs.declared.bodies.Body.{Body}
 use Rattle.layouts.specs.declared.bodies.Body.the-variants as body
 use Rattle.messages.specs.declared.Message.{Message}
@@ -120,7 +121,7 @@ ends text h = filled-at 97 text 96 (omega arith) ∙ List·getD-eq-default text 
 
 pub header-ends : (s : List ℕ) (bad : ℕ) → getD (filled 97 (headerFor s bad)) 96 0 ≡ 0
 unfolding headerFor
-header-ends s bad = ends (headerFor s bad) (omega (arith, header-most (clockOf s) (counted s 50331648) bad))
+header-ends s bad = ends (headerFor s bad) (omega (arith, header-most (clockOf s) (counted s endOfKeys) bad))
 
 pub line-ends : (key : ℕ) (v : Option Track) → getD (filled 97 (lineFor key v)) 96 0 ≡ 0
 unfolding lineFor

@@ -13,7 +13,7 @@ use Rattle.arrays.proofs.Filling.{filled-zeros}
 use Rattle.messages.specs.Table.{number, values}
 use Rattle.track.specs.declared.Track.{Track}
 use Rattle.text.specs.Lines.{rowText, lineOf}
-use Rattle.lent.specs.Layout.{wholePlaces}
+use Rattle.offsets.specs.Offsets.{wholePlaces}
 use Rattle.table.specs.Table.{After, after}
 use Rattle.table.specs.View.{view}
 use Rattle.report.specs.declared.Printed.the-variants.{Refused}

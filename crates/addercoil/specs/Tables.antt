@@ -1,14 +1,16 @@
 -- The lent table for another language: each answer as a number of document 01's table, or as values.
-use Prim.Native.Nat.{ℕ, _+_, _*_}
+use Prim.Native.Nat.{ℕ}
 use mathlib.Core.Bool.{Bool, true, false, cond, _&&_}
 use mathlib.Core.List.{[], _∷_}
 use lib.Dec.{leb}
 use Rattle.refusals.specs.Numbers.{numberOf}
+use Rattle.offsets.specs.Offsets.{mostPlaces, tableSize}
 use Rattle.arrays.specs.Twos.{twos}
 use Rattle.messages.specs.declared.Decoded.{Decoded}
-use Rattle.messages.specs.declared.Decoded.the-variants as decode
 use Rattle.messages.specs.Table.{Said, number, values}
 use Rattle.located.specs.declared.Site.{Site}
+use Rattle.answers.specs.declared.Heard.{Heard}
+use Rattle.answers.specs.declared.Heard.the-variants as hear
 use Rattle.answers.specs.declared.SetUp.{SetUp}
 use Rattle.answers.specs.declared.SetUp.the-variants as setting
 use Rattle.answers.specs.declared.NextKey.{NextKey}
@@ -18,11 +20,12 @@ use Rattle.answers.specs.declared.Clock.the-variants as clock
 use Rattle.answers.specs.declared.Sited.{Sited}
 use Rattle.answers.specs.declared.Sited.the-variants as sited
 use Rattle.table.specs.Table.{After}
+use Rattle.table.specs.Heard.{heardAs}
 use Rattle.addercoil.specs.Sent.{Sent, sent}
 
 -- how many bytes a table of so many places has; 0 if there is none
 abbrev pub bytesFor : ℕ → ℕ
-bytesFor places = cond (leb 1 places && leb places 1024) (16 + 79 * places) 0
+bytesFor places = cond (leb 1 places && leb places mostPlaces) (tableSize places) 0
 
 -- ---- a call that leaves a table: 0 or its number, and the table
 
@@ -33,12 +36,12 @@ setUpNumber (setting.Refused r) = numberOf r
 unfoldable pub setUpSent : After SetUp → Sent
 setUpSent a = sent (setUpNumber (a .answer)) (a .table)
 
-abbrev pub decodedNumber : Decoded → ℕ
-decodedNumber (decode.Message m) = 0
-decodedNumber (decode.Refused r) = numberOf r
+abbrev pub heardNumber : Heard → ℕ
+heardNumber hear.Done = 0
+heardNumber (hear.Refused r) = numberOf r
 
 unfoldable pub receivedSent : After Decoded → Sent
-receivedSent a = sent (decodedNumber (a .answer)) (a .table)
+receivedSent a = sent (heardNumber (heardAs (a .answer))) (a .table)
 
 -- ---- what can be read of it
 

@@ -2,24 +2,24 @@
 use crate::give::bit;
 use crate::give::give;
 use answers::Clock;
+use answers::Heard;
 use answers::NextKey;
 use answers::SetUp;
 use answers::Sited;
 use located::Site;
-use messages::Decoded;
 use positions::Spot;
 ghost use mathlib.Core.Path.{_≡_};
 ghost use Rattle.table.specs.Table.{setUp, setUpAt, received, nextAbove, clockIn, siteIn};
 ghost use Rattle.addercoil.specs.Sent.{sent, given, into};
-ghost use Rattle.addercoil.specs.Tables.{bytesFor, setUpNumber, setUpSent, decodedNumber, receivedSent, clockSaid, siteValues, siteSaid, nextSaid};
+ghost use Rattle.addercoil.specs.Tables.{bytesFor, setUpNumber, setUpSent, heardNumber, receivedSent, clockSaid, siteValues, siteSaid, nextSaid};
 
 // How many bytes a table of so many places has: lend just as many. 0 if there is no such table.
 #[no_mangle]
 pub extern "C" fn addercoil_table_bytes(places: usize) -> usize
     ensures { λ r. ⌜ r ≡ bytesFor places ⌝ }
 {
-    if (1 <= places) & (places <= 1024) {
-        16 + 79 * places
+    if (1 <= places) & (places <= offsets::MOST_PLACES) {
+        offsets::HEAD + offsets::PLACE * places
     } else {
         0
     }
@@ -54,12 +54,12 @@ pub extern "C" fn addercoil_set_up_at(table: &mut [u8], latitude: i32, longitude
     set_up_number(table::set_up_at(table, site))
 }
 
-fn decoded_number(answer: Decoded) -> u32
-    ensures { λ r. ⌜ r ≡ decodedNumber answer ⌝ }
+fn heard_number(answer: Heard) -> u32
+    ensures { λ r. ⌜ r ≡ heardNumber answer ⌝ }
 {
     match answer {
-        Decoded::Message(_) => 0,
-        Decoded::Refused(r) => refusals::number(r),
+        Heard::Done => 0,
+        Heard::Refused(r) => refusals::number(r),
     }
 }
 
@@ -68,7 +68,7 @@ fn decoded_number(answer: Decoded) -> u32
 pub extern "C" fn addercoil_receive(table: &mut [u8], message: &[u8], time: u64) -> u32
     ensures { λ r. ⌜ sent r (now (table .exit)) ≡ receivedSent (received (now (table .entry)) (now (message .entry)) time) ⌝ }
 {
-    decoded_number(table::receive(table, message, time))
+    heard_number(table::hear(table, message, time))
 }
 
 // The clock, into 1 entry. Or 1, then 7.

@@ -10,6 +10,12 @@ pub enum SetUp {
     Refused(Refusal),
 }
 
+// Of a received message, where nobody asks what it says.
+pub enum Heard {
+    Done,
+    Refused(Refusal),
+}
+
 pub enum Holding {
     Held,
     Unheld,

@@ -15,7 +15,7 @@ use Rattle.track.specs.Track.{newTrack, stepped}
 use Rattle.slots.specs.declared.Place.{Place}
 use Rattle.slots.specs.declared.Head.{Head}
 use Rattle.slots.specs.declared.Sought.{Sought}
-use Rattle.slots.specs.Ranges.{holds}
+use Rattle.slots.specs.Ranges.{meaningOf, holds}
 use Rattle.slots.specs.Head.{placesFit, moved, siteOf}
 use Rattle.slots.specs.Decided.{sought}
 use Rattle.arrivals.specs.declared.Received.{Received}
@@ -43,7 +43,7 @@ keyIn (decode.Message m) = keyOf m
 
 -- the track that a place holds at the clock with the key, or a new one
 unfoldable pub trackIn : Sought → Place → Track
-trackIn s p = cond (holds (s .clock) (s .key) p) (p .track) newTrack
+trackIn s p = cond (holds (s .clock) (s .key) p) (meaningOf p) newTrack
 
 abbrev pub soughtBy : Received → Sought
 soughtBy due = sought (due .head .clock) (keyIn (due .answer))

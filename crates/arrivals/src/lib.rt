@@ -84,7 +84,8 @@ fn track_in(s: Sought, p: Place) -> Track
     ensures { λ r. ⌜ r ≡ trackIn s p ⌝ }
 {
     if slots::has_key(s.clock, s.key, p) {
-        p.track
+        let t = p.track;
+        track::meant(t)
     } else {
         track::new_track()
     }

@@ -11,7 +11,7 @@ use borrow.Fn.Kinds.{Dens, resT, endedOf}
 use lib.ListN.{length}
 use Rattle.refusals.specs.declared.Refusal.the-variants.{Places}
 use Rattle.capture.specs.Block.{good}
-use Rattle.lent.specs.Layout.{wholePlaces}
+use Rattle.offsets.specs.Offsets.{wholePlaces}
 use Rattle.table.specs.Table.{After, after}
 use Rattle.feed.specs.declared.Fed.{Fed}
 use Rattle.feed.specs.declared.Fed.the-variants.{Bad, Refused}

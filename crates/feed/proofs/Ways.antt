@@ -13,15 +13,17 @@ use lib.Seq.{take-all}
 use Rattle.refusals.specs.declared.Refusal.{Refusal}
 use Rattle.refusals.specs.declared.Refusal.the-variants.{Places}
 use Rattle.fields.proofs.Bools.{by-test}
-use Rattle.messages.specs.declared.Decoded.{Decoded}
 use Rattle.capture.specs.Block.{part, countOf, good, blockOf, timeOf, recordOf, messageOf}
 use Rattle.capture.specs.declared.Block.the-variants as block
 use Rattle.capture.specs.declared.Record.the-variants.{At, Ended}
 use Rattle.capture.proofs.Records.{record-at, message-at, message-ended}
 use Rattle.capture.proofs.Rules.{block-good, block-refused}
-use Rattle.lent.specs.Layout.{wholePlaces}
+use Rattle.offsets.specs.Offsets.{wholePlaces}
 use Rattle.answers.specs.declared.Clock.{Clock}
 use Rattle.answers.specs.declared.Clock.the-variants as clock
+use Rattle.rules.specs.Rules as rules
+use Rattle.answers.specs.declared.Heard.{Heard}
+use Rattle.table.specs.Heard.{heard}
 use Rattle.table.specs.Table.{After, after, received, clockIn}
 use Rattle.feed.specs.declared.Fed.the-variants.{Bad, Refused}
 use Rattle.feed.specs.Feed.{recordsInto, blockInto, counted, blocksIn, blockAt, blocksInto, badIn, fed, fedBlock}
@@ -29,14 +31,14 @@ use Rattle.feed.specs.Feed.{recordsInto, blockInto, counted, blocksIn, b
 -- ---- a record
 
 -- where there is one, its message is received at its time
-pub record-taken : (s b : List ℕ) (i t a : ℕ) {x : Decoded} {l : List ℕ} → At t a ≡ recordOf b i → after x l ≡ received s (part a (a + 14) b) t
+pub record-taken : (s b : List ℕ) (i t a : ℕ) {x : Heard} {l : List ℕ} → At t a ≡ recordOf b i → after x l ≡ heard (received s (part a (a + 14) b) t)
     → l ≡ received s (messageOf b i) (timeOf b i) .table
 record-taken s b i t a e h =
-    ap (λ (y : After Decoded). y .table) h
+    ap (λ (y : After Heard). y .table) h
     ∙ ap₂ (λ (m : List ℕ) (u : ℕ). received s m u .table) (message-at b i t a e) (record-at b i t a (sym e) .1)
 
 no-message : (s m : List ℕ) (t : ℕ) → (length m ≡ 14 → ⊥) → s ≡ received s m t .table
-unfolding received
+unfolding rules.received
 no-message s m t f = rw (ne-eqb (length m) 14 f)
 
 -- where there is none, the message has no bytes, which changes nothing

@@ -24,7 +24,7 @@ fn take_record(table: &mut [u8], block: &[u8], i: usize)
     match r {
         Record::At { time, start } => {
             let end = start + 14;
-            table::receive(table, &block[start..end], time);
+            table::hear(table, &block[start..end], time);
         }
         Record::Ended => {}
     }

@@ -3,12 +3,18 @@ use Prim.Native.Nat.{ℕ, _-_}
 use mathlib.Core.Bool.{Bool, _&&_}
 use mathlib.Core.List.{List}
 use lib.Dec.{leb, ltb}
+use Rattle.keys.specs.Keys.{isKey}
+use Rattle.offsets.specs.Offsets.{heardAt, latitudeAt}
 use Rattle.words.specs.Bytes.{numberAt}
 
--- the key is of kind 1 or 2 above 24 bits of address, and the latitude is from pole to pole
+-- the key is one, and the latitude is from pole to pole
 unfoldable pub inRange : ℕ → List ℕ → Bool
-inRange key p = leb 16777216 key && ltb key 50331648 && leb (numberAt 4 p 33) 2147483648
+inRange key p = isKey key && leb (numberAt 4 p latitudeAt) 2147483648
 
--- in range, and heard less than 125,000 before the clock; a time after the clock has age 0
+-- a track goes when clock minus last heard is 125,000 or more; a time after the clock has age 0
+abbrev pub inDate : ℕ → ℕ → Bool
+inDate clock heard = ltb (clock - heard) 125000
+
+-- in range, and in date
 unfoldable pub held : ℕ → ℕ → List ℕ → Bool
-held clock key p = inRange key p && ltb (clock - numberAt 8 p 0) 125000
+held clock key p = inRange key p && inDate clock (numberAt 8 p heardAt)

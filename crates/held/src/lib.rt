@@ -1,17 +1,20 @@
-// Whether a place is held at the clock, read off its key and its body, whose layout stands in `place`: its ranges and its age.
+// Whether a place is held at the clock, read off its key and its body: its ranges and its age.
+use offsets::HEARD;
+use offsets::LATITUDE;
 use words::get4;
 use words::get8;
 ghost use mathlib.Core.Path.{_≡_};
 ghost use Prim.Native.Nat.{_-_};
 ghost use lib.ListN.{length};
+ghost use Rattle.offsets.specs.Offsets.{bodySize};
 ghost use Rattle.held.specs.Ranges.{inRange, held};
 
 // Whether the key and every value of the body is in its range.
 pub fn in_range(key: u32, p: &[u8]) -> bool
-    requires { ⌜ length (now p) ≡ 75 ⌝ }
+    requires { ⌜ length (now p) ≡ bodySize ⌝ }
     ensures { λ r. ⌜ r ≡ inRange key (now (p .entry)) ⌝ }
 {
-    (16777216 <= key) & (key < 50331648) & (get4(p, 33) <= 2147483648)
+    keys::is_key(key) & (get4(p, LATITUDE) <= 2147483648)
 }
 
 // The earliest time that is less than 125,000 ago.
@@ -23,8 +26,8 @@ fn earliest(clock: u64) -> u64
 
 // Whether the place is held at the clock: in range, and heard less than 125,000 ago.
 pub fn is_held(clock: u64, key: u32, p: &[u8]) -> bool
-    requires { ⌜ length (now p) ≡ 75 ⌝ }
+    requires { ⌜ length (now p) ≡ bodySize ⌝ }
     ensures { λ r. ⌜ r ≡ held clock key (now (p .entry)) ⌝ }
 {
-    in_range(key, p) & (earliest(clock) <= get8(p, 0))
+    in_range(key, p) & (earliest(clock) <= get8(p, HEARD))
 }

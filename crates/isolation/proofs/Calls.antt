@@ -5,7 +5,6 @@ use mathlib.Core.Bool.{Bool, true, false, cond, true≢false, false≢true}
 use mathlib.Core.Logic.{⊎-elim, inr}
 use mathlib.Core.Option.{Option, some, none}
 use mathlib.Core.Path.{_≡_, refl, ap, ap₂, sym, _∙_, subst}
-use mathlib.Core.List.{List}
 use lib.Dec.{ltb}
 use borrow.Author.Tests.{ltb-true, ltb-false, eqb-true, eq-eqb}
 use Rattle.refusals.specs.declared.Refusal.{Refusal}
@@ -17,11 +16,11 @@ use Rattle.messages.specs.declared.Decoded.the-variants as decode
 use Rattle.messages.specs.Message.{decoded, keyOf}
 use Rattle.track.specs.declared.Track.{Track}
 use Rattle.track.specs.Track.{stepBody}
-use Rattle.lent.specs.Layout.{clockOf, siteOf, moved}
-use Rattle.table.specs.Table.{After, delivered, received}
-use Rattle.table.specs.View.{view, laterAt, orNew, Table}
-use Rattle.table.proofs.Ways.{not-refused, received-in-time}
-use Rattle.table.proofs.Laws.{clock-after, late-exactly, unchanged, dropped-by-the-clock, steps-its-track, key-answer}
+use Rattle.rules.specs.Form.{Form, Lawful}
+use Rattle.rules.specs.Rules.{After, delivered, received}
+use Rattle.rules.specs.View.{view, laterAt, orNew, Table}
+use Rattle.rules.proofs.Ways.{not-refused, received-in-time}
+use Rattle.rules.proofs.Laws.{clock-after, late-exactly, unchanged, dropped-by-the-clock, steps-its-track, key-answer}
 use Rattle.isolation.specs.Runs.{Call, isOf, own, call}
 use Rattle.isolation.specs.Alone.{ownIn, heardIn, Own, ownOf, trackAfter, ownAfter, answerTo}
 
@@ -49,49 +48,49 @@ pub mine : (key : ℕ) (d : Decoded) → isOf key d ≡ true → Mine key d
 mine key (decode.Refused r) o = absurd (false≢true o)
 mine key (decode.Message m) o = record { message = m; is = refl; keyed = eqb-true (keyOf m) key o; heard = rw o }
 
-module _ (key : ℕ) (s : List ℕ) (c : Call) (table : Table s) where
-  abbrev r : After Decoded
-  r = call received s c
+module _ {S : Type 0} (F : Form S) (L : Lawful F) (key : ℕ) (s : S) (c : Call) (table : Table F s) where
+  abbrev r : After S Decoded
+  r = call (received F) s c
 
-  late : c .time < clockOf s → (r .table ≡ s) × (r .answer ≡ decode.Refused Late)
+  late : c .time < F .clock s → (r .table ≡ s) × (r .answer ≡ decode.Refused Late)
   late h =
-      let a : r .answer ≡ decode.Refused Late = late-exactly s (c .message) (c .time) (c .bytes) .1 (c .whole, (table .size, h)) in
-      (unchanged s (c .message) (c .time) (c .bytes) Late (inr (inr refl)) a, a)
+      let a : r .answer ≡ decode.Refused Late = late-exactly F L s (c .message) (c .time) .1 (c .whole, (table .size, h)) in
+      (unchanged F L s (c .message) (c .time) Late (inr (inr refl)) a, a)
 
-  clock-is : ltb (c .time) (clockOf s) ≡ false → clockOf (r .table) ≡ c .time
-  clock-is e = clock-after s (c .message) (c .time) (table .size) (c .fits) (c .whole) ∙ ap (λ (b : Bool). cond b (clockOf s) (c .time)) e
+  clock-is : ltb (c .time) (F .clock s) ≡ false → F .clock (r .table) ≡ c .time
+  clock-is e = clock-after F L s (c .message) (c .time) (table .size) (c .fits) (c .whole) ∙ ap (λ (b : Bool). cond b (F .clock s) (c .time)) e
 
-  left : ltb (c .time) (clockOf s) ≡ true → ownOf (r .table) key ≡ ownOf s key
-  left e = ap (λ (x : List ℕ). ownOf x key) (late (ltb-true (c .time) (clockOf s) e) .0)
+  left : ltb (c .time) (F .clock s) ≡ true → ownOf F (r .table) key ≡ ownOf F s key
+  left e = ap (λ (x : S). ownOf F x key) (late (ltb-true (c .time) (F .clock s) e) .0)
 
   -- ---- a call of another
 
-  answer-refused : (q : Refusal) → decoded (c .message) ≡ decode.Refused q → clockOf s ≤ c .time → r .answer ≡ decode.Refused q
+  answer-refused : (q : Refusal) → decoded (c .message) ≡ decode.Refused q → F .clock s ≤ c .time → r .answer ≡ decode.Refused q
   unfolding delivered
   answer-refused q e h =
-      ap (λ (x : After Decoded). x .answer)
-      (received-in-time s (c .message) (c .time) (c .whole) (table .size) h ∙ ap (λ (d : Decoded). delivered (moved s (c .time)) d (c .time)) e)
+      ap (λ (x : After S Decoded). x .answer)
+      (received-in-time F s (c .message) (c .time) (c .whole) (table .size) h ∙ ap (λ (d : Decoded). delivered F (F .moved s (c .time)) d (c .time)) e)
 
-  not-its : (d : Decoded) → decoded (c .message) ≡ d → isOf key d ≡ false → clockOf s ≤ c .time → (m : Message) → r .answer ≡ decode.Message m → key ≡ keyOf m → ⊥
+  not-its : (d : Decoded) → decoded (c .message) ≡ d → isOf key d ≡ false → F .clock s ≤ c .time → (m : Message) → r .answer ≡ decode.Message m → key ≡ keyOf m → ⊥
   not-its (decode.Refused q) e o h m a x = not-refused (sym a ∙ answer-refused q e h)
   not-its (decode.Message n) e o h m a x =
       ⊎-elim
       (λ (y : r .answer ≡ decode.Message n). true≢false (sym (eq-eqb (keyOf n) key (ap keyIn (sym y ∙ a) ∙ sym x)) ∙ o))
       (λ (y : r .answer ≡ decode.Refused Full). not-refused (sym a ∙ y))
-      (key-answer s (c .message) (c .time) (c .bytes) (table .size) h n e)
+      (key-answer F L s (c .message) (c .time) (table .size) h n e)
 
-  pub other-call : own key c ≡ false → ownOf (r .table) key ≡ ownAfter (siteOf s) (ownOf s key) (heardIn key c)
+  pub other-call : own key c ≡ false → ownOf F (r .table) key ≡ ownAfter (F .site s) (ownOf F s key) (heardIn key c)
   unfolding own ownAfter heardIn
-  other-call o = by-time (ltb (c .time) (clockOf s)) refl
+  other-call o = by-time (ltb (c .time) (F .clock s)) refl
     where
-      by-time : (b : Bool) → ltb (c .time) (clockOf s) ≡ b
-          → ownOf (r .table) key ≡ cond b (ownOf s key) (with-track (c .time) (trackAfter (siteOf s) (view s key) (c .time) (ownIn key (decoded (c .message)))))
+      by-time : (b : Bool) → ltb (c .time) (F .clock s) ≡ b
+          → ownOf F (r .table) key ≡ cond b (ownOf F s key) (with-track (c .time) (trackAfter (F .site s) (view F s key) (c .time) (ownIn key (decoded (c .message)))))
       by-time true e = left e
       by-time false e =
-          let h : clockOf s ≤ c .time = ltb-false (c .time) (clockOf s) e in
+          let h : F .clock s ≤ c .time = ltb-false (c .time) (F .clock s) e in
           ap₂ with-track (clock-is e)
-          (dropped-by-the-clock s (c .message) (c .time) table (c .bytes) (c .fits) key (c .whole) h (not-its (decoded (c .message)) refl o h)
-          ∙ sym (ap (trackAfter (siteOf s) (view s key) (c .time)) (none-in key (decoded (c .message)) o)))
+          (dropped-by-the-clock F L s (c .message) (c .time) table (c .fits) key (c .whole) h (not-its (decoded (c .message)) refl o h)
+          ∙ sym (ap (trackAfter (F .site s) (view F s key) (c .time)) (none-in key (decoded (c .message)) o)))
 
   -- ---- its own call
 
@@ -99,23 +98,23 @@ module _ (key : ℕ) (s : List ℕ) (c : Call) (table : Table s) where
   answered b = answerTo b (ownIn key (decoded (c .message)))
 
   pub own-call : own key c ≡ true → (r .answer ≡ decode.Refused Full → ⊥)
-      → (ownOf (r .table) key ≡ ownAfter (siteOf s) (ownOf s key) (heardIn key c)) × (some (r .answer) ≡ answered (ltb (c .time) (clockOf s)))
+      → (ownOf F (r .table) key ≡ ownAfter (F .site s) (ownOf F s key) (heardIn key c)) × (some (r .answer) ≡ answered (ltb (c .time) (F .clock s)))
   unfolding own ownAfter heardIn
-  own-call o un = by-time (ltb (c .time) (clockOf s)) refl
+  own-call o un = by-time (ltb (c .time) (F .clock s)) refl
     where
       m : Mine key (decoded (c .message))
       m = mine key (decoded (c .message)) o
 
-      by-time : (b : Bool) → ltb (c .time) (clockOf s) ≡ b
-          → (ownOf (r .table) key ≡ cond b (ownOf s key) (with-track (c .time) (trackAfter (siteOf s) (view s key) (c .time) (ownIn key (decoded (c .message))))))
+      by-time : (b : Bool) → ltb (c .time) (F .clock s) ≡ b
+          → (ownOf F (r .table) key ≡ cond b (ownOf F s key) (with-track (c .time) (trackAfter (F .site s) (view F s key) (c .time) (ownIn key (decoded (c .message))))))
           × (some (r .answer) ≡ answered b)
-      by-time true e = (left e, ap some (late (ltb-true (c .time) (clockOf s) e) .1) ∙ sym (ap (answerTo true) (m .heard)))
+      by-time true e = (left e, ap some (late (ltb-true (c .time) (F .clock s) e) .1) ∙ sym (ap (answerTo true) (m .heard)))
       by-time false e =
-          let h : clockOf s ≤ c .time = ltb-false (c .time) (clockOf s) e in
-          let done = steps-its-track s (c .message) (c .time) table (c .bytes) (c .fits) (m .message) (m .is) h un in (
+          let h : F .clock s ≤ c .time = ltb-false (c .time) (F .clock s) e in
+          let done = steps-its-track F L s (c .message) (c .time) table (c .fits) (m .message) (m .is) h un in (
             ap₂ with-track (clock-is e)
-                (subst (λ (k : ℕ). view (r .table) k ≡ some (stepBody (orNew (laterAt (c .time) (view s k))) (m .message .body) (bodyMe (m .message .body)) (siteOf s) (c .time)))
+                (subst (λ (k : ℕ). view F (r .table) k ≡ some (stepBody (orNew (laterAt (c .time) (view F s k))) (m .message .body) (bodyMe (m .message .body)) (F .site s) (c .time)))
                 (m .keyed) (done .1)
-                ∙ sym (ap (trackAfter (siteOf s) (view s key) (c .time)) (m .heard))),
+                ∙ sym (ap (trackAfter (F .site s) (view F s key) (c .time)) (m .heard))),
             ap some (done .0) ∙ sym (ap (answerTo false) (m .heard)),
           )

@@ -1,6 +1,6 @@
--- The statement is not empty, its proviso is needed, and three wrong rules break it: two runs of two calls each, computed.
+-- The statement is not empty, its proviso is needed, and three wrong rules break it: two runs of two calls each, computed in the bytes and in the slice.
 -- Assumes nothing.
-use Prim.Native.Nat.{ℕ, zero, suc, _+_, _*_, _<_, _^_}
+use Prim.Native.Nat.{ℕ, zero, suc, _<_, _^_}
 use mathlib.Core.Bool.{Bool, true, false, _&&_, true≢false}
 use mathlib.Core.Option.{Option, some, none}
 use mathlib.Core.Path.{_≡_, refl, ap, sym, _∙_}
@@ -14,19 +14,27 @@ use Rattle.fields.specs.Bytes.{Bytes}
 use Rattle.fields.proofs.Bools.{and-left, and-right}
 use Rattle.division.specs.Division.{remainderFrom, reduce}
 use Rattle.parity.specs.Parity.{remainder}
+use Rattle.offsets.specs.Offsets.{tableSize, wholePlaces}
 use Rattle.messages.specs.declared.Decoded.{Decoded}
 use Rattle.messages.specs.declared.Decoded.the-variants as decode
 use Rattle.messages.specs.Message.{opened}
+use Rattle.located.specs.Located.{noSite}
 use Rattle.track.specs.declared.Track.{Track}
 use Rattle.track.specs.Track.{groupTrack}
+use Rattle.track.specs.Meaning.{meantGroups, meantPosition, meantSaved, meant}
 use Rattle.words.specs.Bytes.{numberAt, lowBytes, put}
-use Rattle.place.specs.Place.{savedFrom, groupsIn, lowered, positionIn, trackOf, raised, marksOf, savedNumber, savedBytes, messageBytes, spotBytes, bodyOf}
-use Rattle.held.specs.Ranges.{inRange, held}
-use Rattle.lent.specs.Layout.{wholePlaces, siteFrom, keyAt, bodyAt, holds, moved, stored, emptied}
+use Rattle.place.specs.Place.{savedFrom, groupsIn, lowered, positionIn, writtenIn, trackOf, raised, marksOf, savedNumber, savedBytes, messageBytes, spotBytes, bodyOf}
+use Rattle.held.specs.Ranges as ranges
 use Rattle.answers.specs.declared.SetUp.the-variants.{Done}
-use Rattle.table.specs.Table.{setUp, placeOf, freePlace, delivered, received}
-use Rattle.table.specs.View.{viewAt}
-use Rattle.isolation.specs.Runs.{Call, own, Alike, Alike.end, Alike.its, Alike.others, Rule, call, NeverFull, Seen, seen, begun, Isolation}
+use Rattle.rules.specs.Form.{isHeld, holds, Form}
+use Rattle.rules.specs.Rules.{setUp, placeOf, freePlace, delivered, received}
+use Rattle.rules.specs.View.{viewAt}
+use Rattle.lent.specs.Layout.{siteFrom, keyAt, bodyAt, moved, stored, emptied}
+use Rattle.slots.specs.Ranges as slots
+use Rattle.slots.specs.Head.{placesFit, headOf, siteOf}
+use Rattle.table.specs.Bytes.{bytes}
+use Rattle.tracks.specs.Slice.{Slice, sliceOf, slice}
+use Rattle.isolation.specs.Runs.{Call, own, Alike, Alike.end, Alike.its, Alike.others, Rule, call, NeverFull, Seen, seen, Isolation}
 use Rattle.isolation.specs.Wrong.{numberIn, overwriting, refreshing, kindless}
 
 -- ---- four messages: of I ABCDEF, of I 123456, of O ABCDEF, and one whose parity is wrong
@@ -79,13 +87,6 @@ refused-first = at noise refl refl 1000 (omega arith)
 abbrev refused : Call
 refused = at noise refl refl 2000 (omega arith)
 
--- a table of n places, set up without a site
-abbrev empty : ℕ → List ℕ
-empty n = replicate (16 + 79 * n) 0
-
-abbrev ready : ℕ → List ℕ
-ready n = begun none (empty n) .table
-
 -- ---- when the aircraft was last heard at the end of a run, one up; 0 if its track is absent
 
 abbrev heardIn : Option Track → ℕ
@@ -97,13 +98,7 @@ lastOf [] = none
 lastOf (x ∷ []) = x .track
 lastOf (x ∷ y ∷ r) = lastOf (y ∷ r)
 
-abbrev end-of : Rule → ℕ → List Call → ℕ
-end-of rule n cs = heardIn (lastOf (seen rule key (ready n) cs))
-
-abbrev number-to-first : Rule → ℕ → ℕ
-number-to-first rule n = numberIn (call rule (ready n) first .answer)
-
--- ---- whose the calls are, and that each table is whole: computed
+-- ---- whose the calls are: computed
 
 own-calls : (own key first ≡ true) × (own key second ≡ true) × (own key stranger-first ≡ false) × (own key stranger ≡ false) × (own key other-kind ≡ false)
     × (own key refused-first ≡ false) × (own key refused ≡ false)
@@ -116,87 +111,117 @@ own-first = own-calls .0
 noise-not-own : own key refused ≡ false
 noise-not-own = own-calls .6
 
-done : (begun none (empty 1) .answer ≡ Done) × (begun none (empty 2) .answer ≡ Done)
-unfolding setUp wholePlaces
-done = (refl, refl)
-
--- ---- a call of its own, and then one that is not: alike whatever that is
-
+-- a call of its own, and then one that is not: alike whatever that is
 alike : (c : Call) → own key c ≡ false → c .time ≡ 2000 → Alike key (first ∷ c ∷ []) (first ∷ refused ∷ [])
 alike c o t = its first own-first (others c refused o noise-not-own (cc) end)
 
 not-six : {d : Decoded} → numberIn d ≡ 0 → d ≡ decode.Refused Full → ⊥
 not-six z e = let six : _≡_ {A = ℕ} 0 6 = sym z ∙ ap numberIn e in omega arith
 
-module _ (rule : Rule) (n : ℕ) (is-done : begun none (empty n) .answer ≡ Done) (accepted : number-to-first rule n ≡ 0) where
-  never-full : (c : Call) → own key c ≡ false → NeverFull rule key (ready n) (first ∷ c ∷ [])
-  never-full c o = ((λ _ e. absurd (not-six accepted e)), ((λ p _. absurd (true≢false (sym p ∙ o))), tt))
+-- ---- a form, of which `empty n` is a table of n places
 
-  broken : (c : Call) → own key c ≡ false → c .time ≡ 2000 → {a b : ℕ} → end-of rule n (first ∷ c ∷ []) ≡ a → end-of rule n (first ∷ refused ∷ []) ≡ b → (a ≡ b → ⊥)
-      → Isolation rule → ⊥
-  broken c o t p q differ h =
-      differ
-      (sym p
-      ∙ ap (λ (x : List Seen). heardIn (lastOf x))
-      (h key none tt (empty n) (empty n) is-done is-done (first ∷ c ∷ []) (first ∷ refused ∷ []) (alike c o t) (never-full c o) (never-full refused noise-not-own))
-      ∙ q)
+module _ {S : Type 0} (F : Form S) (empty : ℕ → S) where
+  -- set up without a site
+  abbrev ready : ℕ → S
+  ready n = setUp F (empty n) noSite .table
 
--- ---- two alike runs that differ in a stranger's call, and hold a track at the end
+  abbrev end-of : Rule S → ℕ → List Call → ℕ
+  end-of rule n cs = heardIn (lastOf (seen F rule key (ready n) cs))
 
-held-in-both : (number-to-first received 2 ≡ 0) × (end-of received 2 (first ∷ stranger ∷ []) ≡ 1001) × (end-of received 2 (first ∷ refused ∷ []) ≡ 1001)
-unfolding own remainder remainderFrom reduce opened wholePlaces siteFrom keyAt bodyAt holds moved stored emptied setUp placeOf freePlace delivered received viewAt numberAt lowBytes put savedFrom groupsIn lowered positionIn trackOf raised marksOf savedNumber savedBytes messageBytes spotBytes bodyOf inRange held groupTrack
-held-in-both = (refl, refl, refl)
+  abbrev number-to-first : Rule S → ℕ → ℕ
+  number-to-first rule n = numberIn (call rule (ready n) first .answer)
 
-pub not-empty : Alike key (first ∷ stranger ∷ []) (first ∷ refused ∷ [])
-    × NeverFull received key (ready 2) (first ∷ stranger ∷ []) × NeverFull received key (ready 2) (first ∷ refused ∷ [])
-    × (stranger .message ≡ refused .message → ⊥)
-    × (end-of received 2 (first ∷ stranger ∷ []) ≡ 1001) × (end-of received 2 (first ∷ refused ∷ []) ≡ 1001)
-not-empty = (
-  alike stranger (own-calls .3) refl,
-  never-full received 2 (done .1) (held-in-both .0) stranger (own-calls .3),
-  never-full received 2 (done .1) (held-in-both .0) refused noise-not-own,
-  (λ e. let z : _≡_ {A = ℕ} 141 0 = ap (λ (m : List ℕ). getD m 0 0) e in omega arith),
-  held-in-both .1,
-  held-in-both .2,
-)
+  -- what is computed of it
+  pub record Computed : Type 0 where
+    pub done-1 : setUp F (empty 1) noSite .answer ≡ Done
+    pub done-2 : setUp F (empty 2) noSite .answer ≡ Done
+    pub held-in-both : (number-to-first (received F) 2 ≡ 0) × (end-of (received F) 2 (first ∷ stranger ∷ []) ≡ 1001) × (end-of (received F) 2 (first ∷ refused ∷ []) ≡ 1001)
+    pub one-place : (end-of (received F) 1 (stranger-first ∷ second ∷ []) ≡ 0) × (end-of (received F) 1 (refused-first ∷ second ∷ []) ≡ 2001)
+        × (numberIn (call (received F) (call (received F) (ready 1) stranger-first .table) second .answer) ≡ 6)
+    pub by-overwriting : (number-to-first (overwriting F) 1 ≡ 0) × (end-of (overwriting F) 1 (first ∷ stranger ∷ []) ≡ 0) × (end-of (overwriting F) 1 (first ∷ refused ∷ []) ≡ 1001)
+    pub by-refreshing : (number-to-first (refreshing F) 2 ≡ 0) × (end-of (refreshing F) 2 (first ∷ stranger ∷ []) ≡ 2001) × (end-of (refreshing F) 2 (first ∷ refused ∷ []) ≡ 1001)
+    pub by-kindless : (number-to-first (kindless F) 2 ≡ 0) × (end-of (kindless F) 2 (first ∷ other-kind ∷ []) ≡ 2001) × (end-of (kindless F) 2 (first ∷ refused ∷ []) ≡ 1001)
 
--- ---- why 'table full' is excepted: of two newcomers to one place the second is refused
+  module _ (rule : Rule S) (n : ℕ) (is-done : setUp F (empty n) noSite .answer ≡ Done) (accepted : number-to-first rule n ≡ 0) where
+    never-full : (c : Call) → own key c ≡ false → NeverFull rule key (ready n) (first ∷ c ∷ [])
+    never-full c o = ((λ _ e. absurd (not-six accepted e)), ((λ p _. absurd (true≢false (sym p ∙ o))), tt))
 
-one-place : (end-of received 1 (stranger-first ∷ second ∷ []) ≡ 0) × (end-of received 1 (refused-first ∷ second ∷ []) ≡ 2001)
-    × (numberIn (call received (call received (ready 1) stranger-first .table) second .answer) ≡ 6)
-unfolding own remainder remainderFrom reduce opened wholePlaces siteFrom keyAt bodyAt holds moved stored emptied setUp placeOf freePlace delivered received viewAt numberAt lowBytes put savedFrom groupsIn lowered positionIn trackOf raised marksOf savedNumber savedBytes messageBytes spotBytes bodyOf inRange held groupTrack
-one-place = (refl, refl, refl)
+    broken : (c : Call) → own key c ≡ false → c .time ≡ 2000 → {a b : ℕ} → end-of rule n (first ∷ c ∷ []) ≡ a → end-of rule n (first ∷ refused ∷ []) ≡ b → (a ≡ b → ⊥)
+        → Isolation F F rule rule → ⊥
+    broken c o t p q differ h =
+        differ
+        (sym p
+        ∙ ap (λ (x : List Seen). heardIn (lastOf x))
+        (h key noSite (λ k. absurd (true≢false (sym k))) (empty n) (empty n) is-done is-done (first ∷ c ∷ []) (first ∷ refused ∷ []) (alike c o t) (never-full c o) (never-full refused noise-not-own))
+        ∙ q)
 
-pub proviso-needed : ((s : List ℕ) (xs ys : List Call) → begun none s .answer ≡ Done → Alike key xs ys
-    → seen received key (begun none s .table) xs ≡ seen received key (begun none s .table) ys) → ⊥
-proviso-needed h =
-    let z : _≡_ {A = ℕ} 0 2001 =
-    sym (one-place .0)
-    ∙ ap (λ (x : List Seen). heardIn (lastOf x))
-    (h (empty 1) (stranger-first ∷ second ∷ []) (refused-first ∷ second ∷ []) (done .0)
-    (others stranger-first refused-first (own-calls .2) (own-calls .5) refl (its second (own-calls .1) end)))
-    ∙ one-place .1 in
-    omega arith
+  module _ (x : Computed) where
+    -- two alike runs that differ in a stranger's call, and hold a track at the end
+    pub not-empty : Alike key (first ∷ stranger ∷ []) (first ∷ refused ∷ [])
+        × NeverFull (received F) key (ready 2) (first ∷ stranger ∷ []) × NeverFull (received F) key (ready 2) (first ∷ refused ∷ [])
+        × (stranger .message ≡ refused .message → ⊥)
+        × (end-of (received F) 2 (first ∷ stranger ∷ []) ≡ 1001) × (end-of (received F) 2 (first ∷ refused ∷ []) ≡ 1001)
+    not-empty = (
+      alike stranger (own-calls .3) refl,
+      never-full (received F) 2 (x .done-2) (x .held-in-both .0) stranger (own-calls .3),
+      never-full (received F) 2 (x .done-2) (x .held-in-both .0) refused noise-not-own,
+      (λ e. let z : _≡_ {A = ℕ} 141 0 = ap (λ (m : List ℕ). getD m 0 0) e in omega arith),
+      x .held-in-both .1,
+      x .held-in-both .2,
+    )
 
--- ---- what must not pass: a newcomer over a held place, a stranger that refreshes every track, a key without its kind
+    -- why 'table full' is excepted: of two newcomers to one place the second is refused
+    pub proviso-needed : ((s : S) (xs ys : List Call) → setUp F s noSite .answer ≡ Done → Alike key xs ys
+        → seen F (received F) key (setUp F s noSite .table) xs ≡ seen F (received F) key (setUp F s noSite .table) ys) → ⊥
+    proviso-needed h =
+        let z : _≡_ {A = ℕ} 0 2001 =
+        sym (x .one-place .0)
+        ∙ ap (λ (y : List Seen). heardIn (lastOf y))
+        (h (empty 1) (stranger-first ∷ second ∷ []) (refused-first ∷ second ∷ []) (x .done-1)
+        (others stranger-first refused-first (own-calls .2) (own-calls .5) refl (its second (own-calls .1) end)))
+        ∙ x .one-place .1 in
+        omega arith
 
-by-overwriting : (number-to-first overwriting 1 ≡ 0) × (end-of overwriting 1 (first ∷ stranger ∷ []) ≡ 0) × (end-of overwriting 1 (first ∷ refused ∷ []) ≡ 1001)
-unfolding own remainder remainderFrom reduce opened wholePlaces siteFrom keyAt bodyAt holds moved stored emptied setUp placeOf freePlace delivered received viewAt numberAt lowBytes put savedFrom groupsIn lowered positionIn trackOf raised marksOf savedNumber savedBytes messageBytes spotBytes bodyOf inRange held groupTrack
-by-overwriting = (refl, refl, refl)
+    -- what must not pass: a newcomer over a held place, a stranger that refreshes every track, a key without its kind
+    pub no-overwriting : Isolation F F (overwriting F) (overwriting F) → ⊥
+    no-overwriting = broken (overwriting F) 1 (x .done-1) (x .by-overwriting .0) stranger (own-calls .3) refl (x .by-overwriting .1) (x .by-overwriting .2) (λ e. omega arith)
 
-pub no-overwriting : Isolation overwriting → ⊥
-no-overwriting = broken overwriting 1 (done .0) (by-overwriting .0) stranger (own-calls .3) refl (by-overwriting .1) (by-overwriting .2) (λ e. omega arith)
+    pub no-refreshing : Isolation F F (refreshing F) (refreshing F) → ⊥
+    no-refreshing = broken (refreshing F) 2 (x .done-2) (x .by-refreshing .0) stranger (own-calls .3) refl (x .by-refreshing .1) (x .by-refreshing .2) (λ e. omega arith)
 
-by-refreshing : (number-to-first refreshing 2 ≡ 0) × (end-of refreshing 2 (first ∷ stranger ∷ []) ≡ 2001) × (end-of refreshing 2 (first ∷ refused ∷ []) ≡ 1001)
-unfolding own remainder remainderFrom reduce opened wholePlaces siteFrom keyAt bodyAt holds moved stored emptied setUp placeOf freePlace delivered received viewAt numberAt lowBytes put savedFrom groupsIn lowered positionIn trackOf raised marksOf savedNumber savedBytes messageBytes spotBytes bodyOf inRange held groupTrack
-by-refreshing = (refl, refl, refl)
+    pub no-kindless : Isolation F F (kindless F) (kindless F) → ⊥
+    no-kindless = broken (kindless F) 2 (x .done-2) (x .by-kindless .0) other-kind (own-calls .4) refl (x .by-kindless .1) (x .by-kindless .2) (λ e. omega arith)
 
-pub no-refreshing : Isolation refreshing → ⊥
-no-refreshing = broken refreshing 2 (done .1) (by-refreshing .0) stranger (own-calls .3) refl (by-refreshing .1) (by-refreshing .2) (λ e. omega arith)
+-- ---- both forms
 
-by-kindless : (number-to-first kindless 2 ≡ 0) × (end-of kindless 2 (first ∷ other-kind ∷ []) ≡ 2001) × (end-of kindless 2 (first ∷ refused ∷ []) ≡ 1001)
-unfolding own remainder remainderFrom reduce opened wholePlaces siteFrom keyAt bodyAt holds moved stored emptied setUp placeOf freePlace delivered received viewAt numberAt lowBytes put savedFrom groupsIn lowered positionIn trackOf raised marksOf savedNumber savedBytes messageBytes spotBytes bodyOf inRange held groupTrack
-by-kindless = (refl, refl, refl)
+abbrev pub empty-bytes : ℕ → List ℕ
+empty-bytes n = replicate (tableSize n) 0
 
-pub no-kindless : Isolation kindless → ⊥
-no-kindless = broken kindless 2 (done .1) (by-kindless .0) other-kind (own-calls .4) refl (by-kindless .1) (by-kindless .2) (λ e. omega arith)
+pub in-bytes : Computed bytes empty-bytes
+unfolding remainder remainderFrom reduce opened own isHeld holds setUp placeOf freePlace delivered received viewAt wholePlaces siteFrom keyAt bodyAt moved stored emptied numberAt lowBytes put savedFrom groupsIn lowered positionIn writtenIn meantGroups meantPosition meantSaved meant trackOf raised marksOf savedNumber savedBytes messageBytes spotBytes bodyOf ranges.inRange groupTrack
+in-bytes =
+    record {
+      done-1 = refl;
+      done-2 = refl;
+      held-in-both = (refl, refl, refl);
+      one-place = (refl, refl, refl);
+      by-overwriting = (refl, refl, refl);
+      by-refreshing = (refl, refl, refl);
+      by-kindless = (refl, refl, refl);
+    }
+
+abbrev pub empty-slice : ℕ → Slice
+empty-slice n = sliceOf (headOf 0 noSite) (replicate n slots.noPlace)
+
+pub in-slice : Computed slice empty-slice
+unfolding remainder remainderFrom reduce opened own isHeld holds setUp placeOf freePlace delivered received viewAt meantGroups meantPosition meantSaved meant slots.inRange slots.trackFits slots.groupsFit slots.countsFit placesFit siteOf groupTrack
+in-slice =
+    record {
+      done-1 = refl;
+      done-2 = refl;
+      held-in-both = (refl, refl, refl);
+      one-place = (refl, refl, refl);
+      by-overwriting = (refl, refl, refl);
+      by-refreshing = (refl, refl, refl);
+      by-kindless = (refl, refl, refl);
+    }

@@ -1,4 +1,7 @@
 pub mod Calls
 pub mod Isolated
-pub mod OfCode
+pub mod Both
+pub mod Played
 pub mod Examples
+pub mod OfCode
+pub mod OfSlice

@@ -13,8 +13,8 @@ use Rattle.messages.specs.Message.{decoded, keyOf}
 use Rattle.located.specs.declared.Site.{Site}
 use Rattle.track.specs.declared.Track.{Track}
 use Rattle.track.specs.Track.{stepBody}
-use Rattle.lent.specs.Layout.{clockOf}
-use Rattle.table.specs.View.{view, laterAt, orNew}
+use Rattle.rules.specs.Form.{Form}
+use Rattle.rules.specs.View.{view, laterAt, orNew}
 use Rattle.isolation.specs.Runs.{Call, Seen}
 
 -- what it hears of a call: the time, and the message if that is its own
@@ -38,8 +38,8 @@ pub record Own : Type 0 where
   pub clock : ℕ
   pub track : Option Track
 
-abbrev pub ownOf : List ℕ → ℕ → Own
-ownOf s key = record { clock = clockOf s; track = view s key }
+abbrev pub ownOf : {S : Type 0} → Form S → S → ℕ → Own
+ownOf F s key = record { clock = F .clock s; track = view F s key }
 
 -- its message steps its track, another's leaves it but for its age
 abbrev pub trackAfter : Site → Option Track → ℕ → Option Message → Option Track

@@ -1,3 +1,5 @@
 pub mod Runs
 pub mod Alone
 pub mod Wrong
+pub mod Played
+pub mod Twin

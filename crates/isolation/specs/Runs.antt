@@ -10,15 +10,15 @@ use lib.Dec.{eqb}
 use lib.ListN.{length}
 use Rattle.refusals.specs.declared.Refusal.the-variants.{Full}
 use Rattle.fields.specs.Bytes.{Bytes}
-use Rattle.positions.specs.declared.Spot.{Spot}
 use Rattle.messages.specs.declared.Decoded.{Decoded}
 use Rattle.messages.specs.declared.Decoded.the-variants as decode
 use Rattle.messages.specs.Message.{decoded, keyOf}
 use Rattle.track.specs.declared.Track.{Track}
-use Rattle.answers.specs.declared.SetUp.{SetUp}
 use Rattle.answers.specs.declared.SetUp.the-variants.{Done}
-use Rattle.table.specs.Table.{After, setUp, setUpAt}
-use Rattle.table.specs.View.{view}
+use Rattle.located.specs.declared.Site.{Site}
+use Rattle.rules.specs.Form.{Form, East}
+use Rattle.rules.specs.Rules.{After, setUp}
+use Rattle.rules.specs.View.{view}
 
 -- a call: 14 bytes and a time of 64 bits
 pub record Call : Type 0 where
@@ -43,15 +43,15 @@ pub data Alike (key : ℕ) : List Call → List Call → Type 0 where
   its : (c : Call) {xs ys : List Call} → own key c ≡ true → Alike key xs ys → Alike key (c ∷ xs) (c ∷ ys)
   others : (c d : Call) {xs ys : List Call} → own key c ≡ false → own key d ≡ false → c .time ≡ d .time → Alike key xs ys → Alike key (c ∷ xs) (d ∷ ys)
 
--- what a call does to a table, by a rule: `received` is the library's
-abbrev pub Rule : Type 0
-Rule = List ℕ → List ℕ → ℕ → After Decoded
+-- what a call does to a table, by a rule: `received` of its form is the library's
+abbrev pub Rule : Type 0 → Type 0
+Rule S = S → List ℕ → ℕ → After S Decoded
 
-abbrev pub call : Rule → List ℕ → Call → After Decoded
+abbrev pub call : {S : Type 0} → Rule S → S → Call → After S Decoded
 call rule s c = rule s (c .message) (c .time)
 
 -- 'table full' is answered to none of its messages
-abbrev pub NeverFull : Rule → ℕ → List ℕ → List Call → Type 0
+abbrev pub NeverFull : {S : Type 0} → Rule S → ℕ → S → List Call → Type 0
 NeverFull rule key s [] = Unit {0}
 NeverFull rule key s (c ∷ cs) = (own key c ≡ true → call rule s c .answer ≡ decode.Refused Full → ⊥) × NeverFull rule key (call rule s c .table) cs
 
@@ -60,28 +60,18 @@ pub record Seen : Type 0 where
   pub answer : Option Decoded
   pub track : Option Track
 
-abbrev pub saw : ℕ → Call → After Decoded → Seen
-saw key c r = record { answer = cond (own key c) (some (r .answer)) none; track = view (r .table) key }
+abbrev pub saw : {S : Type 0} → Form S → ℕ → Call → After S Decoded → Seen
+saw F key c r = record { answer = cond (own key c) (some (r .answer)) none; track = view F (r .table) key }
 
 -- .. and of a run, call by call
-abbrev pub seen : Rule → ℕ → List ℕ → List Call → List Seen
-seen rule key s [] = []
-seen rule key s (c ∷ cs) = saw key c (call rule s c) ∷ seen rule key (call rule s c .table) cs
+abbrev pub seen : {S : Type 0} → Form S → Rule S → ℕ → S → List Call → List Seen
+seen F rule key s [] = []
+seen F rule key s (c ∷ cs) = saw F key c (call rule s c) ∷ seen F rule key (call rule s c .table) cs
 
--- a set-up, with a site or without
-abbrev pub begun : Option Spot → List ℕ → After SetUp
-begun none s = setUp s
-begun (some site) s = setUpAt s site
-
--- a longitude has 32 bits, as `set_up_at` takes it
-abbrev pub Fits : Option Spot → Type 0
-Fits none = Unit {0}
-Fits (some site) = site .longitude < 2 ^ 32
-
--- two alike runs show an aircraft the same. One set-up is s and t the same; whatever they held before, and however many places each has, it holds too
-abbrev pub Isolation : Rule → Type 0
-Isolation rule =
-    (key : ℕ) (site : Option Spot) → Fits site → (s t : List ℕ) → begun site s .answer ≡ Done → begun site t .answer ≡ Done
+-- two alike runs show an aircraft the same. One set-up is s and t the same; whatever they held before, however many places each has, and in whatever form each is, it holds too
+abbrev pub Isolation : {S T : Type 0} → Form S → Form T → Rule S → Rule T → Type 0
+Isolation {S} {T} F G rule rule′ =
+    (key : ℕ) (site : Site) → East site → (s : S) (t : T) → setUp F s site .answer ≡ Done → setUp G t site .answer ≡ Done
     → (xs ys : List Call) → Alike key xs ys
-    → NeverFull rule key (begun site s .table) xs → NeverFull rule key (begun site t .table) ys
-    → seen rule key (begun site s .table) xs ≡ seen rule key (begun site t .table) ys
+    → NeverFull rule key (setUp F s site .table) xs → NeverFull rule′ key (setUp G t site .table) ys
+    → seen F rule key (setUp F s site .table) xs ≡ seen G rule′ key (setUp G t site .table) ys

@@ -17,9 +17,10 @@ use Rattle.fields.proofs.Fits.{fits-fit, unpack-fits}
 use Rattle.fields.proofs.Packing.{pack-unpack, pack-lt}
 use Rattle.layouts.specs.Layouts.{isIdentification, isSurface, isAirborne, identificationWidths, surfaceWidths, airborneWidths}
 use Rattle.velocity.specs.Velocity.{isGround, isAir, velocityWidths}
-use Rattle.layouts.specs.Bodies.{takenAt, taken, bodyFields, bodyWidths, typeAgrees, bodyMe, bodyFits, written}
+use Rattle.layouts.specs.Bodies.{layoutAt, takenAs, taken, bodyFields, bodyWidths, typeAgrees, bodyMe, bodyFits, written}
 use Rattle.layouts.specs.declared.bodies.Body.{Body}
 use Rattle.layouts.specs.declared.bodies.Body.the-variants as body
+use Rattle.layouts.specs.declared.bodies.Layout.{Layout}
 use Rattle.layouts.specs.declared.bodies.Taken.{Taken}
 use Rattle.layouts.specs.declared.bodies.Taken.the-variants as read
 use Rattle.layouts.specs.declared.bodies.Written.the-variants as write
@@ -30,7 +31,7 @@ use Rattle.layouts.proofs.Layouts.{unpacked, back, identification, surf
 pub fitting : (b : Body) → bodyFits b ≡ true → Fit (bodyWidths b) (bodyFields b)
 fitting b e = fits-fit (bodyWidths b) (bodyFields b) (and-left (fits (bodyWidths b) (bodyFields b)) (typeAgrees b) e)
 
-agreeing : (b : Body) → bodyFits b ≡ true → typeAgrees b ≡ true
+pub agreeing : (b : Body) → bodyFits b ≡ true → typeAgrees b ≡ true
 agreeing b e = and-right (fits (bodyWidths b) (bodyFields b)) (typeAgrees b) e
 
 all-56 : (b : Body) → total (bodyWidths b) ≡ 56
@@ -65,33 +66,33 @@ nineteen n a b e = eqb-true n 19 (and-left (eqb n 19) a (and-left (eqb n 19 && a
 
 -- ---- what is written is read back
 
-read-back : (b : Body) → bodyFits b ≡ true → taken (bodyMe b) ≡ read.Body b
+pub read-back : (b : Body) → bodyFits b ≡ true → taken (bodyMe b) ≡ read.Body b
 read-back (body.Identification b) e =
     let n : ℕ = bodyMe (body.Identification b) in
     let f = fitting (body.Identification b) e in
-    ap (λ (l : List ℕ). takenAt (getD l 0 0) (me 6 8 n) n) (unpacked identification b f)
+    ap (λ (l : List ℕ). takenAs (layoutAt (getD l 0 0) (me 6 8 n)) n) (unpacked identification b f)
     ∙ simp (agreeing (body.Identification b) e) (ap (λ x. read.Body (body.Identification x)) (back identification b f))
 read-back (body.Surface b) e =
     let n : ℕ = bodyMe (body.Surface b) in
     let f = fitting (body.Surface b) e in
     let q = agreeing (body.Surface b) e in
     let h : 5 ≤ b .typecode = from-low 5 8 (b .typecode) q in
-    ap (λ (l : List ℕ). takenAt (getD l 0 0) (me 6 8 n) n) (unpacked surface b f)
+    ap (λ (l : List ℕ). takenAs (layoutAt (getD l 0 0) (me 6 8 n)) n) (unpacked surface b f)
     ∙ simp (above 1 4 (b .typecode) h, q) (ap (λ x. read.Body (body.Surface x)) (back surface b f))
 read-back (body.Airborne b) e =
     let n : ℕ = bodyMe (body.Airborne b) in
     let f = fitting (body.Airborne b) e in
     let q = agreeing (body.Airborne b) e in
     let h : 9 ≤ b .typecode = from-nine (b .typecode) (leb 9 (b .typecode) && leb (b .typecode) 18) refl q in
-    ap (λ (l : List ℕ). takenAt (getD l 0 0) (me 6 8 n) n) (unpacked airborne b f)
+    ap (λ (l : List ℕ). takenAs (layoutAt (getD l 0 0) (me 6 8 n)) n) (unpacked airborne b f)
     ∙ simp (above 1 4 (b .typecode) (omega arith), above 5 8 (b .typecode) h, q) (ap (λ x. read.Body (body.Airborne x)) (back airborne b f))
 read-back (body.Ground b) e =
     let n : ℕ = bodyMe (body.Ground b) in
     let f = fitting (body.Ground b) e in
     let q = agreeing (body.Ground b) e in
     let h : b .typecode ≡ 19 = nineteen (b .typecode) (leb 1 (b .subtype)) (leb (b .subtype) 2) q in
-    ap (λ (l : List ℕ). takenAt (getD l 0 0) (getD l 1 0) n) (unpacked ground b f)
-    ∙ ap (λ (t : ℕ). takenAt t (b .subtype) n) h
+    ap (λ (l : List ℕ). takenAs (layoutAt (getD l 0 0) (getD l 1 0)) n) (unpacked ground b f)
+    ∙ ap (λ (t : ℕ). takenAs (layoutAt t (b .subtype)) n) h
     ∙ simp (ap (λ (t : ℕ). isGround t (b .subtype)) (sym h) ∙ q) (ap (λ x. read.Body (body.Ground x)) (back ground b f))
 read-back (body.Air b) e =
     let n : ℕ = bodyMe (body.Air b) in
@@ -99,8 +100,8 @@ read-back (body.Air b) e =
     let q = agreeing (body.Air b) e in
     let h : b .typecode ≡ 19 = nineteen (b .typecode) (leb 3 (b .subtype)) (leb (b .subtype) 4) q in
     let r : leb 3 (b .subtype) && leb (b .subtype) 4 ≡ true = ap (λ (t : ℕ). isAir t (b .subtype)) (sym h) ∙ q in
-    ap (λ (l : List ℕ). takenAt (getD l 0 0) (getD l 1 0) n) (unpacked air b f)
-    ∙ ap (λ (t : ℕ). takenAt t (b .subtype) n) h
+    ap (λ (l : List ℕ). takenAs (layoutAt (getD l 0 0) (getD l 1 0)) n) (unpacked air b f)
+    ∙ ap (λ (t : ℕ). takenAs (layoutAt t (b .subtype)) n) h
     ∙ simp (above 1 2 (b .subtype) (from-low 3 4 (b .subtype) r), r) (ap (λ x. read.Body (body.Air x)) (back air b f))
 
 -- ---- what is read is written back
@@ -118,11 +119,12 @@ module _ (n : ℕ) (h : n < 2 ^ 56) where
   good =
       let t : ℕ = me 1 5 n in
       let s : ℕ = me 6 8 n in
-      by-test (Good n) (isIdentification t) _ _ (λ q. (both (unpack-fits identificationWidths n) q, whole identificationWidths refl))
-      (λ _. by-test (Good n) (isSurface t) _ _ (λ q. (both (unpack-fits surfaceWidths n) q, whole surfaceWidths refl))
-      (λ _. by-test (Good n) (isAirborne t) _ _ (λ q. (both (unpack-fits airborneWidths n) q, whole airborneWidths refl))
-      (λ _. by-test (Good n) (isGround t s) _ _ (λ q. (both (unpack-fits velocityWidths n) q, whole velocityWidths refl))
-      (λ _. by-test (Good n) (isAir t s) _ _ (λ q. (both (unpack-fits velocityWidths n) q, whole velocityWidths refl))
+      let As : Layout → Type 0 = λ l. Good n (takenAs l n) in
+      by-test As (isIdentification t) _ _ (λ q. (both (unpack-fits identificationWidths n) q, whole identificationWidths refl))
+      (λ _. by-test As (isSurface t) _ _ (λ q. (both (unpack-fits surfaceWidths n) q, whole surfaceWidths refl))
+      (λ _. by-test As (isAirborne t) _ _ (λ q. (both (unpack-fits airborneWidths n) q, whole airborneWidths refl))
+      (λ _. by-test As (isGround t s) _ _ (λ q. (both (unpack-fits velocityWidths n) q, whole velocityWidths refl))
+      (λ _. by-test As (isAir t s) _ _ (λ q. (both (unpack-fits velocityWidths n) q, whole velocityWidths refl))
       (λ _. tt)))))
 
 pub read-good : (n : ℕ) (b : Body) → n < 2 ^ 56 → taken n ≡ read.Body b → (bodyFits b ≡ true) × (bodyMe b ≡ n)

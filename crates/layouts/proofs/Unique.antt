@@ -2,13 +2,33 @@
 -- Assumes nothing.
 use mathlib.Core.Path.{sym, _∙_}
 use Rattle.refusals.specs.Answers.{OneAnswer}
+use Rattle.layouts.proofs.airborne.airborne_of.Kinds as airborne-of-kinds
+use Rattle.layouts.proofs.airborne.airborne_of.Reads as airborne-of
 use Rattle.layouts.proofs.bodies.body_of.Kinds as body-of-kinds
 use Rattle.layouts.proofs.bodies.body_of.Reads as body-of
+use Rattle.layouts.proofs.bodies.is_taken.Kinds as is-taken-kinds
+use Rattle.layouts.proofs.bodies.is_taken.Reads as is-taken
+use Rattle.layouts.proofs.bodies.layout_of.Kinds as layout-of-kinds
+use Rattle.layouts.proofs.bodies.layout_of.Reads as layout-of
 use Rattle.layouts.proofs.bodies.me_of.Kinds as me-of-kinds
 use Rattle.layouts.proofs.bodies.me_of.Reads as me-of
+use Rattle.layouts.proofs.surface.surface_of.Kinds as surface-of-kinds
+use Rattle.layouts.proofs.surface.surface_of.Reads as surface-of
 
 pub body-of-once : OneAnswer 0 body-of-kinds.ps body-of-kinds.r body-of.Post
 body-of-once κs args x y left left′ p q = p ∙ sym q
 
 pub me-of-once : OneAnswer 0 me-of-kinds.ps me-of-kinds.r me-of.Post
 me-of-once κs args x y left left′ p q = p ∙ sym q
+
+pub layout-of-once : OneAnswer 0 layout-of-kinds.ps layout-of-kinds.r layout-of.Post
+layout-of-once κs args x y left left′ p q = p ∙ sym q
+
+pub is-taken-once : OneAnswer 0 is-taken-kinds.ps is-taken-kinds.r is-taken.Post
+is-taken-once κs args x y left left′ p q = p ∙ sym q
+
+pub surface-of-once : OneAnswer 0 surface-of-kinds.ps surface-of-kinds.r surface-of.Post
+surface-of-once κs args x y left left′ p q = p ∙ sym q
+
+pub airborne-of-once : OneAnswer 0 airborne-of-kinds.ps airborne-of-kinds.r airborne-of.Post
+airborne-of-once κs args x y left left′ p q = p ∙ sym q

@@ -1,11 +1,13 @@
 -- ME as a whole: its layout by TYPE and subtype, or the refusal.
 use Prim.Native.Nat.{ℕ}
 use mathlib.Core.List.{List}
-use mathlib.Core.Bool.{Bool, cond, _&&_}
+use mathlib.Core.Bool.{Bool, true, false, cond, _&&_}
 use Rattle.refusals.specs.declared.Refusal.the-variants.{TypeCode, Field}
 use Rattle.fields.specs.Packing.{pack, fits, me}
 use Rattle.layouts.specs.declared.bodies.Body.{Body}
 use Rattle.layouts.specs.declared.bodies.Body.the-variants as body
+use Rattle.layouts.specs.declared.bodies.Layout.{Layout}
+use Rattle.layouts.specs.declared.bodies.Layout.the-variants as layout
 use Rattle.layouts.specs.declared.bodies.Taken.{Taken}
 use Rattle.layouts.specs.declared.bodies.Taken.the-variants as read
 use Rattle.layouts.specs.declared.bodies.Written.{Written}
@@ -14,18 +16,38 @@ use Rattle.layouts.specs.Layouts.{isIdentification, isSurface, isAirborn
 use Rattle.velocity.specs.Velocity.{isGround, isAir, groundOf, airOf, groundFields, airFields, velocityWidths}
 
 -- by TYPE and subtype; any other is not taken
-abbrev pub takenAt : ℕ → ℕ → ℕ → Taken
-takenAt type subtype n =
-    cond (isIdentification type) (read.Body (body.Identification (identificationOf n)))
-    (cond (isSurface type) (read.Body (body.Surface (surfaceOf n)))
-    (cond (isAirborne type) (read.Body (body.Airborne (airborneOf n)))
-    (cond (isGround type subtype) (read.Body (body.Ground (groundOf n)))
-    (cond (isAir type subtype) (read.Body (body.Air (airOf n)))
-    (read.Refused TypeCode)))))
+abbrev pub layoutAt : ℕ → ℕ → Layout
+layoutAt type subtype =
+    cond (isIdentification type) layout.Identification
+    (cond (isSurface type) layout.Surface
+    (cond (isAirborne type) layout.Airborne
+    (cond (isGround type subtype) layout.Ground
+    (cond (isAir type subtype) layout.Air
+    layout.NotTaken))))
 
 -- TYPE is bits 1-5, the subtype bits 6-8
+abbrev pub layoutOf : ℕ → Layout
+layoutOf n = layoutAt (me 1 5 n) (me 6 8 n)
+
+abbrev pub isTaken : Layout → Bool
+isTaken layout.Identification = true
+isTaken layout.Surface = true
+isTaken layout.Airborne = true
+isTaken layout.Ground = true
+isTaken layout.Air = true
+isTaken layout.NotTaken = false
+
+-- what the bits say in a layout
+abbrev pub takenAs : Layout → ℕ → Taken
+takenAs layout.Identification n = read.Body (body.Identification (identificationOf n))
+takenAs layout.Surface n = read.Body (body.Surface (surfaceOf n))
+takenAs layout.Airborne n = read.Body (body.Airborne (airborneOf n))
+takenAs layout.Ground n = read.Body (body.Ground (groundOf n))
+takenAs layout.Air n = read.Body (body.Air (airOf n))
+takenAs layout.NotTaken n = read.Refused TypeCode
+
 abbrev pub taken : ℕ → Taken
-taken n = takenAt (me 1 5 n) (me 6 8 n) n
+taken n = takenAs (layoutOf n) n
 
 -- the fields in the order of their bits, how many bits each has, and whether TYPE and subtype are those of the layout
 abbrev pub bodyFields : Body → List ℕ

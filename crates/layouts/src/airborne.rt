@@ -18,7 +18,7 @@ pub struct Airborne {
     pub longitude: LongitudeCount,
 }
 
-pub(crate) fn airborne_of(me: u64) -> Airborne
+pub fn airborne_of(me: u64) -> Airborne
     ensures { λ r. ⌜ r ≡ airborneOf me ⌝ }
 {
     Airborne {

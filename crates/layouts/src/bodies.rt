@@ -22,7 +22,7 @@ use velocity::ground_me;
 use velocity::ground_of;
 ghost use mathlib.Core.Path.{_≡_};
 ghost use mathlib.Core.Bool.{true};
-ghost use Rattle.layouts.specs.Bodies.{taken, written, bodyMe, bodyFits};
+ghost use Rattle.layouts.specs.Bodies.{layoutOf, isTaken, taken, written, bodyMe, bodyFits};
 
 pub enum Body {
     Identification(Identification),
@@ -45,28 +45,67 @@ pub enum Written {
     Refused(Refusal),
 }
 
-// What the 56 bits of ME say. What a number has above them is not read.
-pub fn body_of(me: u64) -> Taken
-    ensures { λ r. ⌜ r ≡ taken me ⌝ }
+// Which layout ME has: the two of TYPE 19 by their subtypes.
+pub enum Layout {
+    Identification,
+    Surface,
+    Airborne,
+    Ground,
+    Air,
+    NotTaken,
+}
+
+pub fn layout_of(me: u64) -> Layout
+    ensures { λ r. ⌜ r ≡ layoutOf me ⌝ }
 {
     let t = me / 0x8_0000_0000_0000 % 32;
     let s = me / 0x1_0000_0000_0000 % 8;
     if (1 <= t) & (t <= 4) {
-        return Taken::Body(Body::Identification(identification_of(me)));
+        return Layout::Identification;
     }
     if (5 <= t) & (t <= 8) {
-        return Taken::Body(Body::Surface(surface_of(me)));
+        return Layout::Surface;
     }
     if ((9 <= t) & (t <= 18)) | ((20 <= t) & (t <= 22)) {
-        return Taken::Body(Body::Airborne(airborne_of(me)));
+        return Layout::Airborne;
     }
     if (t == 19) & (1 <= s) & (s <= 2) {
-        return Taken::Body(Body::Ground(ground_of(me)));
+        return Layout::Ground;
     }
     if (t == 19) & (3 <= s) & (s <= 4) {
-        return Taken::Body(Body::Air(air_of(me)));
+        return Layout::Air;
     }
-    Taken::Refused(Refusal::TypeCode)
+    Layout::NotTaken
+}
+
+// Whether ME has a layout, so that it does not earn 5.
+pub fn is_taken(me: u64) -> bool
+    ensures { λ r. ⌜ r ≡ isTaken (layoutOf me) ⌝ }
+{
+    let layout = layout_of(me);
+    match layout {
+        Layout::Identification => true,
+        Layout::Surface => true,
+        Layout::Airborne => true,
+        Layout::Ground => true,
+        Layout::Air => true,
+        Layout::NotTaken => false,
+    }
+}
+
+// What the 56 bits of ME say. What a number has above them is not read.
+pub fn body_of(me: u64) -> Taken
+    ensures { λ r. ⌜ r ≡ taken me ⌝ }
+{
+    let layout = layout_of(me);
+    match layout {
+        Layout::Identification => Taken::Body(Body::Identification(identification_of(me))),
+        Layout::Surface => Taken::Body(Body::Surface(surface_of(me))),
+        Layout::Airborne => Taken::Body(Body::Airborne(airborne_of(me))),
+        Layout::Ground => Taken::Body(Body::Ground(ground_of(me))),
+        Layout::Air => Taken::Body(Body::Air(air_of(me))),
+        Layout::NotTaken => Taken::Refused(Refusal::TypeCode),
+    }
 }
 
 // Whether each field fits its bits and the TYPE and subtype are those of the layout.

@@ -19,7 +19,7 @@ pub struct Surface {
     pub longitude: LongitudeCount,
 }
 
-pub(crate) fn surface_of(me: u64) -> Surface
+pub fn surface_of(me: u64) -> Surface
     ensures { λ r. ⌜ r ≡ surfaceOf me ⌝ }
 {
     Surface {

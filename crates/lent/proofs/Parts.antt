@@ -1,37 +1,30 @@
--- The size of a table, its head and its bodies, as the code finds them: arithmetic over the definitions.
+-- A table's bodies and latitudes, as the code finds them: arithmetic over the definitions.
 -- Assumes nothing.
-use Prim.Native.Nat.{ℕ, suc, _+_, _*_, _-_, _%_, _≤_, _<_}
+use Prim.Native.Nat.{ℕ, suc, _+_, _-_, _<_}
 use native.Mathlib.Omega.{arith}
 use native.Mathlib.Numerals.{add-one}
 use mathlib.Core.Bool.{Bool, true, false, not, _&&_}
 use mathlib.Core.Path.{_≡_, refl, ap, sym, _∙_}
 use mathlib.Core.List.{List, [], _∷_, _++_}
-use lib.Dec.{eqb, leb}
+use lib.Dec.{leb}
 use lib.IntN.{ℤ, pos, negsuc}
 use lib.ListN.{length, take, drop, set, replicate, replicate-append-replicate}
 use lib.Seq.{take-suc-set, take-length}
-use borrow.Author.Tests.{le-leb, lt-leb, leb-true, leb-false, eqb-true, not-false}
-use Rattle.fields.proofs.Bools.{each}
+use borrow.Author.Tests.{le-leb, lt-leb, leb-true, leb-false, not-false}
+use Rattle.offsets.specs.Offsets.{bodySize, bodyStart, wholePlaces}
 use Rattle.positions.specs.Positions.{poleToPole}
 use Rattle.place.specs.Place.{raised}
-use Rattle.lent.specs.Layout.{wholePlaces, bodyAt}
-
-pub sized : (l : ℕ) → wholePlaces l ≡ true → (95 ≤ l) × ((l ≤ 80912) × (l % 79 ≡ 16))
-unfolding wholePlaces
-sized l e =
-    let p = each (leb 95 l && leb l 80912) (eqb (l % 79) 16) e in
-    let q = each (leb 95 l) (leb l 80912) (p .0) in
-    (leb-true 95 l (q .0), (leb-true l 80912 (q .1), eqb-true (l % 79) 16 (p .1)))
+use Rattle.lent.specs.Layout.{bodyAt}
 
 -- a table's length that has passed the test
 pub whole : (l : ℕ) {t : Bool} → t ≡ wholePlaces l → not t ≡ false → wholePlaces l ≡ true
 whole l {t} e f = sym e ∙ not-false t f
 
 -- a body, from its start to its end
-pub body-part : (s : List ℕ) (n i : ℕ) → take (16 + 4 * n + 75 * i + 75 - (16 + 4 * n + 75 * i)) (drop (16 + 4 * n + 75 * i) s) ≡ bodyAt s n i
+pub body-part : (s : List ℕ) (n i : ℕ) → take (bodyStart n i + bodySize - bodyStart n i) (drop (bodyStart n i) s) ≡ bodyAt s n i
 unfolding bodyAt
 body-part s n i =
-    let e : 16 + 4 * n + 75 * i + 75 - (16 + 4 * n + 75 * i) ≡ 75 = omega arith in
+    let e : bodyStart n i + bodySize - bodyStart n i ≡ bodySize = omega arith in
     rw e
 
 -- a latitude is from pole to pole by its number

@@ -11,8 +11,13 @@ use mathlib.Core.List.{List}
 use lib.Dec.{eqb, ltb}
 use borrow.Author.Tests.{lt-ltb, le-ltb, ltb-true, ltb-false, eq-eqb, ne-eqb, not-true, not-false}
 use Rattle.fields.proofs.Bools.{and-left, and-right}
+use Rattle.offsets.specs.Offsets.{keySize, keyStart}
 use Rattle.words.specs.Bytes.{numberAt}
 use Rattle.held.specs.Ranges.{held}
+use Rattle.track.specs.Meaning.{meant}
+use Rattle.place.specs.Place.{writtenIn, trackOf}
+use Rattle.rules.specs.Form as form
+use Rattle.rules.specs.Search as search
 use Rattle.lent.specs.Layout.{Place, keyAt, bodyAt, placeAt, isHeld, holds}
 use Rattle.lent.specs.Scan.{lowest, noneOf, allHeld, targetOf}
 use Rattle.lent.specs.Walk.{better, smallest}
@@ -43,7 +48,7 @@ pub none-8 : (s : List ℕ) (at key : ℕ) {g₀ g₁ g₂ g₃ g₄ g₅ g₆ g
     → not (eqb g₀ key) && not (eqb g₁ key) && not (eqb g₂ key) && not (eqb g₃ key) && not (eqb g₄ key) && not (eqb g₅ key) && not (eqb g₆ key) && not (eqb g₇ key) ≡ noneOf 8 s at key
 none-8 s at key e₀ e₁ e₂ e₃ e₄ e₅ e₆ e₇ = rw (add-zero at, e₀, e₁, e₂, e₃, e₄, e₅, e₆, e₇) refl
 
-none-each : (m : ℕ) (s : List ℕ) (at key : ℕ) → noneOf m s at key ≡ true → (k : ℕ) → k < m → eqb (numberAt 4 s (at + 4 * k)) key ≡ false
+none-each : (m : ℕ) (s : List ℕ) (at key : ℕ) → noneOf m s at key ≡ true → (k : ℕ) → k < m → eqb (numberAt 4 s (at + keySize * k)) key ≡ false
 none-each zero s at key h k g = absurd (omega arith)
 none-each (suc m) s at key h k g =
     ⊎-elim
@@ -51,26 +56,26 @@ none-each (suc m) s at key h k g =
     (λ (e : k < m). none-each m s at key (and-left (noneOf m s at key) _ h) k e)
     (eq-or-lt-of-le {n = k} {m = m} (omega arith))
 
-pub skip-more : (s : List ℕ) (key i : ℕ) {x y : Bool} → ((j : ℕ) → j < i → eqb (numberAt 4 s (16 + 4 * j)) key ≡ false)
-    → x ≡ noneOf 8 s (16 + 4 * i) key → y ≡ noneOf 8 s (16 + 4 * i + 32) key → not (x && y) ≡ false
-    → (j : ℕ) → j < i + 16 → eqb (numberAt 4 s (16 + 4 * j)) key ≡ false
+pub skip-more : (s : List ℕ) (key i : ℕ) {x y : Bool} → ((j : ℕ) → j < i → eqb (numberAt 4 s (keyStart j)) key ≡ false)
+    → x ≡ noneOf 8 s (keyStart i) key → y ≡ noneOf 8 s (keyStart i + 32) key → not (x && y) ≡ false
+    → (j : ℕ) → j < i + 16 → eqb (numberAt 4 s (keyStart j)) key ≡ false
 skip-more s key i {x} {y} below p q h j g = by-cases (ltb j i) (ltb j (i + 8)) refl refl
   where
     two : x && y ≡ true
     two = not-false (x && y) h
 
-    by-cases : (a b : Bool) → ltb j i ≡ a → ltb j (i + 8) ≡ b → eqb (numberAt 4 s (16 + 4 * j)) key ≡ false
+    by-cases : (a b : Bool) → ltb j i ≡ a → ltb j (i + 8) ≡ b → eqb (numberAt 4 s (keyStart j)) key ≡ false
     by-cases true b e f = below j (ltb-true _ _ e)
     by-cases false true e f =
-        let o : 16 + 4 * i + 4 * (j - i) ≡ 16 + 4 * j = omega (arith, ltb-false j i e) in
-        rw o at (none-each 8 s (16 + 4 * i) key (sym p ∙ and-left x y two) (j - i) (omega (arith, ltb-true j (i + 8) f, ltb-false j i e)))
+        let o : keyStart i + keySize * (j - i) ≡ keyStart j = omega (arith, ltb-false j i e) in
+        rw o at (none-each 8 s (keyStart i) key (sym p ∙ and-left x y two) (j - i) (omega (arith, ltb-true j (i + 8) f, ltb-false j i e)))
     by-cases false false e f =
-        let o : 16 + 4 * i + 32 + 4 * (j - (i + 8)) ≡ 16 + 4 * j = omega (arith, ltb-false j (i + 8) f) in
-        rw o at (none-each 8 s (16 + 4 * i + 32) key (sym q ∙ and-right x y two) (j - (i + 8)) (omega (arith, ltb-false j (i + 8) f)))
+        let o : keyStart i + 32 + keySize * (j - (i + 8)) ≡ keyStart j = omega (arith, ltb-false j (i + 8) f) in
+        rw o at (none-each 8 s (keyStart i + 32) key (sym q ∙ and-right x y two) (j - (i + 8)) (omega (arith, ltb-false j (i + 8) f)))
 
 -- what was skipped is not held with the key
-pub skipped : (s : List ℕ) (n clock key r : ℕ) → ((j : ℕ) → j < r → eqb (numberAt 4 s (16 + 4 * j)) key ≡ false) → lowest (λ j. holds clock key (placeAt s n j)) r ≡ r
-unfolding holds keyAt
+pub skipped : (s : List ℕ) (n clock key r : ℕ) → ((j : ℕ) → j < r → eqb (numberAt 4 s (keyStart j)) key ≡ false) → lowest (λ j. holds clock key (placeAt s n j)) r ≡ r
+unfolding form.holds keyAt
 skipped s n clock key r h = all-fail (λ j. holds clock key (placeAt s n j)) r (λ j g. rw (h j g))
 
 -- ---- the places, 4 at a time
@@ -104,31 +109,31 @@ module _ (f : ℕ → Place) (clock : ℕ) where
 
 -- ---- one place: its key as it was read, and its body
 
-module _ (s : List ℕ) (n i clock : ℕ) {k : ℕ} (e : k ≡ numberAt 4 s (16 + 4 * i)) where
+module _ (s : List ℕ) (n i clock : ℕ) {k : ℕ} (e : k ≡ numberAt 4 s (keyStart i)) where
   pub held-as : {p : List ℕ} {h : Bool} → p ≡ bodyAt s n i → h ≡ held clock k p → h ≡ isHeld clock (placeAt s n i)
-  unfolding keyAt
+  unfolding keyAt held form.isHeld trackOf writtenIn meant
   held-as p h = rw (← e, ← p) h
 
   pub key-yes : (key : ℕ) {p : List ℕ} {h : Bool} → k ≡ key → p ≡ bodyAt s n i → h ≡ held clock key p → h ≡ holds clock key (placeAt s n i)
-  unfolding holds keyAt
+  unfolding keyAt form.holds held form.isHeld trackOf writtenIn meant
   key-yes key f p h = rw (← e, f, eq-eqb key key refl, ← p) h
 
   pub key-no : (key : ℕ) → (k ≡ key → ⊥) → false ≡ holds clock key (placeAt s n i)
-  unfolding holds keyAt
+  unfolding keyAt form.holds
   key-no key f = rw (← e, ne-eqb k key f)
 
   module _ (above best : ℕ) where
     module _ {p : List ℕ} (b : p ≡ bodyAt s n i) {h : Bool} (h-is : h ≡ held clock k p) (a : ltb above k && (eqb best 0 || ltb k best) ≡ true) where
       pub better-yes : h ≡ true → k ≡ better clock above best (placeAt s n i)
-      unfolding better keyAt
+      unfolding search.better keyAt held form.isHeld trackOf writtenIn meant
       better-yes y = rw (← e, ← b, a, ← h-is, y)
 
       pub better-out : h ≡ false → best ≡ better clock above best (placeAt s n i)
-      unfolding better keyAt
+      unfolding search.better keyAt held form.isHeld trackOf writtenIn meant
       better-out y = rw (← e, ← b, a, ← h-is, y)
 
     pub better-no : ltb above k && (eqb best 0 || ltb k best) ≡ false → best ≡ better clock above best (placeAt s n i)
-    unfolding better keyAt
+    unfolding search.better keyAt held form.isHeld trackOf writtenIn meant
     better-no a = rw (← e, a)
 
 -- the smallest key of one place more

@@ -8,6 +8,10 @@ use Rattle.lent.proofs.layout.body.Kinds as body-kinds
 use Rattle.lent.proofs.layout.body.Reads as body
 use Rattle.lent.proofs.layout.clear.Kinds as clear-kinds
 use Rattle.lent.proofs.layout.clear.Reads as clear
+use Rattle.lent.proofs.layout.clock_of.Kinds as clock-of-kinds
+use Rattle.lent.proofs.layout.clock_of.Reads as clock-of
+use Rattle.lent.proofs.layout.move_clock.Kinds as move-clock-kinds
+use Rattle.lent.proofs.layout.move_clock.Reads as move-clock
 use Rattle.lent.proofs.layout.places_in.Kinds as places-in-kinds
 use Rattle.lent.proofs.layout.places_in.Reads as places-in
 use Rattle.lent.proofs.layout.pole_to_pole.Kinds as pole-to-pole-kinds
@@ -32,6 +36,12 @@ body-once κs args x y left left′ p q = p .0 ∙ sym (q .0)
 
 pub clear-once : OneOutcome 1 clear-kinds.ps clear-kinds.r (List ℕ) (λ κs x left. left .0 .now) clear.Post
 clear-once κs args x y left left′ p q = p ∙ sym q
+
+pub clock-of-once : OneAnswer 1 clock-of-kinds.ps clock-of-kinds.r clock-of.Post
+clock-of-once κs args x y left left′ p q = p ∙ sym q
+
+pub move-clock-once : OneOutcome 1 move-clock-kinds.ps move-clock-kinds.r (List ℕ) (λ κs x left. left .0 .now) move-clock.Post
+move-clock-once κs args x y left left′ p q = p ∙ sym q
 
 pub places-in-once : OneAnswer 1 places-in-kinds.ps places-in-kinds.r places-in.Post
 places-in-once κs args x y left left′ p q = p .0 ∙ sym (q .0)

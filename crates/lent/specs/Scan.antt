@@ -1,21 +1,18 @@
--- The lowest place that passes a test, what the scan tests, some places at a time, and where a message goes.
+-- What the scan tests, some places at a time, and where a message goes.
 use Prim.Native.Nat.{ℕ, zero, suc, _+_, _*_}
 use mathlib.Core.Bool.{Bool, true, false, cond, not, _&&_}
 use mathlib.Core.List.{List}
 use lib.Dec.{eqb, ltb}
+use Rattle.offsets.specs.Offsets.{keySize}
 use Rattle.words.specs.Bytes.{numberAt}
+pub use Rattle.rules.specs.Search.{lowest}
 use Rattle.lent.specs.declared.scan.Target.{Target}
 use Rattle.lent.specs.Layout.{Place, isHeld, holds}
-
--- the lowest number below n that passes the test; n if none does
-abbrev pub lowest : (ℕ → Bool) → ℕ → ℕ
-lowest p zero = zero
-lowest p (suc n) = cond (ltb (lowest p n) n) (lowest p n) (cond (p n) n (suc n))
 
 -- none of m keys from an offset on is the key
 abbrev pub noneOf : ℕ → List ℕ → ℕ → ℕ → Bool
 noneOf zero s at key = true
-noneOf (suc m) s at key = noneOf m s at key && not (eqb (numberAt 4 s (at + 4 * m)) key)
+noneOf (suc m) s at key = noneOf m s at key && not (eqb (numberAt 4 s (at + keySize * m)) key)
 
 -- each of m places from i on is held
 abbrev pub allHeld : ℕ → (ℕ → Place) → ℕ → ℕ → Bool

@@ -1,37 +1,62 @@
-// Where the head, the keys and the bodies of a table stand, and what is read and written there.
+// What is read and written in the head, the keys and the bodies of a table.
 use located::Site;
+use offsets::BODY;
+use offsets::CLOCK;
+use offsets::HEAD;
+use offsets::KEY;
+use offsets::LEAST;
+use offsets::MOST;
+use offsets::PLACE;
+use offsets::SITE_LATITUDE;
+use offsets::SITE_LONGITUDE;
 use positions::Spot;
 use track::Track;
 ghost use mathlib.Core.Path.{_≡_};
-ghost use Prim.Native.Nat.{_+_, _*_, _%_, _≤_, _<_};
+ghost use Prim.Native.Nat.{_+_, _%_, _≤_, _<_};
 ghost use mathlib.Core.Bool.{true};
 ghost use mathlib.Core.List.{_++_};
 ghost use lib.ListN.{length};
+ghost use Rattle.offsets.specs.Offsets.{siteLatitudeAt, headSize, bodySize, Room, wholePlaces, placesIn};
 ghost use Rattle.positions.specs.Positions.{poleToPole};
 ghost use Rattle.words.specs.Bytes.{lowBytes, put};
 ghost use Rattle.place.specs.Place.{raised};
-ghost use Rattle.lent.specs.Layout.{wholePlaces, placesIn, siteFrom, siteOf, bodyAt, stored, emptied};
+ghost use Rattle.lent.specs.Layout.{clockOf, siteFrom, siteOf, bodyAt, moved, stored, emptied};
 
 pub fn whole_places(l: usize) -> bool
     ensures { λ r. ⌜ r ≡ wholePlaces l ⌝ }
 {
-    (95 <= l) & (l <= 80912) & (l % 79 == 16)
+    (LEAST <= l) & (l <= MOST) & (l % PLACE == HEAD)
 }
 
 pub fn places_in(s: &[u8]) -> usize
     requires { ⌜ wholePlaces (length (now s)) ≡ true ⌝ }
-    ensures { λ r. ⌜ (r ≡ placesIn (now (s .entry))) × ((r ≤ 1024) × (16 + 79 * r ≤ length (now (s .entry)))) ⌝ }
+    ensures { λ r. ⌜ (r ≡ placesIn (now (s .entry))) × Room r (now (s .entry)) ⌝ }
 {
-    (s.len() - 16) / 79
+    (s.len() - HEAD) / PLACE
 }
 
 // The body of the place i of n.
 pub fn body(s: &[u8], n: usize, i: usize) -> &[u8]
-    requires { ⌜ (n ≤ 1024) × ((i < n) × (16 + 79 * n ≤ length (now s))) ⌝ }
-    ensures { λ r. ⌜ (now r ≡ bodyAt (now (s .entry)) n i) × (length (now r) ≡ 75) ⌝ }
+    requires { ⌜ (i < n) × Room n (now s) ⌝ }
+    ensures { λ r. ⌜ (now r ≡ bodyAt (now (s .entry)) n i) × (length (now r) ≡ bodySize) ⌝ }
 {
-    let at = 16 + 4 * n + 75 * i;
-    &s[at..at + 75]
+    let at = HEAD + KEY * n + BODY * i;
+    &s[at..at + BODY]
+}
+
+pub fn clock_of(s: &[u8]) -> u64
+    requires { ⌜ headSize ≤ length (now s) ⌝ }
+    ensures { λ r. ⌜ r ≡ clockOf (now (s .entry)) ⌝ }
+{
+    words::get8(s, CLOCK)
+}
+
+// The clock moves, and nothing else.
+pub fn move_clock(s: &mut [u8], time: u64)
+    requires { ⌜ headSize ≤ length (now s) ⌝ }
+    ensures { λ _. ⌜ now (s .exit) ≡ moved (now (s .entry)) time ⌝ }
+{
+    words::put8(s, CLOCK, time);
 }
 
 fn site_from(n: u32, longitude: u32) -> Site
@@ -51,10 +76,13 @@ fn site_from(n: u32, longitude: u32) -> Site
 }
 
 pub fn site_of(s: &[u8]) -> Site
-    requires { ⌜ 16 ≤ length (now s) ⌝ }
+    requires { ⌜ headSize ≤ length (now s) ⌝ }
     ensures { λ r. ⌜ r ≡ siteOf (now (s .entry)) ⌝ }
 {
-    site_from(words::get4(s, 8), words::get4(s, 12))
+    site_from(
+        words::get4(s, SITE_LATITUDE),
+        words::get4(s, SITE_LONGITUDE),
+    )
 }
 
 pub fn pole_to_pole(latitude: i32) -> bool
@@ -66,11 +94,11 @@ pub fn pole_to_pole(latitude: i32) -> bool
 
 // A track and its key at the place i of n.
 pub fn store(s: &mut [u8], n: usize, i: usize, key: u32, t: Track)
-    requires { ⌜ (n ≤ 1024) × ((i < n) × (16 + 79 * n ≤ length (now s))) ⌝ }
+    requires { ⌜ (i < n) × Room n (now s) ⌝ }
     ensures { λ _. ⌜ now (s .exit) ≡ stored (now (s .entry)) n i key t ⌝ }
 {
-    words::put4(s, 16 + 4 * i, key);
-    place::store(s, 16 + 4 * n + 75 * i, t);
+    words::put4(s, HEAD + KEY * i, key);
+    place::store(s, HEAD + KEY * n + BODY * i, t);
 }
 
 pub fn clear(s: &mut [u8])
@@ -84,9 +112,13 @@ pub fn clear(s: &mut [u8])
 }
 
 pub fn put_site(s: &mut [u8], site: Spot)
-    requires { ⌜ (16 ≤ length (now s)) × (poleToPole (site .latitude) ≡ true) ⌝ }
-    ensures { λ _. ⌜ now (s .exit) ≡ put (now (s .entry)) 8 (lowBytes 4 (raised (site .latitude) % 4294967296 + 1) ++ lowBytes 4 (site .longitude)) ⌝ }
+    requires { ⌜ (headSize ≤ length (now s)) × (poleToPole (site .latitude) ≡ true) ⌝ }
+    ensures { λ _. ⌜ now (s .exit) ≡ put (now (s .entry)) siteLatitudeAt (lowBytes 4 (raised (site .latitude) % 4294967296 + 1) ++ lowBytes 4 (site .longitude)) ⌝ }
 {
-    words::put4(s, 8, (place::raise(site.latitude) % 4294967296) as u32 + 1);
-    words::put4(s, 12, site.longitude);
+    words::put4(
+        s,
+        SITE_LATITUDE,
+        (place::raise(site.latitude) % 4294967296) as u32 + 1,
+    );
+    words::put4(s, SITE_LONGITUDE, site.longitude);
 }

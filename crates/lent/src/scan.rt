@@ -1,11 +1,14 @@
 // The place of a key, and the lowest free place. The column of keys is passed 16 at a time, which compiles to wide compares.
 use crate::layout;
+use offsets::HEAD;
+use offsets::KEY;
 use words::get4;
 ghost use mathlib.Core.Path.{_≡_};
 ghost use mathlib.Core.Bool.{true, false, not};
-ghost use Prim.Native.Nat.{ℕ, _+_, _*_, _≤_, _<_};
+ghost use Prim.Native.Nat.{ℕ, _+_, _≤_, _<_};
 ghost use lib.Dec.{eqb};
 ghost use lib.ListN.{length};
+ghost use Rattle.offsets.specs.Offsets.{Room, keyStart};
 ghost use Rattle.words.specs.Bytes.{numberAt};
 ghost use Rattle.lent.specs.Layout.{placeAt, isHeld, holds};
 ghost use Rattle.lent.specs.Scan.{lowest, noneOf, allHeld, targetOf};
@@ -22,23 +25,23 @@ fn none_of_8(s: &[u8], at: usize, key: u32) -> bool
     ensures { λ r. ⌜ r ≡ noneOf 8 (now (s .entry)) at key ⌝ }
 {
     (get4(s, at) != key)
-        & (get4(s, at + 4) != key)
-        & (get4(s, at + 8) != key)
-        & (get4(s, at + 12) != key)
-        & (get4(s, at + 16) != key)
-        & (get4(s, at + 20) != key)
-        & (get4(s, at + 24) != key)
-        & (get4(s, at + 28) != key)
+        & (get4(s, at + KEY) != key)
+        & (get4(s, at + 2 * KEY) != key)
+        & (get4(s, at + 3 * KEY) != key)
+        & (get4(s, at + 4 * KEY) != key)
+        & (get4(s, at + 5 * KEY) != key)
+        & (get4(s, at + 6 * KEY) != key)
+        & (get4(s, at + 7 * KEY) != key)
 }
 
 // How many places can be passed, 16 at a time, before one with the key.
 fn skip(s: &[u8], n: usize, key: u32) -> usize
-    requires { ⌜ (n ≤ 1024) × (16 + 79 * n ≤ length (now s)) ⌝ }
-    ensures { λ r. ⌜ (r ≤ n) × ((i : ℕ) → i < r → eqb (numberAt 4 (now (s .entry)) (16 + 4 * i)) key ≡ false) ⌝ }
+    requires { ⌜ Room n (now s) ⌝ }
+    ensures { λ r. ⌜ (r ≤ n) × ((i : ℕ) → i < r → eqb (numberAt 4 (now (s .entry)) (keyStart i)) key ≡ false) ⌝ }
 {
     let mut i = 0;
     while i + 16 <= n {
-        let at = 16 + 4 * i;
+        let at = HEAD + KEY * i;
         if !(none_of_8(s, at, key) & none_of_8(s, at + 32, key)) {
             return i;
         }
@@ -48,18 +51,18 @@ fn skip(s: &[u8], n: usize, key: u32) -> usize
 }
 
 fn is_held(s: &[u8], n: usize, i: usize, clock: u64) -> bool
-    requires { ⌜ (n ≤ 1024) × ((i < n) × (16 + 79 * n ≤ length (now s))) ⌝ }
+    requires { ⌜ (i < n) × Room n (now s) ⌝ }
     ensures { λ r. ⌜ r ≡ isHeld clock (placeAt (now (s .entry)) n i) ⌝ }
 {
-    held::is_held(clock, get4(s, 16 + 4 * i), layout::body(s, n, i))
+    held::is_held(clock, get4(s, HEAD + KEY * i), layout::body(s, n, i))
 }
 
 // Ranges and age are tested only where the key is equal.
 fn has_key(s: &[u8], n: usize, i: usize, clock: u64, key: u32) -> bool
-    requires { ⌜ (n ≤ 1024) × ((i < n) × (16 + 79 * n ≤ length (now s))) ⌝ }
+    requires { ⌜ (i < n) × Room n (now s) ⌝ }
     ensures { λ r. ⌜ r ≡ holds clock key (placeAt (now (s .entry)) n i) ⌝ }
 {
-    if get4(s, 16 + 4 * i) == key {
+    if get4(s, HEAD + KEY * i) == key {
         held::is_held(clock, key, layout::body(s, n, i))
     } else {
         false
@@ -67,7 +70,7 @@ fn has_key(s: &[u8], n: usize, i: usize, clock: u64, key: u32) -> bool
 }
 
 pub fn find_key(s: &[u8], n: usize, clock: u64, key: u32) -> usize
-    requires { ⌜ (n ≤ 1024) × (16 + 79 * n ≤ length (now s)) ⌝ }
+    requires { ⌜ Room n (now s) ⌝ }
     ensures { λ r. ⌜ r ≡ lowest (λ i. holds clock key (placeAt (now (s .entry)) n i)) n ⌝ }
 {
     let mut i = skip(s, n, key);
@@ -82,7 +85,7 @@ pub fn find_key(s: &[u8], n: usize, clock: u64, key: u32) -> usize
 
 // Whether each of the 4 places from i on is held.
 fn held_4(s: &[u8], n: usize, i: usize, clock: u64) -> bool
-    requires { ⌜ (n ≤ 1024) × ((i + 4 ≤ n) × (16 + 79 * n ≤ length (now s))) ⌝ }
+    requires { ⌜ (i + 4 ≤ n) × Room n (now s) ⌝ }
     ensures { λ r. ⌜ r ≡ allHeld 4 (placeAt (now (s .entry)) n) i clock ⌝ }
 {
     is_held(s, n, i, clock)
@@ -93,7 +96,7 @@ fn held_4(s: &[u8], n: usize, i: usize, clock: u64) -> bool
 
 // How many places can be passed, 4 at a time, before one that is free.
 fn skip_held(s: &[u8], n: usize, clock: u64) -> usize
-    requires { ⌜ (n ≤ 1024) × (16 + 79 * n ≤ length (now s)) ⌝ }
+    requires { ⌜ Room n (now s) ⌝ }
     ensures { λ r. ⌜ (r ≤ n) × ((i : ℕ) → i < r → isHeld clock (placeAt (now (s .entry)) n i) ≡ true) ⌝ }
 {
     let mut i = 0;
@@ -107,7 +110,7 @@ fn skip_held(s: &[u8], n: usize, clock: u64) -> usize
 }
 
 fn find_free(s: &[u8], n: usize, clock: u64) -> usize
-    requires { ⌜ (n ≤ 1024) × (16 + 79 * n ≤ length (now s)) ⌝ }
+    requires { ⌜ Room n (now s) ⌝ }
     ensures { λ r. ⌜ r ≡ lowest (λ i. not (isHeld clock (placeAt (now (s .entry)) n i))) n ⌝ }
 {
     let mut i = skip_held(s, n, clock);
@@ -122,7 +125,7 @@ fn find_free(s: &[u8], n: usize, clock: u64) -> usize
 
 // Where a message of the key goes: to its place, which is then held, else to the lowest free one.
 pub fn target_of(s: &[u8], n: usize, clock: u64, key: u32) -> Target
-    requires { ⌜ (n ≤ 1024) × (16 + 79 * n ≤ length (now s)) ⌝ }
+    requires { ⌜ Room n (now s) ⌝ }
     ensures { λ r. ⌜ r ≡ targetOf (placeAt (now (s .entry)) n) n clock key ⌝ }
 {
     let i = find_key(s, n, clock, key);

@@ -1,18 +1,20 @@
 // The walk of the table in the order of its keys: the smallest key held above a given one.
 use crate::layout;
+use offsets::HEAD;
+use offsets::KEY;
 use words::get4;
 ghost use mathlib.Core.Path.{_≡_};
-ghost use Prim.Native.Nat.{_+_, _*_, _≤_, _<_};
-ghost use lib.ListN.{length};
+ghost use Prim.Native.Nat.{_<_};
+ghost use Rattle.offsets.specs.Offsets.{Room};
 ghost use Rattle.lent.specs.Layout.{placeAt};
 ghost use Rattle.lent.specs.Walk.{better, smallest};
 
 // The lesser of the best key so far, 0 for none, and the place's, if that is held and above.
 fn better_of(s: &[u8], n: usize, i: usize, clock: u64, above: u32, best: u32) -> u32
-    requires { ⌜ (n ≤ 1024) × ((i < n) × (16 + 79 * n ≤ length (now s))) ⌝ }
+    requires { ⌜ (i < n) × Room n (now s) ⌝ }
     ensures { λ r. ⌜ r ≡ better clock above best (placeAt (now (s .entry)) n i) ⌝ }
 {
-    let key = get4(s, 16 + 4 * i);
+    let key = get4(s, HEAD + KEY * i);
     if (above < key) & ((best == 0) | (key < best)) {
         if held::is_held(clock, key, layout::body(s, n, i)) {
             return key;
@@ -22,7 +24,7 @@ fn better_of(s: &[u8], n: usize, i: usize, clock: u64, above: u32, best: u32) ->
 }
 
 pub fn smallest_above(s: &[u8], n: usize, clock: u64, above: u32) -> u32
-    requires { ⌜ (n ≤ 1024) × (16 + 79 * n ≤ length (now s)) ⌝ }
+    requires { ⌜ Room n (now s) ⌝ }
     ensures { λ r. ⌜ r ≡ smallest (placeAt (now (s .entry)) n) clock above n ⌝ }
 {
     let mut best = 0;

@@ -7,8 +7,10 @@ use mathlib.Core.List.{List, [], _++_}
 use native.Mathlib.Omega.{arith}
 use lib.ListN.{length, length-append}
 use Rattle.refusals.specs.declared.Refusal.{Refusal}
-use Rattle.lent.specs.Layout.{wholePlaces, emptied}
+use Rattle.offsets.specs.Offsets.{tableSize, wholePlaces}
+use Rattle.lent.specs.Layout.{emptied}
 use Rattle.answers.specs.declared.SetUp.{SetUp}
+use Rattle.rules.specs.Rules as rules
 use Rattle.table.specs.Table.{After, after, setUp}
 use Rattle.feed.specs.declared.Fed.the-variants.{Bad, Refused}
 use Rattle.feed.specs.Feed.{fed, fedBlock}
@@ -18,16 +20,16 @@ use Rattle.feed.proofs.Ways.{feed-on}
 use Rattle.listing.specs.Input.{SomeFed, WholeFed}
 
 -- 256 places
-whole-256 : (s : List ℕ) → length s ≡ 20240 → wholePlaces (length s) ≡ true
+whole-256 : (s : List ℕ) → length s ≡ tableSize 256 → wholePlaces (length s) ≡ true
 unfolding wholePlaces
 whole-256 s e = rw e
 
-pub set-up-empties : (s : List ℕ) {x : SetUp} {l : List ℕ} → length s ≡ 20240 → after x l ≡ setUp s → l ≡ emptied s
-unfolding setUp
+pub set-up-empties : (s : List ℕ) {x : SetUp} {l : List ℕ} → length s ≡ tableSize 256 → after x l ≡ setUp s → l ≡ emptied s
+unfolding rules.setUp
 set-up-empties s e h = ap (λ (y : After SetUp). y .table) h ∙ rw (whole-256 s e)
 
 -- before the first turn
-pub none-read : (s : List ℕ) → length s ≡ 20240 → WholeFed s 0 s
+pub none-read : (s : List ℕ) → length s ≡ tableSize 256 → WholeFed s 0 s
 none-read s e = record { capture = []; blocks = 0; size = refl; leaves = feed-on s [] (whole-256 s e) refl refl }
 
 -- what was fed to the emptied table

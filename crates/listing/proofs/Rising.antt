@@ -7,15 +7,17 @@ use mathlib.Core.List.{List}
 use native.Mathlib.Omega.{arith}
 use lib.ListN.{length}
 use Rattle.refusals.specs.declared.Refusal.the-variants.{Places}
-use Rattle.lent.specs.Layout.{wholePlaces}
+use Rattle.offsets.specs.Offsets.{wholePlaces}
 use Rattle.answers.specs.declared.NextKey.{NextKey}
 use Rattle.answers.specs.declared.NextKey.the-variants.{Key, Refused}
+use Rattle.rules.specs.Rules as rules
+use Rattle.rules.proofs.KeyOrder.{next-follows}
+use Rattle.table.specs.Bytes.{bytes}
 use Rattle.table.specs.Table.{nextAbove}
 use Rattle.table.specs.View.{Follows}
-use Rattle.table.proofs.KeyOrder.{next-follows}
 
 no-next : (s : List ℕ) (above : ℕ) → wholePlaces (length s) ≡ false → nextAbove s above ≡ Refused Places
-unfolding nextAbove
+unfolding rules.nextAbove
 no-next s above e = rw e
 
 never : (r : NextKey) (key : ℕ) → r ≡ Key key → r ≡ Refused Places → ⊥
@@ -25,5 +27,5 @@ pub next-rises : (s : List ℕ) (above key : ℕ) → nextAbove s above ≡ Key 
 next-rises s above key e = by-size (wholePlaces (length s)) refl
   where
     by-size : (t : Bool) → wholePlaces (length s) ≡ t → above < key
-    by-size true w = subst (Follows s above) e (next-follows s above w) .1 .0
+    by-size true w = subst (Follows s above) e (next-follows bytes s above w) .1 .0
     by-size false w = absurd (never (nextAbove s above) key e (no-next s above w))

@@ -6,13 +6,17 @@ use libc::STDOUT_FILENO;
 use text::Line;
 ghost use mathlib.Core.Path.{_≡_};
 ghost use lib.ListN.{length};
+ghost use Rattle.offsets.specs.Offsets.{tableSize};
 ghost use Rattle.lent.specs.Layout.{emptied};
 ghost use Rattle.listing.specs.Input.{SomeFed};
+
+// The bytes of a table of 256 places.
+const TABLE: usize = offsets::HEAD + offsets::PLACE * 256;
 
 // Feeds the input, block by block, to an empty table, and counts the bad blocks. A short read is the end, or a failed read, which ends it too.
 // A proved loop has to end, and nothing says that the input does. So the loop counts its turns down, from a number that no run uses up.
 fn read_all(table: &mut [u8], block: &mut [u8]) -> u64
-    requires { ⌜ (length (now table) ≡ 20240) × (length (now block) ≡ 512) ⌝ }
+    requires { ⌜ (length (now table) ≡ tableSize 256) × (length (now block) ≡ 512) ⌝ }
     ensures { λ r. ⌜ SomeFed (emptied (now (table .entry))) r (now (table .exit)) ⌝ }
 {
     table::set_up(table);
@@ -61,7 +65,7 @@ fn print_tracks(table: &[u8]) {
 }
 
 fn main() {
-    let mut table = [0u8; 20240];
+    let mut table = [0u8; TABLE];
     let mut block = [0u8; 512];
     let bad = read_all(&mut table, &mut block);
     let r = report::header_of(&table, bad);

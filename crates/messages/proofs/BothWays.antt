@@ -24,10 +24,11 @@ use Rattle.layouts.proofs.BothWays.{written-read, read-good, me-lt}
 use Rattle.layouts.specs.declared.bodies.Taken.{Taken}
 use Rattle.layouts.specs.declared.bodies.Taken.the-variants as read
 use Rattle.messages.specs.Message.{bits, formatTaken, withBody, opened, decoded, headWidths, headFields, messageFits, sealedBy, messageBytes}
+use Rattle.messages.specs.declared.Frame.{Frame}
 use Rattle.messages.specs.declared.Message.{Message}
 use Rattle.messages.specs.declared.Decoded.{Decoded}
 use Rattle.messages.specs.declared.Decoded.the-variants as decode
-use Rattle.messages.proofs.Parts.{four, seven, head-lt, me-is, head-is, opened-is}
+use Rattle.messages.proofs.Parts.{four, seven, head-lt, me-is, head-is, frame-is}
 
 -- ---- what is encoded is decoded to the same fields
 
@@ -51,7 +52,7 @@ unfolding frame
 frame-decoded h n lh ln =
     let eh : h ≡ number (bytesOf 4 h) % 2 ^ 64 = sym (ap (λ (x : ℕ). x % 2 ^ 64) (number-bytes 4 h lh) ∙ mod-eq-of-lt (omega arith)) in
     let en : n ≡ number (bytesOf 7 n) % 2 ^ 64 = sym (ap (λ (x : ℕ). x % 2 ^ 64) (number-bytes 7 n ln) ∙ mod-eq-of-lt (omega arith)) in
-    rw (sealed (bytesOf 4 h ++ bytesOf 7 n)) (sym (opened-is (frame h n) refl (frame-bytes h n) h n eh en))
+    rw (sealed (bytesOf 4 h ++ bytesOf 7 n)) (sym (ap (λ (f : Frame). opened (f .format) (f .control) (f .address) (f .me)) (frame-is (frame h n) refl (frame-bytes h n) h n eh en)))
 
 pub message-bytes : (m : Message) → Bytes (messageBytes m)
 unfolding frame

@@ -15,8 +15,8 @@ use Rattle.fields.specs.Bytes.{number as numeral}
 use Rattle.fields.proofs.Packing.{unpack-above}
 use Rattle.layouts.specs.Layouts.{isIdentification, isSurface, isAirborne, identificationWidths, surfaceWidths, airborneWidths}
 use Rattle.velocity.specs.Velocity.{isGround, isAir, velocityWidths}
-use Rattle.layouts.specs.Bodies.{taken, bodyFields}
-use Rattle.layouts.specs.declared.bodies.Taken.{Taken}
+use Rattle.layouts.specs.Bodies.{takenAs, taken, bodyFields}
+use Rattle.layouts.specs.declared.bodies.Layout.{Layout}
 use Rattle.messages.specs.Message.{bits, withBody, opened, decoded, headWidths, headFields}
 use Rattle.messages.specs.Table.{Said, number, values, said, earns1, earns3, earns4, typeTaken, earns5, layoutWidths, table}
 use Rattle.messages.specs.declared.Message.{Message}
@@ -56,7 +56,7 @@ said-of false x y = refl
 
 -- ---- ME: one layout, or none
 
-by-layout : (g : Taken → Said) (h : List ℕ → Said) (i s a o r : Bool) (x y z v w n : Taken) (xs ys zs vs : List ℕ)
+by-layout : (g : Layout → Said) (h : List ℕ → Said) (i s a o r : Bool) (x y z v w n : Layout) (xs ys zs vs : List ℕ)
     → g x ≡ h xs → g y ≡ h ys → g z ≡ h zs → g v ≡ h vs → g w ≡ h vs
     → g (cond i x (cond s y (cond a z (cond o v (cond r w n))))) ≡ cond (not (i || s || a || o || r)) (g n) (h (cond i xs (cond s ys (cond a zs vs))))
 by-layout g h true s a o r x y z v w n xs ys zs vs ex ey ez ev ew = ex
@@ -73,7 +73,7 @@ me-says n =
     let t : ℕ = me 1 5 (field 112 33 88 n) in
     let u : ℕ = me 6 8 (field 112 33 88 n) in
     let said-of-list : List ℕ → Said = λ ws. values (unpack (headWidths ++ ws) (field 112 1 88 n)) in
-    by-layout (λ b. said (withBody (field 112 1 5 n) (field 112 6 8 n) (field 112 9 32 n) b)) said-of-list
+    by-layout (λ l. said (withBody (field 112 1 5 n) (field 112 6 8 n) (field 112 9 32 n) (takenAs l (field 112 33 88 n)))) said-of-list
     (isIdentification t) (isSurface t) (isAirborne t) (isGround t u) (isAir t u) _ _ _ _ _ _
     identificationWidths surfaceWidths airborneWidths velocityWidths
     (ap values (all-fields n identificationWidths refl))

@@ -12,7 +12,9 @@ use Rattle.fields.specs.Packing.{unpack}
 use Rattle.fields.specs.Bytes.{number, bytesOf, Bytes}
 use Rattle.fields.proofs.Bytes.{bytes-take, bytes-drop, number-lt, number-cut, number-whole}
 use Rattle.parity.specs.Parity.{seal}
-use Rattle.messages.specs.Message.{bits, opened, headWidths, sealedBy}
+use Rattle.messages.specs.declared.Frame.{Frame}
+use Rattle.messages.specs.Message.{bits, headWidths, sealedBy}
+use Rattle.messages.specs.Accepted.{frameOf}
 
 module _ (s : List ℕ) (e : length s ≡ 14) (h : Bytes s) where
   rest : length (drop 4 s) ≡ 10
@@ -58,9 +60,9 @@ module _ (s : List ℕ) (e : length s ≡ 14) (h : Bytes s) where
       (ap₂ (λ (x : ℕ) (l : List ℕ). x ∷ l) control-is
       (ap (λ (x : ℕ). x ∷ []) address-is))
 
-  pub opened-is : (x n : ℕ) → x ≡ number (take 4 s) % 2 ^ 64 → n ≡ number (take 7 (drop 4 s)) % 2 ^ 64
-      → opened (x / 2 ^ 27 % 32) (x / 2 ^ 24 % 8) (x / 1 % 2 ^ 24) n ≡ opened (bits 1 5 s) (bits 6 8 s) (bits 9 32 s) (bits 33 88 s)
-  opened-is x n ex en =
+  pub frame-is : (x n : ℕ) → x ≡ number (take 4 s) % 2 ^ 64 → n ≡ number (take 7 (drop 4 s)) % 2 ^ 64
+      → _≡_ {A = Frame} (record { format = x / 2 ^ 27 % 32; control = x / 2 ^ 24 % 8; address = x / 1 % 2 ^ 24; me = n }) (frameOf s)
+  frame-is x n ex en =
       let ex′ : x ≡ number (take 4 s) = ex ∙ number-whole (take 4 s) (bytes-take 4 s h) (omega (arith, four)) in
       let en′ : n ≡ number (take 7 (drop 4 s)) = en ∙ number-whole (take 7 (drop 4 s)) (bytes-take 7 (drop 4 s) (bytes-drop 4 s h)) (omega (arith, seven)) in
       rw (ex′, en′, format-is, control-is, address-is, me-is)

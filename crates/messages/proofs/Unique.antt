@@ -2,10 +2,14 @@
 -- Assumes nothing.
 use mathlib.Core.Path.{sym, _∙_}
 use Rattle.refusals.specs.Answers.{OneAnswer}
+use Rattle.messages.proofs.accept.Kinds as accept-kinds
+use Rattle.messages.proofs.accept.Reads as accept
 use Rattle.messages.proofs.decode.Kinds as decode-kinds
 use Rattle.messages.proofs.decode.Reads as decode
 use Rattle.messages.proofs.format_taken.Kinds as format-taken-kinds
 use Rattle.messages.proofs.format_taken.Reads as format-taken
+use Rattle.messages.proofs.frame_key.Kinds as frame-key-kinds
+use Rattle.messages.proofs.frame_key.Reads as frame-key
 use Rattle.messages.proofs.key_of.Kinds as key-of-kinds
 use Rattle.messages.proofs.key_of.Reads as key-of
 
@@ -17,3 +21,9 @@ format-taken-once κs args x y left left′ p q = p ∙ sym q
 
 pub key-of-once : OneAnswer 0 key-of-kinds.ps key-of-kinds.r key-of.Post
 key-of-once κs args x y left left′ p q = p ∙ sym q
+
+pub accept-once : OneAnswer 1 accept-kinds.ps accept-kinds.r accept.Post
+accept-once κs args x y left left′ p q = p ∙ sym q
+
+pub frame-key-once : OneAnswer 0 frame-key-kinds.ps frame-key-kinds.r frame-key.Post
+frame-key-once κs args x y left left′ p q = p ∙ sym q

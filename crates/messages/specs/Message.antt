@@ -1,5 +1,5 @@
 -- A message of 112 bits: what its bytes say, and the bytes that say it. Bit 1 is the top bit of byte 0.
-use Prim.Native.Nat.{ℕ, _+_, _*_, _%_, _^_}
+use Prim.Native.Nat.{ℕ}
 use mathlib.Core.List.{List, [], _∷_, _++_}
 use mathlib.Core.Bool.{Bool, cond, not, _&&_, _||_}
 use lib.Dec.{leb, eqb}
@@ -7,6 +7,9 @@ use lib.ListN.{length}
 use Rattle.refusals.specs.declared.Refusal.the-variants.{Length, Parity, Format}
 use Rattle.fields.specs.Packing.{field, pack, fits}
 use Rattle.fields.specs.Bytes.{number, bytesOf}
+use Rattle.keys.specs.Keys.{keyFor}
+use Rattle.keys.specs.declared.Kind.{Kind}
+use Rattle.keys.specs.declared.Kind.the-variants.{I, O}
 use Rattle.parity.specs.Parity.{remainder, seal}
 use Rattle.layouts.specs.Bodies.{taken, bodyMe, bodyFits}
 use Rattle.layouts.specs.declared.bodies.Taken.{Taken}
@@ -45,13 +48,13 @@ decoded s =
 
 -- ---- the key of a track
 
--- I, here 1: DF 17, and DF 18 with CF 0. O, here 2: DF 18 with CF 1
-abbrev pub kindOf : ℕ → ℕ → ℕ
-kindOf format control = cond (eqb format 18 && eqb control 1) 2 1
+-- I: DF 17, and DF 18 with CF 0. O: DF 18 with CF 1
+abbrev pub kindOf : ℕ → ℕ → Kind
+kindOf format control = cond (eqb format 18 && eqb control 1) O I
 
--- the kind above the 24 bits of AA
+-- AA with its kind
 abbrev pub keyOf : Message → ℕ
-keyOf m = kindOf (m .format) (m .control) * 2 ^ 24 + m .address % 2 ^ 24
+keyOf m = keyFor (kindOf (m .format) (m .control)) (m .address)
 
 -- ---- the bytes that say a message
 

@@ -1,6 +1,6 @@
 -- What an answer says in document 01's terms: a number of its table, or the values of all fields in the order of their bits.
 use Prim.Native.Nat.{ℕ}
-use mathlib.Core.List.{List, _++_}
+use mathlib.Core.List.{List, [], _∷_, _++_}
 use mathlib.Core.Bool.{Bool, cond, not, _||_}
 use lib.Dec.{eqb}
 use lib.ListN.{length}
@@ -11,6 +11,8 @@ use Rattle.layouts.specs.Layouts.{isIdentification, isSurface, isAirborne, iden
 use Rattle.velocity.specs.Velocity.{isGround, isAir, velocityWidths}
 use Rattle.layouts.specs.Bodies.{bodyFields}
 use Rattle.messages.specs.Message.{bits, formatTaken, headWidths, headFields}
+use Rattle.messages.specs.declared.Accepted.{Accepted}
+use Rattle.messages.specs.declared.Accepted.the-variants as accept
 use Rattle.messages.specs.declared.Decoded.{Decoded}
 use Rattle.messages.specs.declared.Decoded.the-variants as decode
 
@@ -22,6 +24,11 @@ pub data Said : Type 0 where
 abbrev pub said : Decoded → Said
 said (decode.Message m) = values (headFields m ++ bodyFields (m .body))
 said (decode.Refused r) = number (numberOf r)
+
+-- the answer of `accept`: DF, CA or CF, AA and ME
+abbrev pub acceptedSaid : Accepted → Said
+acceptedSaid (accept.Frame f) = values (f .format ∷ f .control ∷ f .address ∷ f .me ∷ [])
+acceptedSaid (accept.Refused r) = number (numberOf r)
 
 -- ---- the table's "When, exactly", for the bytes of a message
 
@@ -60,3 +67,12 @@ table s =
     (cond (earns4 s) (number 4)
     (cond (earns5 s) (number 5)
     (values (unpack (headWidths ++ layoutWidths (bits 33 37 s)) (bits 1 88 s))))))
+
+-- the same for a message whose ME is not unpacked
+abbrev pub acceptTable : List ℕ → Said
+acceptTable s =
+    cond (earns1 s) (number 1)
+    (cond (earns3 s) (number 3)
+    (cond (earns4 s) (number 4)
+    (cond (earns5 s) (number 5)
+    (values (bits 1 5 s ∷ bits 6 8 s ∷ bits 9 32 s ∷ bits 33 88 s ∷ [])))))

@@ -1,10 +1,15 @@
-// Messages of 14 bytes, decoded.
+// Messages of 14 bytes: whether they are acceptable, and decoded.
+use keys::Kind;
 use layouts::Body;
 use layouts::Taken;
 use refusals::Refusal;
 ghost use mathlib.Core.Path.{_≡_};
-ghost use Prim.Native.Nat.{_<_};
+ghost use lib.Dec.{eqb};
+ghost use lib.ListN.{length};
+ghost use Rattle.parity.specs.Parity.{remainder};
+ghost use Rattle.keys.specs.Keys.{keyFor};
 ghost use Rattle.messages.specs.Message.{formatTaken, withBody, opened, decoded, kindOf, keyOf};
+ghost use Rattle.messages.specs.Accepted.{frameOf, framed, accepted, frameKey};
 
 pub struct Message {
     // DF
@@ -21,11 +26,70 @@ pub enum Decoded {
     Refused(Refusal),
 }
 
+// A message's bits before PI, ME as one number.
+pub struct Frame {
+    pub format: u8,
+    pub control: u8,
+    pub address: u32,
+    pub me: u64,
+}
+
+pub enum Accepted {
+    Frame(Frame),
+    Refused(Refusal),
+}
+
 // Whether DF, and of DF 18 the CF, is taken.
 pub fn format_taken(format: u8, control: u8) -> bool
     ensures { λ r. ⌜ r ≡ formatTaken format control ⌝ }
 {
     (format == 17) | ((format == 18) & (control <= 1))
+}
+
+fn parity_right(s: &[u8]) -> bool
+    ensures { λ r. ⌜ r ≡ eqb (remainder (now (s .entry))) 0 ⌝ }
+{
+    parity::remainder_of(s) == 0
+}
+
+fn frame_of(s: &[u8]) -> Frame
+    requires { ⌜ length (now s) ≡ 14 ⌝ }
+    ensures { λ r. ⌜ r ≡ frameOf (now (s .entry)) ⌝ }
+{
+    let head = fields::number_of(&s[0..4]);
+    let me = fields::number_of(&s[4..11]);
+    Frame {
+        format: (head / 0x800_0000 % 32) as u8,
+        control: (head / 0x100_0000 % 8) as u8,
+        address: (head / 1 % 0x100_0000) as u32,
+        me: me,
+    }
+}
+
+// A message whose parity is right: 4, then 5.
+fn framed_as(f: Frame) -> Accepted
+    ensures { λ r. ⌜ r ≡ framed f ⌝ }
+{
+    if !format_taken(f.format, f.control) {
+        return Accepted::Refused(Refusal::Format);
+    }
+    if !layouts::is_taken(f.me) {
+        return Accepted::Refused(Refusal::TypeCode);
+    }
+    Accepted::Frame(f)
+}
+
+// An acceptable message with nothing unpacked of its ME, or why it is none.
+pub fn accept(s: &[u8]) -> Accepted
+    ensures { λ r. ⌜ r ≡ accepted (now (s .entry)) ⌝ }
+{
+    if s.len() != 14 {
+        return Accepted::Refused(Refusal::Length);
+    }
+    if !parity_right(s) {
+        return Accepted::Refused(Refusal::Parity);
+    }
+    framed_as(frame_of(s))
 }
 
 fn with_body(format: u8, control: u8, address: u32, taken: Taken) -> Decoded
@@ -42,12 +106,12 @@ fn with_body(format: u8, control: u8, address: u32, taken: Taken) -> Decoded
     }
 }
 
-// A message whose parity is right, by its DF, CA or CF, AA and ME.
-fn opened_of(format: u8, control: u8, address: u32, me: u64) -> Decoded
-    ensures { λ r. ⌜ r ≡ opened format control address me ⌝ }
+// A message whose parity is right, with its ME unpacked.
+fn opened_of(f: Frame) -> Decoded
+    ensures { λ r. ⌜ r ≡ opened (f .format) (f .control) (f .address) (f .me) ⌝ }
 {
-    if format_taken(format, control) {
-        with_body(format, control, address, layouts::body_of(me))
+    if format_taken(f.format, f.control) {
+        with_body(f.format, f.control, f.address, layouts::body_of(f.me))
     } else {
         Decoded::Refused(Refusal::Format)
     }
@@ -60,32 +124,38 @@ pub fn decode(s: &[u8]) -> Decoded
     if s.len() != 14 {
         return Decoded::Refused(Refusal::Length);
     }
-    if parity::remainder_of(s) != 0 {
+    if !parity_right(s) {
         return Decoded::Refused(Refusal::Parity);
     }
-    let head = fields::number_of(&s[0..4]);
-    let me = fields::number_of(&s[4..11]);
-    opened_of(
-        (head / 0x800_0000 % 32) as u8,
-        (head / 0x100_0000 % 8) as u8,
-        (head / 1 % 0x100_0000) as u32,
-        me,
-    )
+    opened_of(frame_of(s))
 }
 
-fn kind_of(format: u8, control: u8) -> u32
-    ensures { λ r. ⌜ (r ≡ kindOf format control) × (r < 3) ⌝ }
+fn kind_of(format: u8, control: u8) -> Kind
+    ensures { λ r. ⌜ r ≡ kindOf format control ⌝ }
 {
     if (format == 18) & (control == 1) {
-        2
+        Kind::O
     } else {
-        1
+        Kind::I
     }
 }
 
-// The key of a message's track: its kind above the 24 bits of its address.
+fn key_from(format: u8, control: u8, address: u32) -> u32
+    ensures { λ r. ⌜ r ≡ keyFor (kindOf format control) address ⌝ }
+{
+    keys::key_for(kind_of(format, control), address)
+}
+
+// The key of a message's track: AA with its kind.
 pub fn key_of(m: Message) -> u32
     ensures { λ r. ⌜ r ≡ keyOf m ⌝ }
 {
-    kind_of(m.format, m.control) * 0x100_0000 + m.address % 0x100_0000
+    key_from(m.format, m.control, m.address)
+}
+
+// The same of its frame.
+pub fn frame_key(f: Frame) -> u32
+    ensures { λ r. ⌜ r ≡ frameKey f ⌝ }
+{
+    key_from(f.format, f.control, f.address)
 }

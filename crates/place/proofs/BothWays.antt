@@ -1,76 +1,79 @@
 -- A body and its track: what was written is read back, what is read fits, and what fits is written in range.
 -- Each number of a body is read off its bytes by the one law of the width, and the values off their number by their bits.
 -- Assumes nothing.
-use Prim.Native.Nat.{ℕ, _+_, _*_, _-_, _/_, _%_, _^_, _<_, _≤_}
-use mathlib.Core.Path.{_≡_, refl, sym, ap₂, _∙_}
-use mathlib.Core.Bool.{Bool, true, false, _&&_}
+use Prim.Native.Nat.{ℕ, _+_, _*_, _-_, _/_, _%_, _^_, _<_}
+use mathlib.Core.Path.{_≡_, refl, ap, ap₂, _∙_}
+use mathlib.Core.Bool.{Bool, true, false}
 use mathlib.Core.List.{List, [], _∷_}
 use native.Mathlib.Nat.{mod-eq-of-lt}
 use native.Mathlib.Omega.{arith}
-use lib.Dec.{eqb, ltb}
+use lib.Dec.{eqb}
 use lib.ListN.{length, getD}
-use borrow.Author.Tests.{le-leb, lt-ltb, ltb-true}
+use borrow.Author.Tests.{le-leb, lt-ltb}
 use Rattle.fields.specs.Bytes.{Bytes}
-use Rattle.fields.proofs.Bools.{and-false}
+use Rattle.offsets.specs.Offsets.{heardAt, identificationAt, velocityAt, surfaceAt, marksAt, latitudeAt, longitudeAt, timeAt, savedTimeAt, evenAt, oddAt}
 use Rattle.located.specs.declared.Saved.{Saved}
 use Rattle.track.specs.declared.Track.{Track}
 use Rattle.track.specs.Track.{noSaved}
+use Rattle.track.specs.Meaning.{meantGroups, meantPosition, meantSaved, meant}
 use Rattle.words.specs.Bytes.{numberAt, lowBytes}
-use Rattle.place.specs.Place.{savedFrom, groupsIn, positionIn, trackOf, bit, raised, marksOf, savedNumber, savedBytes, messageBytes, spotBytes, bodyOf, FitsSaved, FitsGroups, FitsPosition, Fits}
+use Rattle.place.specs.Place.{savedFrom, groupsIn, positionIn, writtenIn, trackOf, bit, raised, marksOf, savedNumber, savedBytes, messageBytes, spotBytes, bodyOf, FitsSaved, FitsGroups, FitsPosition, Fits}
+use Rattle.keys.specs.Keys.{isKey}
 use Rattle.held.specs.Ranges.{inRange, held}
 use Rattle.words.proofs.Numbers.{read-back, number-lt}
+use Rattle.place.proofs.Meaning.{groups-meant-fits, saved-meant-fits, position-meant-fits}
 use Rattle.place.proofs.Latitudes.{lowered-fits, raised-small, lowered-raised}
 
 -- ---- the numbers of a written body
 
 module _ (t : Track) where
-  at-0 : numberAt 8 (bodyOf t) 0 ≡ t .heard % 2 ^ 64
+  at-heard : numberAt 8 (bodyOf t) heardAt ≡ t .heard % 2 ^ 64
   unfolding bodyOf messageBytes spotBytes savedBytes numberAt lowBytes
-  at-0 = read-back 8 (t .heard) [] []
+  at-heard = read-back 8 (t .heard) [] []
 
-  at-8 : numberAt 7 (bodyOf t) 8 ≡ t .groups .identification % 2 ^ 56
+  at-identification : numberAt 7 (bodyOf t) identificationAt ≡ t .groups .identification % 2 ^ 56
   unfolding bodyOf messageBytes spotBytes savedBytes numberAt lowBytes
-  at-8 = read-back 7 (t .groups .identification) [] []
+  at-identification = read-back 7 (t .groups .identification) [] []
 
-  at-15 : numberAt 7 (bodyOf t) 15 ≡ t .groups .velocity % 2 ^ 56
+  at-velocity : numberAt 7 (bodyOf t) velocityAt ≡ t .groups .velocity % 2 ^ 56
   unfolding bodyOf messageBytes spotBytes savedBytes numberAt lowBytes
-  at-15 = read-back 7 (t .groups .velocity) [] []
+  at-velocity = read-back 7 (t .groups .velocity) [] []
 
-  at-22 : numberAt 7 (bodyOf t) 22 ≡ t .groups .surface % 2 ^ 56
+  at-surface : numberAt 7 (bodyOf t) surfaceAt ≡ t .groups .surface % 2 ^ 56
   unfolding bodyOf messageBytes spotBytes savedBytes numberAt lowBytes
-  at-22 = read-back 7 (t .groups .surface) [] []
+  at-surface = read-back 7 (t .groups .surface) [] []
 
-  at-29 : numberAt 4 (bodyOf t) 29 ≡ marksOf (t .groups) (t .position .known) % 2 ^ 32
+  at-marks : numberAt 4 (bodyOf t) marksAt ≡ marksOf (t .groups) (t .position .known) % 2 ^ 32
   unfolding bodyOf messageBytes spotBytes savedBytes numberAt lowBytes
-  at-29 = read-back 4 (marksOf (t .groups) (t .position .known)) [] []
+  at-marks = read-back 4 (marksOf (t .groups) (t .position .known)) [] []
 
-  at-33 : numberAt 4 (bodyOf t) 33 ≡ raised (t .position .spot .latitude) % 2 ^ 32
+  at-latitude : numberAt 4 (bodyOf t) latitudeAt ≡ raised (t .position .spot .latitude) % 2 ^ 32
   unfolding bodyOf messageBytes spotBytes savedBytes numberAt lowBytes
-  at-33 = read-back 4 (raised (t .position .spot .latitude)) [] []
+  at-latitude = read-back 4 (raised (t .position .spot .latitude)) [] []
 
-  at-37 : numberAt 4 (bodyOf t) 37 ≡ t .position .spot .longitude % 2 ^ 32
+  at-longitude : numberAt 4 (bodyOf t) longitudeAt ≡ t .position .spot .longitude % 2 ^ 32
   unfolding bodyOf messageBytes spotBytes savedBytes numberAt lowBytes
-  at-37 = read-back 4 (t .position .spot .longitude) [] []
+  at-longitude = read-back 4 (t .position .spot .longitude) [] []
 
-  at-41 : numberAt 8 (bodyOf t) 41 ≡ t .position .time % 2 ^ 64
+  at-time : numberAt 8 (bodyOf t) timeAt ≡ t .position .time % 2 ^ 64
   unfolding bodyOf messageBytes spotBytes savedBytes numberAt lowBytes
-  at-41 = read-back 8 (t .position .time) [] []
+  at-time = read-back 8 (t .position .time) [] []
 
-  at-49 : numberAt 5 (bodyOf t) 49 ≡ savedNumber (getD (t .saved) 0 noSaved) % 2 ^ 40
+  at-even : numberAt 5 (bodyOf t) evenAt ≡ savedNumber (getD (t .saved) 0 noSaved) % 2 ^ 40
   unfolding bodyOf messageBytes spotBytes savedBytes numberAt lowBytes
-  at-49 = read-back 5 (savedNumber (getD (t .saved) 0 noSaved)) [] []
+  at-even = read-back 5 (savedNumber (getD (t .saved) 0 noSaved)) [] []
 
-  at-54 : numberAt 8 (bodyOf t) 54 ≡ getD (t .saved) 0 noSaved .time % 2 ^ 64
+  at-even-time : numberAt 8 (bodyOf t) (evenAt + savedTimeAt) ≡ getD (t .saved) 0 noSaved .time % 2 ^ 64
   unfolding bodyOf messageBytes spotBytes savedBytes numberAt lowBytes
-  at-54 = read-back 8 (getD (t .saved) 0 noSaved .time) [] []
+  at-even-time = read-back 8 (getD (t .saved) 0 noSaved .time) [] []
 
-  at-62 : numberAt 5 (bodyOf t) 62 ≡ savedNumber (getD (t .saved) 1 noSaved) % 2 ^ 40
+  at-odd : numberAt 5 (bodyOf t) oddAt ≡ savedNumber (getD (t .saved) 1 noSaved) % 2 ^ 40
   unfolding bodyOf messageBytes spotBytes savedBytes numberAt lowBytes
-  at-62 = read-back 5 (savedNumber (getD (t .saved) 1 noSaved)) [] []
+  at-odd = read-back 5 (savedNumber (getD (t .saved) 1 noSaved)) [] []
 
-  at-67 : numberAt 8 (bodyOf t) 67 ≡ getD (t .saved) 1 noSaved .time % 2 ^ 64
+  at-odd-time : numberAt 8 (bodyOf t) (oddAt + savedTimeAt) ≡ getD (t .saved) 1 noSaved .time % 2 ^ 64
   unfolding bodyOf messageBytes spotBytes savedBytes numberAt lowBytes
-  at-67 = read-back 8 (getD (t .saved) 1 noSaved .time) [] []
+  at-odd-time = read-back 8 (getD (t .saved) 1 noSaved .time) [] []
 
 -- ---- values packed into one number
 
@@ -110,77 +113,66 @@ module _ (t : Track) (f : Fits t) where
   groups-back =
       let g = f .groups in
       let e = marks-parts (t .groups .pressure) (t .groups .height) (t .position .known) (g .pressure) (g .height) in
-      rw (at-8 t, at-15 t, at-22 t, at-29 t, e .0, e .1 .0, mod-eq-of-lt (g .identification), mod-eq-of-lt (g .velocity), mod-eq-of-lt (g .surface))
+      rw (at-identification t, at-velocity t, at-surface t, at-marks t, e .0, e .1 .0, mod-eq-of-lt (g .identification), mod-eq-of-lt (g .velocity), mod-eq-of-lt (g .surface))
 
   position-back : positionIn (bodyOf t) ≡ t .position
   unfolding positionIn marksOf
   position-back =
       let g = f .groups in
       let e = marks-parts (t .groups .pressure) (t .groups .height) (t .position .known) (g .pressure) (g .height) in
-      rw (at-29 t, at-33 t, at-37 t, at-41 t, e .1 .1, eqb-bit (t .position .known), lowered-raised (t .position .spot .latitude) (f .position .latitude), mod-eq-of-lt (f .position .longitude), mod-eq-of-lt (f .position .time))
+      rw (at-marks t, at-latitude t, at-longitude t, at-time t, e .1 .1, eqb-bit (t .position .known), lowered-raised (t .position .spot .latitude) (f .position .latitude), mod-eq-of-lt (f .position .longitude), mod-eq-of-lt (f .position .time))
+
+  written-back : writtenIn (bodyOf t) ≡ t
+  unfolding writtenIn
+  written-back =
+      let even = ap₂ savedFrom (at-even t) (at-even-time t) ∙ saved-back (getD (t .saved) 0 noSaved) (f .even) in
+      let odd = ap₂ savedFrom (at-odd t) (at-odd-time t) ∙ saved-back (getD (t .saved) 1 noSaved) (f .odd) in
+      rw (groups-back, position-back, at-heard t, mod-eq-of-lt (f .heard), even, odd, two-of (t .saved) (f .two))
+
+  -- what fits means itself
+  pub fits-meant : meant t ≡ t
+  unfolding meant
+  fits-meant = rw (f .groups .meant, f .position .meant, f .even .meant, f .odd .meant, two-of (t .saved) (f .two))
 
   pub read-written : trackOf (bodyOf t) ≡ t
   unfolding trackOf
-  read-written =
-      let even = ap₂ savedFrom (at-49 t) (at-54 t) ∙ saved-back (getD (t .saved) 0 noSaved) (f .even) in
-      let odd = ap₂ savedFrom (at-62 t) (at-67 t) ∙ saved-back (getD (t .saved) 1 noSaved) (f .odd) in
-      rw (groups-back, position-back, at-0 t, mod-eq-of-lt (f .heard), even, odd, two-of (t .saved) (f .two))
+  read-written = ap meant written-back ∙ fits-meant
 
   -- ---- a written track is in range, and held at the time that it was heard
 
-  pub written-in-range : (key : ℕ) → 16777216 ≤ key → key < 50331648 → inRange key (bodyOf t) ≡ true
+  pub written-in-range : (key : ℕ) → isKey key ≡ true → inRange key (bodyOf t) ≡ true
   unfolding inRange
-  written-in-range key l h =
-      rw (le-leb 16777216 key l, lt-ltb key 50331648 h, at-33 t, le-leb (raised (t .position .spot .latitude) % 2 ^ 32) 2147483648 (raised-small (t .position .spot .latitude) (f .position .latitude)))
+  written-in-range key k =
+      rw (k, at-latitude t, le-leb (raised (t .position .spot .latitude) % 2 ^ 32) 2147483648 (raised-small (t .position .spot .latitude) (f .position .latitude)))
 
-  pub written-held : (key : ℕ) → 16777216 ≤ key → key < 50331648 → held (t .heard) key (bodyOf t) ≡ true
+  pub written-held : (key : ℕ) → isKey key ≡ true → held (t .heard) key (bodyOf t) ≡ true
   unfolding held
-  written-held key l h =
-      rw (written-in-range key l h, at-0 t, mod-eq-of-lt (f .heard)) (lt-ltb (t .heard - t .heard) 125000 (omega arith))
+  written-held key k =
+      rw (written-in-range key k, at-heard t, mod-eq-of-lt (f .heard)) (lt-ltb (t .heard - t .heard) 125000 (omega arith))
 
 -- ---- any bytes read as a track that fits
 
-saved-fits : (n time : ℕ) → time < 2 ^ 64 → FitsSaved (savedFrom n time)
+saved-fits : (n time : ℕ) → time < 2 ^ 64 → FitsSaved (meantSaved (savedFrom n time))
 unfolding savedFrom
-saved-fits n time h = record { latitude = omega arith; longitude = omega arith; time = h }
+saved-fits n time h = saved-meant-fits (savedFrom n time) (omega arith) (omega arith) h
 
 module _ (p : List ℕ) (h : Bytes p) where
-  groups-fit : FitsGroups (groupsIn p)
+  groups-fit : FitsGroups (meantGroups (groupsIn p))
   unfolding groupsIn
-  groups-fit =
-      record {
-        identification = number-lt 7 p 8 h;
-        velocity = number-lt 7 p 15 h;
-        surface = number-lt 7 p 22 h;
-        pressure = omega arith;
-        height = omega arith;
-      }
+  groups-fit = groups-meant-fits (groupsIn p) (number-lt 7 p identificationAt h) (number-lt 7 p velocityAt h) (number-lt 7 p surfaceAt h) (omega arith) (omega arith)
 
-  position-fits : FitsPosition (positionIn p)
+  position-fits : FitsPosition (meantPosition (positionIn p))
   unfolding positionIn
-  position-fits = record { latitude = lowered-fits (numberAt 4 p 33); longitude = number-lt 4 p 37 h; time = number-lt 8 p 41 h }
+  position-fits = position-meant-fits (positionIn p) (lowered-fits (numberAt 4 p latitudeAt)) (number-lt 4 p longitudeAt h) (number-lt 8 p timeAt h)
 
   pub read-fits : Fits (trackOf p)
-  unfolding trackOf
+  unfolding trackOf writtenIn meant
   read-fits =
       record {
-        heard = number-lt 8 p 0 h;
+        heard = number-lt 8 p heardAt h;
         groups = groups-fit;
         position = position-fits;
         two = refl;
-        even = saved-fits (numberAt 5 p 49) (numberAt 8 p 54) (number-lt 8 p 54 h);
-        odd = saved-fits (numberAt 5 p 62) (numberAt 8 p 67) (number-lt 8 p 67 h);
+        even = saved-fits (numberAt 5 p evenAt) (numberAt 8 p (evenAt + savedTimeAt)) (number-lt 8 p (evenAt + savedTimeAt) h);
+        odd = saved-fits (numberAt 5 p oddAt) (numberAt 8 p (oddAt + savedTimeAt)) (number-lt 8 p (oddAt + savedTimeAt) h);
       }
-
--- ---- at a later clock a place is held if it was, and if it is still young enough
-
-narrowed : (a x y : Bool) → (y ≡ true → x ≡ true) → a && y ≡ (a && x) && y
-narrowed false x y h = refl
-narrowed true x true h = rw (h refl)
-narrowed true x false h = sym (and-false x)
-
-pub held-later : (c t key : ℕ) (p : List ℕ) → c ≤ t → held t key p ≡ held c key p && ltb (t - numberAt 8 p 0) 125000
-unfolding held
-held-later c t key p h =
-    narrowed (inRange key p) (ltb (c - numberAt 8 p 0) 125000) (ltb (t - numberAt 8 p 0) 125000)
-    (λ e. lt-ltb (c - numberAt 8 p 0) 125000 (omega (arith, ltb-true (t - numberAt 8 p 0) 125000 e)))

@@ -2,6 +2,7 @@
 -- Assumes nothing.
 use mathlib.Core.Path.{_≡_, refl}
 use lib.ListN.{length}
+use Rattle.offsets.specs.Offsets.{messagesSize, spotSize, savedSize, bodySize}
 use Rattle.track.specs.declared.Groups.{Groups}
 use Rattle.located.specs.declared.Position.{Position}
 use Rattle.located.specs.declared.Saved.{Saved}
@@ -9,18 +10,18 @@ use Rattle.track.specs.declared.Track.{Track}
 use Rattle.words.specs.Bytes.{lowBytes}
 use Rattle.place.specs.Place.{savedBytes, messageBytes, spotBytes, bodyOf}
 
-pub saved-length : (v : Saved) → length (savedBytes v) ≡ 13
+pub saved-length : (v : Saved) → length (savedBytes v) ≡ savedSize
 unfolding savedBytes lowBytes
 saved-length v = refl
 
-pub message-length : (g : Groups) → length (messageBytes g) ≡ 21
+pub message-length : (g : Groups) → length (messageBytes g) ≡ messagesSize
 unfolding messageBytes lowBytes
 message-length g = refl
 
-pub spot-length : (p : Position) → length (spotBytes p) ≡ 16
+pub spot-length : (p : Position) → length (spotBytes p) ≡ spotSize
 unfolding spotBytes lowBytes
 spot-length p = refl
 
-pub body-length : (t : Track) → length (bodyOf t) ≡ 75
+pub body-length : (t : Track) → length (bodyOf t) ≡ bodySize
 unfolding bodyOf savedBytes messageBytes spotBytes lowBytes
 body-length t = refl

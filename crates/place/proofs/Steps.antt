@@ -63,6 +63,7 @@ use Rattle.located.specs.Located.{
   formatOf,
   isWithin,
   isFresh,
+  foundAt,
   settled,
   readNear,
   readSingly,
@@ -72,7 +73,10 @@ use Rattle.located.specs.Located.{
   surfacePosition,
 }
 use Rattle.track.specs.Track.{noSaved, newTrack, countsIn, groupTrack, airborneTrack, surfaceTrack, stepBody, stepped}
+use Rattle.track.specs.Meaning.{givesSurface, meantGroups, meantPosition, meantSaved}
+use Rattle.track.proofs.Meanings.{gives-identification, gives-surface, gives-ground, gives-air, identified-meant, moving-meant, surface-meant, pressure-meant, height-meant}
 use Rattle.place.specs.Place.{FitsSaved, FitsGroups, FitsPosition, Fits}
+use Rattle.place.proofs.Meaning.{none-fits, no-position-fits}
 
 -- ---- a spot that is found
 
@@ -158,8 +162,12 @@ singly-fits s c k f =
 -- ---- the position
 
 module _ (p : Position) (fits : FitsPosition p) (time : ℕ) (h : time < 2 ^ 64) where
+  found-fits : (s : Spot) → FitsSpot s → FitsPosition (foundAt s time)
+  unfolding meantPosition
+  found-fits s e = record { latitude = e .latitude; longitude = e .longitude; time = h; meant = refl }
+
   settled-fits : (found : Found) → FitsFound found → FitsPosition (settled found p time)
-  settled-fits (At s) e = record { latitude = e .latitude; longitude = e .longitude; time = h }
+  settled-fits (At s) e = found-fits s e
   settled-fits (Refused r) e = fits
 
   module _ (counts : Counts) (format : Format) where
@@ -172,7 +180,7 @@ module _ (p : Position) (fits : FitsPosition p) (time : ℕ) (h : time < 2 ^ 64)
     read-singly-fits = by-test FitsPosition (isFresh p time) _ p (λ _. read-near-fits (p .spot) turn.Airborne) (λ _. fits)
 
     after-pair-fits : (found : Found) → FitsFound found → FitsPosition (afterPair found p counts format time)
-    after-pair-fits (At s) e = record { latitude = e .latitude; longitude = e .longitude; time = h }
+    after-pair-fits (At s) e = found-fits s e
     after-pair-fits (Refused r) e = read-singly-fits
 
   paired-with-fits : (partner counts : Counts) (format : Format) → FitsFound (pairedWith partner counts format)
@@ -201,8 +209,9 @@ record FitsTwo (xs : List Saved) : Type 0 where
   even : FitsSaved (getD xs 0 noSaved)
   odd : FitsSaved (getD xs 1 noSaved)
 
-none-fits : FitsSaved noSaved
-none-fits = record { latitude = omega arith; longitude = omega arith; time = omega arith }
+taken-fits : (c : Counts) (time : ℕ) → c .latitude .0 < 2 ^ 17 → c .longitude .0 < 2 ^ 17 → time < 2 ^ 64 → FitsSaved (record { known = true; counts = c; time = time })
+unfolding meantSaved
+taken-fits c time x y h = record { latitude = x; longitude = y; time = h; meant = refl }
 
 set-fits : (xs : List Saved) (i : ℕ) (v : Saved) → FitsTwo xs → i < 2 → FitsSaved v → FitsTwo (set xs i v)
 set-fits [] i v f l e = let z : ⊥ = omega (arith, f .two) in absurd z
@@ -220,11 +229,12 @@ track-fits : (t : Track) → t .heard < 2 ^ 64 → FitsGroups (t .groups) → Fi
 track-fits t h g p s = record { heard = h; groups = g; position = p; two = s .two; even = s .even; odd = s .odd }
 
 pub new-fits : Fits newTrack
+unfolding meantGroups
 new-fits =
     record {
       heard = omega arith;
-      groups = record { identification = omega arith; velocity = omega arith; surface = omega arith; pressure = omega arith; height = omega arith };
-      position = record { latitude = refl; longitude = omega arith; time = omega arith };
+      groups = record { identification = omega arith; velocity = omega arith; surface = omega arith; pressure = omega arith; height = omega arith; meant = refl };
+      position = no-position-fits;
       two = refl;
       even = none-fits;
       odd = none-fits;
@@ -233,21 +243,21 @@ new-fits =
 high-fits : (g : Groups) (type altitude : ℕ) → FitsGroups g → altitude < 2 ^ 12 → FitsGroups (high g type altitude)
 high-fits g type altitude f h =
     by-test FitsGroups (leb type 18) (atPressure g altitude) (atHeight g altitude)
-    (λ _. record { identification = f .identification; velocity = f .velocity; surface = f .surface; pressure = h; height = f .height })
-    (λ _. record { identification = f .identification; velocity = f .velocity; surface = f .surface; pressure = f .pressure; height = h })
+    (λ _. record { identification = f .identification; velocity = f .velocity; surface = f .surface; pressure = h; height = f .height; meant = pressure-meant g (f .meant) altitude })
+    (λ _. record { identification = f .identification; velocity = f .velocity; surface = f .surface; pressure = f .pressure; height = h; meant = height-meant g (f .meant) altitude })
 
 module _ (t : Track) (f : Fits t) (site : Site) (time : ℕ) (h : time < 2 ^ 64) where
   group-fits : (g : Groups) → FitsGroups g → Fits (groupTrack t g time)
   unfolding groupTrack
   group-fits g e = record { heard = h; groups = e; position = f .position; two = f .two; even = f .even; odd = f .odd }
 
-  surface-track-fits : (b : Surface) (me : ℕ) → me < 2 ^ 56 → Fits (surfaceTrack t b me site time)
+  surface-track-fits : (b : Surface) (me : ℕ) → me < 2 ^ 56 → givesSurface me ≡ true → Fits (surfaceTrack t b me site time)
   unfolding surfaceTrack
-  surface-track-fits b me e =
+  surface-track-fits b me e q =
       let g = f .groups in
       record {
         heard = h;
-        groups = record { identification = g .identification; velocity = g .velocity; surface = e; pressure = g .pressure; height = g .height };
+        groups = record { identification = g .identification; velocity = g .velocity; surface = e; pressure = g .pressure; height = g .height; meant = surface-meant (t .groups) (g .meant) me q };
         position = surface-fits (t .position) (f .position) time h site (record { latitude = b .latitude; longitude = b .longitude }) (formatOf (b .f));
         two = refl;
         even = none-fits;
@@ -260,22 +270,22 @@ module _ (t : Track) (f : Fits t) (site : Site) (time : ℕ) (h : time < 2 ^ 64)
   airborne-track-fits b l a x y =
       track-fits _ h (high-fits (t .groups) (b .typecode) (b .altitude) (f .groups) a)
       (airborne-fits (t .position) (f .position) time h (getD (t .saved) (1 - b .f) noSaved) (countsIn b) (formatOf (b .f)))
-      (set-fits (t .saved) (b .f) (record { known = true; counts = countsIn b; time = time }) (two-of t f) l (record { latitude = x; longitude = y; time = h }))
+      (set-fits (t .saved) (b .f) (record { known = true; counts = countsIn b; time = time }) (two-of t f) l (taken-fits (countsIn b) time x y h))
 
   body-fits : (b : Body) → bodyFits b ≡ true → Fits (stepBody t b (bodyMe b) site time)
   body-fits (body.Identification b) e =
       let g = f .groups in
-      group-fits _ (record { identification = me-lt (body.Identification b) e; velocity = g .velocity; surface = g .surface; pressure = g .pressure; height = g .height })
-  body-fits (body.Surface b) e = surface-track-fits b (bodyMe (body.Surface b)) (me-lt (body.Surface b) e)
+      group-fits _ (record { identification = me-lt (body.Identification b) e; velocity = g .velocity; surface = g .surface; pressure = g .pressure; height = g .height; meant = identified-meant (t .groups) (g .meant) _ (gives-identification b e) })
+  body-fits (body.Surface b) e = surface-track-fits b (bodyMe (body.Surface b)) (me-lt (body.Surface b) e) (gives-surface b e)
   body-fits (body.Airborne b) e =
       let w = fitting (body.Airborne b) e .1 .1 .1 in
       airborne-track-fits b (w .1 .1 .0) (w .0) (w .1 .1 .1 .0) (w .1 .1 .1 .1 .0)
   body-fits (body.Ground b) e =
       let g = f .groups in
-      group-fits _ (record { identification = g .identification; velocity = me-lt (body.Ground b) e; surface = g .surface; pressure = g .pressure; height = g .height })
+      group-fits _ (record { identification = g .identification; velocity = me-lt (body.Ground b) e; surface = g .surface; pressure = g .pressure; height = g .height; meant = moving-meant (t .groups) (g .meant) _ (gives-ground b e) })
   body-fits (body.Air b) e =
       let g = f .groups in
-      group-fits _ (record { identification = g .identification; velocity = me-lt (body.Air b) e; surface = g .surface; pressure = g .pressure; height = g .height })
+      group-fits _ (record { identification = g .identification; velocity = me-lt (body.Air b) e; surface = g .surface; pressure = g .pressure; height = g .height; meant = moving-meant (t .groups) (g .meant) _ (gives-air b e) })
 
   pub stepped-fits : (answer : Decoded) → Fits (stepped t answer site time .track)
   stepped-fits (decode.Refused r) = f

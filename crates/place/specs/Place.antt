@@ -1,4 +1,4 @@
--- A place of the lent table: a key, which stands in a column of keys, and a body of 75 bytes that is one track.
+-- A place of the lent table: a key, which stands in a column of keys, and a body, bytes that are one track.
 use Prim.Native.Nat.{ℕ, suc, _+_, _*_, _-_, _/_, _%_, _^_, _<_, min}
 use mathlib.Core.Path.{_≡_}
 use mathlib.Core.Bool.{Bool, true, false}
@@ -6,12 +6,14 @@ use mathlib.Core.List.{List, [], _∷_, _++_}
 use lib.Dec.{eqb}
 use lib.IntN.{ℤ, pos, negsuc, subℕ}
 use lib.ListN.{length, getD}
+use Rattle.offsets.specs.Offsets.{heardAt, identificationAt, velocityAt, surfaceAt, marksAt, latitudeAt, longitudeAt, timeAt, savedTimeAt, evenAt, oddAt}
 use Rattle.positions.specs.Positions.{poleToPole}
 use Rattle.track.specs.declared.Groups.{Groups}
 use Rattle.located.specs.declared.Position.{Position}
 use Rattle.located.specs.declared.Saved.{Saved}
 use Rattle.track.specs.declared.Track.{Track}
 use Rattle.track.specs.Track.{noSaved}
+use Rattle.track.specs.Meaning.{meantGroups, meantPosition, meantSaved, meant}
 use Rattle.words.specs.Bytes.{numberAt, lowBytes}
 
 -- ---- the track of a body
@@ -26,16 +28,16 @@ savedFrom n time =
     }
 
 abbrev pub savedAt : List ℕ → ℕ → Saved
-savedAt p a = savedFrom (numberAt 5 p a) (numberAt 8 p (a + 5))
+savedAt p a = savedFrom (numberAt 5 p a) (numberAt 8 p (a + savedTimeAt))
 
 unfoldable pub groupsIn : List ℕ → Groups
 groupsIn p =
     record {
-      identification = numberAt 7 p 8;
-      velocity = numberAt 7 p 15;
-      surface = numberAt 7 p 22;
-      pressure = numberAt 4 p 29 % 4096;
-      height = numberAt 4 p 29 / 4096 % 4096;
+      identification = numberAt 7 p identificationAt;
+      velocity = numberAt 7 p velocityAt;
+      surface = numberAt 7 p surfaceAt;
+      pressure = numberAt 4 p marksAt % 4096;
+      height = numberAt 4 p marksAt / 4096 % 4096;
     }
 
 -- a latitude of its number, 2^30 up; one above its range is read as the pole
@@ -45,19 +47,23 @@ lowered n = subℕ (min n 2147483648) 1073741824
 unfoldable pub positionIn : List ℕ → Position
 positionIn p =
     record {
-      known = eqb (numberAt 4 p 29 / 16777216 % 2) 1;
-      spot = record { latitude = lowered (numberAt 4 p 33); longitude = numberAt 4 p 37 };
-      time = numberAt 8 p 41;
+      known = eqb (numberAt 4 p marksAt / 16777216 % 2) 1;
+      spot = record { latitude = lowered (numberAt 4 p latitudeAt); longitude = numberAt 4 p longitudeAt };
+      time = numberAt 8 p timeAt;
     }
 
-unfoldable pub trackOf : List ℕ → Track
-trackOf p =
+unfoldable pub writtenIn : List ℕ → Track
+writtenIn p =
     record {
-      heard = numberAt 8 p 0;
+      heard = numberAt 8 p heardAt;
       groups = groupsIn p;
       position = positionIn p;
-      saved = savedAt p 49 ∷ savedAt p 62 ∷ [];
+      saved = savedAt p evenAt ∷ savedAt p oddAt ∷ [];
     }
+
+-- .. as it is meant: any bytes read as a track in range
+unfoldable pub trackOf : List ℕ → Track
+trackOf p = meant (writtenIn p)
 
 -- ---- the body of a track
 
@@ -76,19 +82,16 @@ marksOf g known = g .pressure % 4096 + g .height % 4096 * 4096 + bit known * 167
 unfoldable pub savedNumber : Saved → ℕ
 savedNumber v = v .counts .latitude .0 % 131072 + v .counts .longitude .0 % 131072 * 131072 + bit (v .known) * 17179869184
 
--- 13 bytes
 unfoldable pub savedBytes : Saved → List ℕ
 savedBytes v = lowBytes 5 (savedNumber v) ++ lowBytes 8 (v .time)
 
--- 21 bytes
 unfoldable pub messageBytes : Groups → List ℕ
 messageBytes g = lowBytes 7 (g .identification) ++ (lowBytes 7 (g .velocity) ++ lowBytes 7 (g .surface))
 
--- 16 bytes
 unfoldable pub spotBytes : Position → List ℕ
 spotBytes p = lowBytes 4 (raised (p .spot .latitude)) ++ (lowBytes 4 (p .spot .longitude) ++ lowBytes 8 (p .time))
 
--- 8, 21, 4, 16, 13 and 13 bytes
+-- its parts in the order of their offsets
 unfoldable pub bodyOf : Track → List ℕ
 bodyOf t =
     lowBytes 8 (t .heard)
@@ -98,11 +101,12 @@ bodyOf t =
     ++ (savedBytes (getD (t .saved) 0 noSaved)
     ++ savedBytes (getD (t .saved) 1 noSaved)))))
 
--- what a body has room for
+-- what a body has room for, and that means itself
 pub record FitsSaved (v : Saved) : Type 0 where
   pub latitude : v .counts .latitude .0 < 2 ^ 17
   pub longitude : v .counts .longitude .0 < 2 ^ 17
   pub time : v .time < 2 ^ 64
+  pub meant : meantSaved v ≡ v
 
 pub record FitsGroups (g : Groups) : Type 0 where
   pub identification : g .identification < 2 ^ 56
@@ -110,11 +114,13 @@ pub record FitsGroups (g : Groups) : Type 0 where
   pub surface : g .surface < 2 ^ 56
   pub pressure : g .pressure < 2 ^ 12
   pub height : g .height < 2 ^ 12
+  pub meant : meantGroups g ≡ g
 
 pub record FitsPosition (p : Position) : Type 0 where
   pub latitude : poleToPole (p .spot .latitude) ≡ true
   pub longitude : p .spot .longitude < 2 ^ 32
   pub time : p .time < 2 ^ 64
+  pub meant : meantPosition p ≡ p
 
 pub record Fits (t : Track) : Type 0 where
   pub heard : t .heard < 2 ^ 64

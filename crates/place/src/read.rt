@@ -11,7 +11,8 @@ ghost use mathlib.Core.Path.{_≡_};
 ghost use Prim.Native.Nat.{_+_, _≤_, min};
 ghost use lib.ListN.{length};
 ghost use lib.IntN.{subℕ};
-ghost use Rattle.place.specs.Place.{lowered, savedFrom, savedAt, groupsIn, positionIn, trackOf};
+ghost use Rattle.offsets.specs.Offsets.{savedSize, bodySize};
+ghost use Rattle.place.specs.Place.{lowered, savedFrom, savedAt, groupsIn, positionIn, writtenIn, trackOf};
 
 // A latitude's number, at most that of the north pole.
 fn capped(n: u32) -> u32
@@ -48,53 +49,60 @@ fn saved_from(n: u64, time: u64) -> Saved
 }
 
 fn saved_at(p: &[u8], at: usize) -> Saved
-    requires { ⌜ at + 13 ≤ length (now p) ⌝ }
+    requires { ⌜ at + savedSize ≤ length (now p) ⌝ }
     ensures { λ r. ⌜ r ≡ savedAt (now (p .entry)) at ⌝ }
 {
-    saved_from(words::get5(p, at), words::get8(p, at + 5))
+    saved_from(words::get5(p, at), words::get8(p, at + offsets::SAVED_TIME))
 }
 
 fn groups_in(p: &[u8]) -> Groups
-    requires { ⌜ length (now p) ≡ 75 ⌝ }
+    requires { ⌜ length (now p) ≡ bodySize ⌝ }
     ensures { λ r. ⌜ r ≡ groupsIn (now (p .entry)) ⌝ }
 {
-    let marks = words::get4(p, 29);
+    let marks = words::get4(p, offsets::MARKS);
     Groups {
-        identification: words::get7(p, 8),
-        velocity: words::get7(p, 15),
-        surface: words::get7(p, 22),
+        identification: words::get7(p, offsets::IDENTIFICATION),
+        velocity: words::get7(p, offsets::VELOCITY),
+        surface: words::get7(p, offsets::SURFACE),
         pressure: (marks % 4096) as u16,
         height: (marks / 4096 % 4096) as u16,
     }
 }
 
 fn position_in(p: &[u8]) -> Position
-    requires { ⌜ length (now p) ≡ 75 ⌝ }
+    requires { ⌜ length (now p) ≡ bodySize ⌝ }
     ensures { λ r. ⌜ r ≡ positionIn (now (p .entry)) ⌝ }
 {
-    let marks = words::get4(p, 29);
-    let latitude = latitude_of(words::get4(p, 33));
+    let marks = words::get4(p, offsets::MARKS);
+    let latitude = latitude_of(words::get4(p, offsets::LATITUDE));
     Position {
         known: marks / 16777216 % 2 == 1,
         spot: Spot {
             latitude: latitude,
-            longitude: words::get4(p, 37),
+            longitude: words::get4(p, offsets::LONGITUDE),
         },
-        time: words::get8(p, 41),
+        time: words::get8(p, offsets::TIME),
     }
 }
 
-// The track of a body.
-pub fn load(p: &[u8]) -> Track
-    requires { ⌜ length (now p) ≡ 75 ⌝ }
-    ensures { λ r. ⌜ r ≡ trackOf (now (p .entry)) ⌝ }
+fn written_in(p: &[u8]) -> Track
+    requires { ⌜ length (now p) ≡ bodySize ⌝ }
+    ensures { λ r. ⌜ r ≡ writtenIn (now (p .entry)) ⌝ }
 {
-    let even = saved_at(p, 49);
-    let odd = saved_at(p, 62);
+    let even = saved_at(p, offsets::EVEN);
+    let odd = saved_at(p, offsets::ODD);
     Track {
-        heard: words::get8(p, 0),
+        heard: words::get8(p, offsets::HEARD),
         groups: groups_in(p),
         position: position_in(p),
         saved: [even, odd],
     }
+}
+
+// The track of a body, whatever its bytes.
+pub fn load(p: &[u8]) -> Track
+    requires { ⌜ length (now p) ≡ bodySize ⌝ }
+    ensures { λ r. ⌜ r ≡ trackOf (now (p .entry)) ⌝ }
+{
+    track::meant(written_in(p))
 }

@@ -6,6 +6,7 @@ use track::Track;
 ghost use mathlib.Core.Path.{_≡_};
 ghost use Prim.Native.Nat.{_+_, _≤_};
 ghost use lib.ListN.{length};
+ghost use Rattle.offsets.specs.Offsets.{messagesSize, spotSize, savedSize, bodySize};
 ghost use Rattle.words.specs.Bytes.{put};
 ghost use Rattle.place.specs.Place.{bit, raised, marksOf, savedNumber, savedBytes, messageBytes, spotBytes, bodyOf};
 
@@ -37,34 +38,34 @@ fn saved_number(v: Saved) -> u64
 }
 
 fn put_saved(s: &mut [u8], at: usize, v: Saved)
-    requires { ⌜ at + 13 ≤ length (now s) ⌝ }
+    requires { ⌜ at + savedSize ≤ length (now s) ⌝ }
     ensures { λ _. ⌜ now (s .exit) ≡ put (now (s .entry)) at (savedBytes v) ⌝ }
 {
     words::put5(s, at, saved_number(v));
-    words::put8(s, at + 5, v.time);
+    words::put8(s, at + offsets::SAVED_TIME, v.time);
 }
 
 fn put_messages(s: &mut [u8], at: usize, g: Groups)
-    requires { ⌜ at + 21 ≤ length (now s) ⌝ }
+    requires { ⌜ at + messagesSize ≤ length (now s) ⌝ }
     ensures { λ _. ⌜ now (s .exit) ≡ put (now (s .entry)) at (messageBytes g) ⌝ }
 {
     words::put7(s, at, g.identification);
-    words::put7(s, at + 7, g.velocity);
-    words::put7(s, at + 14, g.surface);
+    words::put7(s, at + offsets::TO_VELOCITY, g.velocity);
+    words::put7(s, at + offsets::TO_SURFACE, g.surface);
 }
 
 fn put_spot(s: &mut [u8], at: usize, p: Position)
-    requires { ⌜ at + 16 ≤ length (now s) ⌝ }
+    requires { ⌜ at + spotSize ≤ length (now s) ⌝ }
     ensures { λ _. ⌜ now (s .exit) ≡ put (now (s .entry)) at (spotBytes p) ⌝ }
 {
     words::put4(s, at, (raise(p.spot.latitude) % 4294967296) as u32);
-    words::put4(s, at + 4, p.spot.longitude);
-    words::put8(s, at + 8, p.time);
+    words::put4(s, at + offsets::TO_LONGITUDE, p.spot.longitude);
+    words::put8(s, at + offsets::TO_TIME, p.time);
 }
 
 // A track's body at an offset.
 pub fn store(s: &mut [u8], at: usize, t: Track)
-    requires { ⌜ at + 75 ≤ length (now s) ⌝ }
+    requires { ⌜ at + bodySize ≤ length (now s) ⌝ }
     ensures { λ _. ⌜ now (s .exit) ≡ put (now (s .entry)) at (bodyOf t) ⌝ }
 {
     let both = t.saved;
@@ -73,9 +74,9 @@ pub fn store(s: &mut [u8], at: usize, t: Track)
     let g = t.groups;
     let p = t.position;
     words::put8(s, at, t.heard);
-    put_messages(s, at + 8, g);
-    words::put4(s, at + 29, marks_of(g, p.known));
-    put_spot(s, at + 33, p);
-    put_saved(s, at + 49, even);
-    put_saved(s, at + 62, odd);
+    put_messages(s, at + offsets::IDENTIFICATION, g);
+    words::put4(s, at + offsets::MARKS, marks_of(g, p.known));
+    put_spot(s, at + offsets::LATITUDE, p);
+    put_saved(s, at + offsets::EVEN, even);
+    put_saved(s, at + offsets::ODD, odd);
 }

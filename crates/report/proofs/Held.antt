@@ -1,21 +1,25 @@
--- What the view shows of a key: a track just where some place holds the key, and then the key is in its range. By the search for the lowest place.
+-- What the view shows of a key: a track just where some place holds the key, and then it is a key. By the search for the lowest place.
 -- Assumes nothing.
-use Prim.Native.Nat.{ℕ, _≤_, _<_}
-use mathlib.Core.Bool.{Bool, true, false, cond, _&&_, true≢false}
+use Prim.Native.Nat.{ℕ}
+use mathlib.Core.Bool.{Bool, true, false, cond, true≢false}
 use mathlib.Core.List.{List}
 use mathlib.Core.Logic.{_⊎_, inl, inr, ⊎-elim}
 use mathlib.Core.Option.{some, none}
 use mathlib.Core.Path.{_≡_, refl, sym, _∙_}
-use lib.Dec.{eqb, leb, ltb}
-use borrow.Author.Tests.{leb-true, ltb-true, eqb-true}
+use lib.Dec.{eqb, ltb}
+use borrow.Author.Tests.{ltb-true, eqb-true}
 use Rattle.fields.proofs.Bools.{and-left, and-right}
-use Rattle.words.specs.Bytes.{numberAt}
-use Rattle.held.specs.Ranges.{inRange, held}
+use Rattle.keys.specs.Keys.{isKey}
+use Rattle.held.specs.Ranges.{inRange}
 use Rattle.track.specs.declared.Track.{Track}
-use Rattle.lent.specs.Layout.{placesIn, clockOf, Place, holds}
-use Rattle.lent.specs.Scan.{lowest}
-use Rattle.table.specs.View.{places, trackIn, viewAt, view, HeldKey}
-use Rattle.table.proofs.Search.{lowest-passes, none-passes}
+use Rattle.rules.specs.Search.{lowest}
+use Rattle.rules.specs.Form.{isHeld, holds}
+use Rattle.rules.specs.View.{trackIn, viewAt}
+use Rattle.rules.proofs.Search.{lowest-passes, none-passes}
+use Rattle.offsets.specs.Offsets.{placesIn}
+use Rattle.lent.specs.Layout.{cellOf, clockOf, keyAt, bodyAt}
+use Rattle.table.specs.Bytes.{bytes}
+use Rattle.table.specs.View.{view, HeldKey}
 
 -- ---- the view of a key
 
@@ -26,10 +30,10 @@ module _ (s : List ℕ) (key : ℕ) where
   seen = by-test (ltb (lowest test (placesIn s)) (placesIn s)) refl
     where
       test : ℕ → Bool
-      test i = holds (clockOf s) key (places s i)
+      test i = holds (clockOf s) key (bytes .cell s i)
 
       by-test : (b : Bool) → ltb (lowest test (placesIn s)) (placesIn s) ≡ b
-          → (HeldKey s key × ((t : Track) × (trackIn (cond b (some (places s (lowest test (placesIn s)))) none) ≡ some t))) ⊎ ((HeldKey s key → ⊥) × (trackIn (cond b (some (places s (lowest test (placesIn s)))) none) ≡ none))
+          → (HeldKey s key × ((t : Track) × (trackIn (cond b (some (bytes .cell s (lowest test (placesIn s)))) none) ≡ some t))) ⊎ ((HeldKey s key → ⊥) × (trackIn (cond b (some (bytes .cell s (lowest test (placesIn s)))) none) ≡ none))
       by-test true e =
           let l = ltb-true (lowest test (placesIn s)) (placesIn s) e in
           inl ((lowest test (placesIn s), (l, lowest-passes test (placesIn s) l)), (_, refl))
@@ -42,15 +46,11 @@ module _ (s : List ℕ) (key : ℕ) where
   pub unheld-unseen : (HeldKey s key → ⊥) → view s key ≡ none
   unheld-unseen w = ⊎-elim (λ (h : HeldKey s key × ((t : Track) × (view s key ≡ some t))). absurd (w (h .0))) (λ (h : (HeldKey s key → ⊥) × (view s key ≡ none)). h .1) seen
 
-  ranged : (p : Place) → holds (clockOf s) key p ≡ true → (16777216 ≤ key) × (key < 50331648)
-  unfolding holds held inRange
-  ranged p h =
-      let e : p .key ≡ key = eqb-true (p .key) key (and-left (eqb (p .key) key) _ h) in
-      let low : Bool = leb 16777216 (p .key) in
-      let high : Bool = ltb (p .key) 50331648 in
-      let both = and-left (low && high) _ (and-left (low && high && leb (numberAt 4 (p .body) 33) 2147483648) _ (and-right (eqb (p .key) key) _ h)) in
-      (rw e at (leb-true 16777216 (p .key) (and-left low high both)), rw e at (ltb-true (p .key) 50331648 (and-right low high both)))
+  ranged : (k : ℕ) (body : List ℕ) → holds (clockOf s) key (cellOf k body) ≡ true → isKey key ≡ true
+  unfolding holds isHeld inRange
+  ranged k body h =
+      let e : k ≡ key = eqb-true k key (and-left (eqb k key) _ h) in
+      rw e at (and-left (isKey k) _ (and-left (inRange k body) _ (and-right (eqb k key) _ h)))
 
-  -- of kind 1 or 2
-  pub held-range : HeldKey s key → (16777216 ≤ key) × (key < 50331648)
-  held-range w = ranged (places s (w .0)) (w .1 .1)
+  pub held-is-key : HeldKey s key → isKey key ≡ true
+  held-is-key w = ranged (keyAt s (w .0)) (bodyAt s (placesIn s) (w .0)) (w .1 .1)

@@ -8,17 +8,20 @@ use mathlib.Core.List.{List, _++_, append-nil}
 use mathlib.Core.Option.{Option, some, none}
 use mathlib.Core.Path.{_≡_, refl, sym, ap, _∙_}
 use lib.ListN.{length}
+use Rattle.keys.specs.Keys.{endOfKeys}
+use Rattle.keys.proofs.Laws.{before-end, never-zero}
 use Rattle.track.specs.declared.Track.{Track}
 use Rattle.text.specs.Lines.{rowText}
-use Rattle.lent.specs.Layout.{wholePlaces}
+use Rattle.offsets.specs.Offsets.{wholePlaces}
 use Rattle.answers.specs.declared.NextKey.{NextKey}
 use Rattle.answers.specs.declared.NextKey.the-variants as next
+use Rattle.rules.proofs.KeyOrder.{next-follows}
+use Rattle.table.specs.Bytes.{bytes}
 use Rattle.table.specs.Table.{nextAbove}
 use Rattle.table.specs.View.{view, Follows}
-use Rattle.table.proofs.KeyOrder.{next-follows}
 use Rattle.report.specs.Listing.{rowOf, lineFor, listed, one, counted}
 use Rattle.report.specs.Walked.{keyOrLimit}
-use Rattle.report.proofs.Held.{held-seen, unheld-unseen, held-range}
+use Rattle.report.proofs.Held.{held-seen, unheld-unseen, held-is-key}
 
 -- the table holds the key
 abbrev pub Seen : List ℕ → ℕ → Type 0
@@ -27,17 +30,17 @@ Seen s key = (t : Track) × (view s key ≡ some t)
 -- r is the least key held above one, or the limit
 pub record Least (s : List ℕ) (above r : ℕ) : Type 0 where
   pub low : above < r
-  pub most : r ≤ 50331648
+  pub most : r ≤ endOfKeys
   pub between : (k : ℕ) → above < k → k < r → view s k ≡ none
-  pub held : r < 50331648 → Seen s r
+  pub held : r < endOfKeys → Seen s r
 
-by-answer : (s : List ℕ) (above : ℕ) → above < 50331648 → (a : NextKey) → Follows s above a → Least s above (keyOrLimit a)
+by-answer : (s : List ℕ) (above : ℕ) → above < endOfKeys → (a : NextKey) → Follows s above a → Least s above (keyOrLimit a)
 unfolding keyOrLimit
 by-answer s above h (next.Key key) f =
-    let g = held-range s key (f .0) in
+    let g = before-end key (held-is-key s key (f .0)) in
     record {
       low = f .1 .0;
-      most = omega (arith, g .1);
+      most = omega (arith, g);
       between = λ k a b. unheld-unseen s k (λ w. omega (arith, f .1 .1 k a w));
       held = λ _. held-seen s key (f .0);
     }
@@ -50,12 +53,12 @@ by-answer s above h next.End f =
     }
 by-answer s above h (next.Refused r) f = absurd f
 
-pub least : (s : List ℕ) (above : ℕ) → wholePlaces (length s) ≡ true → above < 50331648 → Least s above (keyOrLimit (nextAbove s above))
-least s above e h = by-answer s above h (nextAbove s above) (next-follows s above e)
+pub least : (s : List ℕ) (above : ℕ) → wholePlaces (length s) ≡ true → above < endOfKeys → Least s above (keyOrLimit (nextAbove s above))
+least s above e h = by-answer s above h (nextAbove s above) (next-follows bytes s above e)
 
--- no key of kind 0 is held
+-- no key is 0
 pub none-zero : (s : List ℕ) → view s 0 ≡ none
-none-zero s = unheld-unseen s 0 (λ w. omega (arith, held-range s 0 w .0))
+none-zero s = unheld-unseen s 0 (λ w. omega (arith, never-zero 0 (held-is-key s 0 w)))
 
 -- what a key that is not held leaves as it is
 module _ {A : Type 0} (g : ℕ → A) (s : List ℕ) (keeps : (k : ℕ) → view s k ≡ none → g (suc k) ≡ g k) where

@@ -1,12 +1,13 @@
 -- What each way out of a call gives, by the answer of the table: a lemma for each, so that the definitions stay shut in the proofs of the functions.
 -- Assumes nothing.
-use Prim.Native.Nat.{ℕ, _*_, _^_}
+use Prim.Native.Nat.{ℕ}
 use mathlib.Core.Bool.{Bool, true, false, cond, not}
 use mathlib.Core.List.{List}
 use mathlib.Core.Option.{some, none}
 use mathlib.Core.Path.{_≡_, refl, sym, ap, _∙_}
 use lib.Dec.{ltb}
 use lib.ListN.{length}
+use Rattle.keys.specs.Keys.{endOfKeys}
 use Rattle.refusals.specs.declared.Refusal.{Refusal}
 use Rattle.refusals.specs.declared.Refusal.the-variants.{Places}
 use Rattle.track.specs.declared.Track.{Track}
@@ -15,14 +16,18 @@ use Rattle.place.specs.Place.{trackOf}
 use Rattle.text.specs.declared.Line.{Line}
 use Rattle.text.specs.declared.Row.{Row}
 use Rattle.text.specs.Lines.{headerText, rowText, lineOf}
-use Rattle.lent.specs.Layout.{wholePlaces, placesIn, clockOf, bodyAt}
+use Rattle.offsets.specs.Offsets.{wholePlaces, placesIn}
+use Rattle.lent.specs.Layout.{clockOf, bodyAt}
 use Rattle.answers.specs.declared.Clock.{Clock}
 use Rattle.answers.specs.declared.Clock.the-variants as clock
 use Rattle.answers.specs.declared.Holding.{Holding}
 use Rattle.answers.specs.declared.Holding.the-variants as holding
 use Rattle.answers.specs.declared.Looked.{Looked}
-use Rattle.table.specs.Table.{placeOf, lookedUp, clockIn}
-use Rattle.table.specs.View.{places, trackIn, viewAt}
+use Rattle.rules.specs.Rules.{placeOf}
+use Rattle.rules.specs.Rules as rules
+use Rattle.rules.specs.View.{trackIn, viewAt}
+use Rattle.table.specs.Bytes.{bytes}
+use Rattle.table.specs.Table.{lookedUp, clockIn}
 use Rattle.report.specs.declared.Printed.the-variants.{Text, Refused, Nothing}
 use Rattle.report.specs.declared.Report.{Report}
 use Rattle.report.specs.Listing.{rowOf, counted, headerFor, without, with, headerIn, reported, lineIn}
@@ -38,11 +43,11 @@ isAt (clock.At time) = true
 isAt (clock.Refused r) = false
 
 module _ (s : List ℕ) {c : Clock} (e : c ≡ clockIn s) where
-  told : (bad : ℕ) → headed (counted s (3 * 2 ^ 24)) bad c ≡ headerIn s bad
+  told : (bad : ℕ) → headed (counted s endOfKeys) bad c ≡ headerIn s bad
   unfolding clockIn headerIn headerFor
-  told bad = ap (headed (counted s (3 * 2 ^ 24)) bad) e ∙ by-test (wholePlaces (length s))
+  told bad = ap (headed (counted s endOfKeys) bad) e ∙ by-test (wholePlaces (length s))
     where
-      by-test : (b : Bool) → headed (counted s (3 * 2 ^ 24)) bad (cond b (clock.At (clockOf s)) (clock.Refused Places)) ≡ cond (not b) (without (Refused Places)) (with (headerFor s bad))
+      by-test : (b : Bool) → headed (counted s endOfKeys) bad (cond b (clock.At (clockOf s)) (clock.Refused Places)) ≡ cond (not b) (without (Refused Places)) (with (headerFor s bad))
       by-test true = refl
       by-test false = refl
 
@@ -54,15 +59,15 @@ module _ (s : List ℕ) {c : Clock} (e : c ≡ clockIn s) where
       by-test true = refl
       by-test false = refl
 
-  pub header-known : (bad : ℕ) {time n : ℕ} {l : Line} → c ≡ clock.At time → n ≡ counted s (3 * 2 ^ 24) → l ≡ lineOf (headerText time n bad) → _≡_ {A = Report} (record { answer = Text; line = l }) (headerIn s bad)
+  pub header-known : (bad : ℕ) {time n : ℕ} {l : Line} → c ≡ clock.At time → n ≡ counted s endOfKeys → l ≡ lineOf (headerText time n bad) → _≡_ {A = Report} (record { answer = Text; line = l }) (headerIn s bad)
   header-known bad {time} {n} q m f =
       ap (λ (x : Line). record { answer = Text; line = x }) f
       ∙ ap (λ (k : ℕ). with (headerText time k bad)) m
-      ∙ sym (ap (headed (counted s (3 * 2 ^ 24)) bad) q)
+      ∙ sym (ap (headed (counted s endOfKeys) bad) q)
       ∙ told bad
 
   pub header-refused : (bad : ℕ) {r : Refusal} → c ≡ clock.Refused r → without (Refused r) ≡ headerIn s bad
-  header-refused bad q = sym (ap (headed (counted s (3 * 2 ^ 24)) bad) q) ∙ told bad
+  header-refused bad q = sym (ap (headed (counted s endOfKeys) bad) q) ∙ told bad
 
 -- ---- a line, by what was looked up
 
@@ -76,15 +81,15 @@ shownOf key x = answered key (x .answer) (x .track)
 
 module _ (s : List ℕ) (key : ℕ) {l : Looked} (e : l ≡ lookedUp s key) where
   looked : shownOf key l ≡ lineIn s key
-  unfolding lookedUp placeOf lineIn viewAt reported
-  looked = ap (shownOf key) e ∙ by-tests (wholePlaces (length s)) (ltb (placeOf s (clockOf s) key) (placesIn s))
+  unfolding rules.lookedUp placeOf lineIn viewAt reported
+  looked = ap (shownOf key) e ∙ by-tests (wholePlaces (length s)) (ltb (placeOf bytes s (clockOf s) key) (placesIn s))
     where
       found : Looked
-      found = record { answer = holding.Held; track = trackOf (bodyAt s (placesIn s) (placeOf s (clockOf s) key)) }
+      found = record { answer = holding.Held; track = trackOf (bodyAt s (placesIn s) (placeOf bytes s (clockOf s) key)) }
 
       by-tests : (a b : Bool) →
           shownOf key (cond (not a) (record { answer = holding.Refused Places; track = newTrack }) (cond b found (record { answer = holding.Unheld; track = newTrack })))
-          ≡ cond (not a) (without (Refused Places)) (reported key (trackIn (cond b (some (places s (placeOf s (clockOf s) key))) none)))
+          ≡ cond (not a) (without (Refused Places)) (reported key (trackIn (cond b (some (bytes .cell s (placeOf bytes s (clockOf s) key))) none)))
       by-tests true true = refl
       by-tests true false = refl
       by-tests false b = refl

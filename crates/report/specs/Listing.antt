@@ -1,10 +1,11 @@
 -- The listing of a table, as document 01 has it: the header, then a line for each key held, I first, then by address.
-use Prim.Native.Nat.{ℕ, zero, suc, _+_, _*_, _^_}
+use Prim.Native.Nat.{ℕ, zero, suc, _+_}
 use mathlib.Core.Bool.{cond, not}
 use mathlib.Core.List.{List, [], _++_}
 use mathlib.Core.Option.{Option, some, none}
 use lib.IntN.{pos}
 use lib.ListN.{length}
+use Rattle.keys.specs.Keys.{endOfKeys}
 use Rattle.refusals.specs.declared.Refusal.the-variants.{Places}
 use Rattle.readings.specs.declared.altitude.Altitude.{Altitude}
 use Rattle.readings.specs.declared.altitude.Altitude.the-variants as altitude
@@ -15,7 +16,8 @@ use Rattle.text.specs.declared.Figure.{Figure}
 use Rattle.text.specs.declared.Figure.the-variants.{Unknown, Known}
 use Rattle.text.specs.declared.Row.{Row}
 use Rattle.text.specs.Lines.{headerText, rowText, lineOf}
-use Rattle.lent.specs.Layout.{wholePlaces, clockOf}
+use Rattle.offsets.specs.Offsets.{wholePlaces}
+use Rattle.lent.specs.Layout.{clockOf}
 use Rattle.table.specs.View.{view}
 use Rattle.report.specs.declared.Printed.{Printed}
 use Rattle.report.specs.declared.Printed.the-variants.{Text, Nothing, Refused}
@@ -47,7 +49,7 @@ rowOf key t =
       altitude = feet (altitudeOf (t .groups .pressure));
     }
 
--- ---- the whole listing, over all keys: a key is its kind, 1 for I and 2 for O, above 24 bits of address, so that all are below 3 x 2^24
+-- ---- the whole listing, over all keys, whose order is by kind and then by address
 
 -- a key's line, if it is held
 unfoldable pub lineFor : ℕ → Option Track → List ℕ
@@ -69,10 +71,10 @@ counted s zero = 0
 counted s (suc k) = counted s k + one (view s k)
 
 unfoldable pub headerFor : List ℕ → ℕ → List ℕ
-headerFor s bad = headerText (clockOf s) (counted s (3 * 2 ^ 24)) bad
+headerFor s bad = headerText (clockOf s) (counted s endOfKeys) bad
 
 unfoldable pub listing : List ℕ → ℕ → List ℕ
-listing s bad = headerFor s bad ++ listed s (3 * 2 ^ 24)
+listing s bad = headerFor s bad ++ listed s endOfKeys
 
 -- ---- what is answered, line by line
 

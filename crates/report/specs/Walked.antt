@@ -2,6 +2,7 @@
 use Prim.Native.Nat.{ℕ, suc}
 use mathlib.Core.Path.{_≡_}
 use mathlib.Core.List.{List, [], _++_}
+use Rattle.keys.specs.Keys.{endOfKeys}
 use Rattle.text.specs.Lines.{textIn}
 use Rattle.answers.specs.declared.NextKey.{NextKey}
 use Rattle.answers.specs.declared.NextKey.the-variants.{Key, End, Refused}
@@ -13,8 +14,8 @@ pub data Walked (s : List ℕ) : ℕ → ℕ → List ℕ → Type 0 where
   ended : {above : ℕ} → nextAbove s above ≡ End → Walked s above 0 []
   then : {above key n : ℕ} {text : List ℕ} → nextAbove s above ≡ Key key → Walked s key n text → Walked s above (suc n) (textIn (lineIn s key .line) ++ text)
 
--- the key that a walk has come to; at its end 3 x 2^24, which is above every key
+-- the key that a walk has come to; at its end the end of the keys
 unfoldable pub keyOrLimit : NextKey → ℕ
 keyOrLimit (Key key) = key
-keyOrLimit End = 50331648
-keyOrLimit (Refused r) = 50331648
+keyOrLimit End = endOfKeys
+keyOrLimit (Refused r) = endOfKeys

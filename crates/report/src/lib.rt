@@ -9,10 +9,10 @@ use text::Line;
 ghost use mathlib.Core.Path.{_≡_};
 ghost use mathlib.Core.Bool.{true};
 ghost use mathlib.Core.List.{[]};
-ghost use Prim.Native.Nat.{_*_, _^_};
 ghost use lib.ListN.{length};
+ghost use Rattle.keys.specs.Keys.{endOfKeys};
 ghost use Rattle.text.specs.Lines.{lineOf};
-ghost use Rattle.lent.specs.Layout.{wholePlaces};
+ghost use Rattle.offsets.specs.Offsets.{wholePlaces};
 ghost use Rattle.table.specs.Table.{nextAbove};
 ghost use Rattle.report.specs.Listing.{counted, headerIn, lineIn};
 ghost use Rattle.report.specs.Listing.{without as withoutLine};
@@ -49,26 +49,26 @@ fn without(answer: Printed) -> Report
     }
 }
 
-// The smallest key held above a given one; at the end 3 x 2^24.
+// The smallest key held above a given one; at the end of the keys their end.
 fn key_above(table: &[u8], above: u32) -> u32
     ensures { λ r. ⌜ r ≡ keyOrLimit (nextAbove (now (table .entry)) above) ⌝ }
 {
     let next = table::next(table, above);
     match next {
         NextKey::Key(key) => key,
-        NextKey::End => 0x300_0000,
-        NextKey::Refused(_) => 0x300_0000,
+        NextKey::End => keys::END,
+        NextKey::Refused(_) => keys::END,
     }
 }
 
 // How many keys the table holds.
 fn count(table: &[u8]) -> u64
     requires { ⌜ wholePlaces (length (now table)) ≡ true ⌝ }
-    ensures { λ r. ⌜ r ≡ counted (now (table .entry)) (3 * 2 ^ 24) ⌝ }
+    ensures { λ r. ⌜ r ≡ counted (now (table .entry)) endOfKeys ⌝ }
 {
     let mut n: u64 = 0;
     let mut key = key_above(table, 0);
-    while key < 0x300_0000 {
+    while key < keys::END {
         n += 1;
         key = key_above(table, key);
     }

@@ -1,7 +1,6 @@
 -- What is decided of the places by value, where no message is at hand: in a set-up, a look and a walk.
 use Prim.Native.Nat.{ℕ}
-use mathlib.Core.Bool.{Bool, true, false, cond, not, _&&_, _||_}
-use lib.Dec.{eqb, ltb}
+use mathlib.Core.Bool.{Bool, true, false, cond, not, _&&_}
 use Rattle.refusals.specs.declared.Refusal.{Refusal}
 use Rattle.refusals.specs.declared.Refusal.the-variants.{Places, Field}
 use Rattle.positions.specs.Positions.{poleToPole}
@@ -12,6 +11,7 @@ use Rattle.answers.specs.declared.SetUp.the-variants as setting
 use Rattle.answers.specs.declared.Holding.{Holding}
 use Rattle.answers.specs.declared.Looked.{Looked}
 use Rattle.located.specs.Located.{noSite}
+use Rattle.rules.specs.Search as search
 use Rattle.slots.specs.declared.Place.{Place}
 use Rattle.slots.specs.declared.Started.{Started}
 use Rattle.slots.specs.declared.Sought.{Sought}
@@ -45,5 +45,5 @@ looked answer t = record { answer = answer; track = t }
 -- ---- the next key
 
 -- the lesser of the best key so far, 0 for none, and the place's, if that is held and above
-unfoldable pub better : ℕ → ℕ → ℕ → Place → ℕ
-better clock above best p = cond (ltb above (p .key) && (eqb best 0 || ltb (p .key) best) && isHeld clock p) (p .key) best
+abbrev pub better : ℕ → ℕ → ℕ → Place → ℕ
+better clock above best p = search.better above best (p .key) (isHeld clock p)

@@ -2,6 +2,7 @@
 use Prim.Native.Nat.{ℕ}
 use mathlib.Core.Bool.{Bool, cond, _&&_}
 use lib.Dec.{leb}
+use Rattle.offsets.specs.Offsets.{mostPlaces}
 use Rattle.positions.specs.Positions.{poleToPole}
 use Rattle.located.specs.declared.Site.{Site}
 use Rattle.located.specs.Located.{noSite}
@@ -9,7 +10,7 @@ use Rattle.slots.specs.declared.Head.{Head}
 
 -- 1 to 1,024 places
 unfoldable pub placesFit : ℕ → Bool
-placesFit n = leb 1 n && leb n 1024
+placesFit n = leb 1 n && leb n mostPlaces
 
 abbrev pub headOf : ℕ → Site → Head
 headOf clock site = record { clock = clock; site = site }

@@ -1,18 +1,26 @@
 -- A place of the slice: a key and a track, each value of which has the range that the bytes of a table have room for.
-use Prim.Native.Nat.{ℕ, _-_}
+use Prim.Native.Nat.{ℕ}
 use mathlib.Core.Bool.{Bool, _&&_}
-use lib.Dec.{eqb, leb, ltb}
+use lib.Dec.{ltb}
 use lib.ListN.{getD}
+use Rattle.keys.specs.Keys.{isKey}
 use Rattle.positions.specs.declared.Counts.{Counts}
 use Rattle.positions.specs.Positions.{poleToPole}
 use Rattle.track.specs.declared.Groups.{Groups}
 use Rattle.track.specs.declared.Track.{Track}
 use Rattle.track.specs.Track.{newTrack, noSaved}
+use Rattle.track.specs.Meaning.{meant}
+use Rattle.rules.specs.Form.{Cell}
+use Rattle.rules.specs.Form as form
 use Rattle.slots.specs.declared.Place.{Place}
 
 -- a place that nobody has
 abbrev pub noPlace : Place
 noPlace = record { key = 0; track = newTrack }
+
+-- the track that a place means, whatever its values
+abbrev pub meaningOf : Place → Track
+meaningOf p = meant (p .track)
 
 -- three messages of 56 bits, two altitude codes of 12
 unfoldable pub groupsFit : Groups → Bool
@@ -35,14 +43,18 @@ trackFits t =
     && countsFit (getD (t .saved) 0 noSaved .counts)
     && countsFit (getD (t .saved) 1 noSaved .counts)
 
--- .. and a key of kind 1 or 2 above 24 bits of address
+-- .. and the key is one
 unfoldable pub inRange : Place → Bool
-inRange p = leb 16777216 (p .key) && ltb (p .key) 50331648 && trackFits (p .track)
+inRange p = isKey (p .key) && trackFits (p .track)
 
--- the place is held at the clock: every value in its range, and heard less than 125,000 ago; a time after the clock has age 0
-unfoldable pub isHeld : ℕ → Place → Bool
-isHeld clock p = inRange p && ltb (clock - p .track .heard) 125000
+-- what a place says
+abbrev pub cellIn : Place → Cell
+cellIn p = record { key = p .key; track = meaningOf p; inRange = inRange p }
+
+-- the place is held at the clock, by the rule of any form
+abbrev pub isHeld : ℕ → Place → Bool
+isHeld clock p = form.isHeld clock (cellIn p)
 
 -- .. with the key
-unfoldable pub holds : ℕ → ℕ → Place → Bool
-holds clock key p = eqb (p .key) key && isHeld clock p
+abbrev pub holds : ℕ → ℕ → Place → Bool
+holds clock key p = form.holds clock key (cellIn p)

@@ -1,14 +1,14 @@
 // The places of a lent slice by value, and what is decided of them where no message is at hand: in a set-up, a look and a walk.
 //
 // value of a place                       range
-// key                                    its kind, 1 or 2, above 24 bits
+// key                                    a key, as `keys` has it
 // the three ME of the groups             below 2^56
 // the two altitude codes                 below 2^12
 // latitude of the position               from -2^30 to 2^30
 // counts of the two saved positions      below 2^17
 // all else                               any
 //
-// A place with any value out of its range is free. A site whose latitude is out of its range counts as none.
+// A place with any value out of its range is free. An ME whose TYPE is not of its group says 'none heard', and what has no mark is none. A site whose latitude is out of its range counts as none.
 mod ranges;
 
 use answers::Holding;
@@ -26,7 +26,7 @@ ghost use Rattle.track.specs.Track.{newTrack};
 ghost use Rattle.answers.specs.declared.Holding.the-variants as holding;
 ghost use Rattle.answers.specs.declared.NextKey.the-variants as next;
 ghost use Rattle.refusals.specs.declared.Refusal.the-variants.{Places};
-ghost use Rattle.slots.specs.Ranges.{noPlace};
+ghost use Rattle.slots.specs.Ranges.{noPlace, meaningOf};
 ghost use Rattle.slots.specs.Head.{placesFit, siteOf};
 ghost use Rattle.slots.specs.Decided.{sought, notStarted, started, isDone, looked, better};
 
@@ -66,7 +66,7 @@ pub fn no_place() -> Place
 pub fn places_fit(n: usize) -> bool
     ensures { λ r. ⌜ r ≡ placesFit n ⌝ }
 {
-    (1 <= n) & (n <= 1024)
+    (1 <= n) & (n <= offsets::MOST_PLACES)
 }
 
 pub fn misfits(n: usize) -> bool
@@ -139,12 +139,12 @@ pub fn is_done(s: Started) -> bool
 }
 
 pub fn look_at(p: Place) -> Looked
-    ensures { λ r. ⌜ r ≡ looked holding.Held (p .track) ⌝ }
+    ensures { λ r. ⌜ r ≡ looked holding.Held (meaningOf p) ⌝ }
 {
     let t = p.track;
     Looked {
         answer: Holding::Held,
-        track: t,
+        track: track::meant(t),
     }
 }
 

@@ -5,8 +5,7 @@ use positions::Spot;
 use track::Groups;
 use track::Track;
 ghost use mathlib.Core.Path.{_≡_};
-ghost use Prim.Native.Nat.{_-_};
-ghost use lib.Dec.{ltb};
+ghost use Rattle.held.specs.Ranges.{inDate};
 ghost use Rattle.positions.specs.Positions.{poleToPole};
 ghost use Rattle.slots.specs.Ranges.{groupsFit, countsFit, trackFits, inRange, isHeld, holds};
 
@@ -50,12 +49,12 @@ fn in_range(p: Place) -> bool
     ensures { λ r. ⌜ r ≡ inRange p ⌝ }
 {
     let t = p.track;
-    (16777216 <= p.key) & (p.key < 50331648) & track_fits(t)
+    keys::is_key(p.key) & track_fits(t)
 }
 
 // A time after the clock has age 0.
 fn is_in_date(clock: u64, heard: u64) -> bool
-    ensures { λ r. ⌜ r ≡ ltb (clock - heard) 125000 ⌝ }
+    ensures { λ r. ⌜ r ≡ inDate clock heard ⌝ }
 {
     if clock < heard {
         true

@@ -7,7 +7,7 @@ use mathlib.Core.Path.{_≡_, refl, ap, sym, _∙_, subst}
 use mathlib.Core.List.{List, _++_}
 use lib.Dec.{ltb}
 use lib.ListN.{length}
-use borrow.Author.Tests.{lt-ltb, le-ltb, ltb-true, eq-eqb, ne-eqb, not-true, not-false}
+use borrow.Author.Tests.{lt-ltb, le-ltb, ltb-true, eq-eqb, ne-eqb}
 use Rattle.refusals.specs.declared.Refusal.{Refusal}
 use Rattle.refusals.specs.declared.Refusal.the-variants.{Length, Late, Full, Places, Field}
 use Rattle.positions.specs.declared.Spot.{Spot}
@@ -21,9 +21,14 @@ use Rattle.track.specs.declared.Track.{Track}
 use Rattle.track.specs.declared.Stepped.{Stepped}
 use Rattle.track.specs.Track.{newTrack, stepped}
 use Rattle.words.specs.Bytes.{lowBytes, put}
-use Rattle.place.specs.Place.{raised, trackOf}
+use Rattle.track.specs.Meaning.{meant}
+use Rattle.place.specs.Place.{raised, writtenIn, trackOf}
+use Rattle.held.specs.Ranges.{held}
+use Rattle.rules.specs.Form as form
+use Rattle.rules.specs.Rules as rules
 use Rattle.lent.specs.declared.scan.Target.{Target}
-use Rattle.lent.specs.Layout.{wholePlaces, placesIn, clockOf, siteOf, bodyAt, placeAt, isHeld, holds, moved, stored, emptied, emptiedAt}
+use Rattle.offsets.specs.Offsets.{siteLatitudeAt, wholePlaces, placesIn}
+use Rattle.lent.specs.Layout.{clockOf, siteOf, bodyAt, placeAt, isHeld, holds, moved, stored, emptied, emptiedAt}
 use Rattle.lent.specs.Scan.{lowest, targetOf}
 use Rattle.lent.specs.Walk.{smallest}
 use Rattle.answers.specs.declared.SetUp.the-variants as setting
@@ -32,18 +37,18 @@ use Rattle.answers.specs.declared.NextKey.{NextKey}
 use Rattle.answers.specs.declared.NextKey.the-variants as next
 use Rattle.answers.specs.declared.Clock.the-variants as clock
 use Rattle.answers.specs.declared.Sited.the-variants as sited
-use Rattle.table.specs.Table.{After, after, setUp, setUpAt, placeOf, freePlace, placed, delivered, received, lookedUp, nextAbove, clockIn, siteIn}
+use Rattle.table.specs.Table.{After, after, setUp, setUpAt, delivered, received, lookedUp, nextAbove, clockIn, siteIn}
 use Rattle.answers.specs.Keys.{keyOrEnd}
 
 -- ---- a message reaches the table
 
--- a step and its store
-pub step-placed : (s : List ℕ) (n i key : ℕ) {u v : Stepped} {l : List ℕ} → u ≡ v → l ≡ stored s n i key (u .track) → after (u .answer) l ≡ placed s n i key v
-step-placed s n i key {u} e h = ap (after (u .answer)) h ∙ ap (placed s n i key) e
+-- a stepped track at the place i of n, as the code has counted them: the rule's `placed`, where n is the table's
+abbrev pub placed : List ℕ → ℕ → ℕ → ℕ → Stepped → After Decoded
+placed s n i key t = after (t .answer) (stored s n i key (t .track))
 
 module _ (s : List ℕ) (time : ℕ) where
   pub deliver-refused : {a : Decoded} (r : Refusal) → a ≡ decode.Refused r → after a s ≡ delivered s a time
-  unfolding delivered
+  unfolding rules.delivered
   deliver-refused r e = rw e
 
   module _ {a : Decoded} {m : Message} (a-is : a ≡ decode.Message m) {k n : ℕ} (k-is : k ≡ keyOf m) (n-is : n ≡ placesIn s) {g : Target} (g-is : g ≡ targetOf (placeAt s n) n time k) where
@@ -67,7 +72,7 @@ module _ (s : List ℕ) (time : ℕ) where
         ∙ sym (ap (λ (c : Bool). cond c (step-from newTrack j) (after (decode.Refused Full) s)) (lt-ltb j n l))
 
     pub deliver-on : {x : Decoded} {l : List ℕ} {t : Track} → g .at < n → t ≡ start g → after x l ≡ step-from t (g .at) → after x l ≡ delivered s a time
-    unfolding delivered placeOf freePlace
+    unfolding rules.delivered rules.placeOf rules.freePlace
     deliver-on h t-is d =
         d
         ∙ ap (λ (u : Track). step-from u (g .at)) t-is
@@ -83,7 +88,7 @@ module _ (s : List ℕ) (time : ℕ) where
         sym (ap (λ (c : Bool). cond c (step-from newTrack j) (after (decode.Refused Full) s)) (le-ltb j n l))
 
     pub deliver-full : n ≤ g .at → after (decode.Refused Full) s ≡ delivered s a time
-    unfolding delivered placeOf freePlace
+    unfolding rules.delivered rules.placeOf rules.freePlace
     deliver-full h =
         full-by (lowest (λ j. holds time k (placeAt s n j)) n) (lowest (λ j. not (isHeld time (placeAt s n j))) n) _ refl g-is h ∙ rw (a-is, ← k-is, ← n-is)
 
@@ -91,70 +96,70 @@ module _ (s : List ℕ) (time : ℕ) where
 
 module _ (s m : List ℕ) (time : ℕ) where
   pub receive-length : (length m ≡ 14 → ⊥) → after (decode.Refused Length) s ≡ received s m time
-  unfolding received
+  unfolding rules.received
   receive-length f = rw (ne-eqb (length m) 14 f)
 
   module _ (l : length m ≡ 14) {t : Bool} (e : t ≡ wholePlaces (length s)) where
     pub receive-size : not t ≡ true → after (decode.Refused Places) s ≡ received s m time
-    unfolding received
+    unfolding rules.received
     receive-size f = rw (eq-eqb (length m) 14 l, ← e, f)
 
     module _ (f : not t ≡ false) {g : ℕ} (g-is : g ≡ clockOf s) where
       pub receive-late : time < g → after (decode.Refused Late) s ≡ received s m time
-      unfolding received
+      unfolding rules.received
       receive-late h = rw (eq-eqb (length m) 14 l, ← e, f, ← g-is, lt-ltb time g h)
 
-      pub receive-on : g ≤ time → {r : List ℕ} → r ≡ put s 0 (lowBytes 8 time) → {a x : Decoded} {z : List ℕ} → a ≡ decoded m
+      pub receive-on : g ≤ time → {r : List ℕ} → r ≡ moved s time → {a x : Decoded} {z : List ℕ} → a ≡ decoded m
           → after x z ≡ delivered r a time → after x z ≡ received s m time
-      unfolding received moved
+      unfolding rules.received
       receive-on h {r} r-is a-is d = d ∙ ap (λ (a : Decoded). delivered r a time) a-is ∙ rw (r-is, eq-eqb (length m) 14 l, ← e, f, ← g-is, le-ltb time g h)
 
 -- ---- set-up, and what can be read
 
 module _ (s : List ℕ) {t : Bool} (e : t ≡ wholePlaces (length s)) where
   pub set-up-size : not t ≡ true → after (setting.Refused Places) s ≡ setUp s
-  unfolding setUp
-  set-up-size f = rw (← e, not-true t f)
+  unfolding rules.setUp
+  set-up-size f = rw (← e, f)
 
   pub set-up-on : not t ≡ false → {l : List ℕ} → l ≡ emptied s → after setting.Done l ≡ setUp s
-  unfolding setUp
-  set-up-on f h = rw (← e, not-false t f, ← h)
+  unfolding rules.setUp
+  set-up-on f h = rw (← e, f, ← h)
 
   module _ (spot : Spot) where
     pub site-size : not t ≡ true → after (setting.Refused Places) s ≡ setUpAt s spot
-    unfolding setUpAt
+    unfolding rules.setUp
     site-size f = rw (← e, f)
 
     module _ (f : not t ≡ false) {p : Bool} (p-is : p ≡ poleToPole (spot .latitude)) where
       pub site-pole : not p ≡ true → after (setting.Refused Field) s ≡ setUpAt s spot
-      unfolding setUpAt
+      unfolding rules.setUp
       site-pole g = rw (← e, f, ← p-is, g)
 
-      pub site-on : not p ≡ false → {l m : List ℕ} → l ≡ emptied s → m ≡ put l 8 (lowBytes 4 (raised (spot .latitude) % 4294967296 + 1) ++ lowBytes 4 (spot .longitude))
+      pub site-on : not p ≡ false → {l m : List ℕ} → l ≡ emptied s → m ≡ put l siteLatitudeAt (lowBytes 4 (raised (spot .latitude) % 4294967296 + 1) ++ lowBytes 4 (spot .longitude))
           → after setting.Done m ≡ setUpAt s spot
-      unfolding setUpAt emptiedAt
+      unfolding rules.setUp emptiedAt
       site-on g l-is m-is = rw (← e, f, ← p-is, g, ← l-is, ← m-is)
 
   pub look-size : (key : ℕ) → not t ≡ true → {u : Track} → u ≡ newTrack → record { answer = holding.Refused Places; track = u } ≡ lookedUp s key
-  unfolding lookedUp
+  unfolding rules.lookedUp
   look-size key f h = rw (← e, f, h)
 
   module _ (key : ℕ) (f : not t ≡ false) {c n i : ℕ} (n-is : n ≡ placesIn s) (c-is : c ≡ clockOf s) (i-is : i ≡ lowest (λ j. holds c key (placeAt s n j)) n) where
     pub look-found : i < n → {p : List ℕ} {u : Track} → p ≡ bodyAt s n i → u ≡ trackOf p → record { answer = holding.Held; track = u } ≡ lookedUp s key
-    unfolding lookedUp placeOf
+    unfolding rules.lookedUp rules.placeOf
     look-found h p-is u-is = rw (← e, f, ← c-is, ← n-is, ← i-is, lt-ltb i n h, ← p-is, ← u-is)
 
     pub look-none : n ≤ i → {u : Track} → u ≡ newTrack → record { answer = holding.Unheld; track = u } ≡ lookedUp s key
-    unfolding lookedUp placeOf
+    unfolding rules.lookedUp rules.placeOf
     look-none h u-is = rw (← e, f, ← c-is, ← n-is, ← i-is, le-ltb i n h, u-is)
 
   module _ (above : ℕ) where
     pub next-size : not t ≡ true → next.Refused Places ≡ nextAbove s above
-    unfolding nextAbove
+    unfolding rules.nextAbove
     next-size f = rw (← e, f)
 
     pub next-on : not t ≡ false → {c n k : ℕ} {r : NextKey} → n ≡ placesIn s → c ≡ clockOf s → k ≡ smallest (placeAt s n) c above n → r ≡ keyOrEnd k → r ≡ nextAbove s above
-    unfolding nextAbove
+    unfolding rules.nextAbove
     next-on f n-is c-is k-is r-is = rw (← e, f, ← c-is, ← n-is, ← k-is) r-is
 
   pub clock-on : t ≡ true → {c : ℕ} → c ≡ clockOf s → clock.At c ≡ clockIn s

@@ -1,37 +1,35 @@
--- A table whose bytes after the head are 0 holds no key, as no key is 0; and the site that set-up writes is read back.
+-- What set-up writes: a table whose bytes after the head are 0 has no place in range, as no key is 0; and the site is read back.
 -- Assumes nothing.
 use Prim.Native.Nat.{ℕ, suc, zero, _+_, _*_, _-_, _%_, _^_, _≤_, _<_}
 use native.Mathlib.Omega.{arith}
 use native.Mathlib.Nat.{mod-eq-of-lt}
-use mathlib.Core.Bool.{true, _&&_}
+use mathlib.Core.Bool.{true, false, _&&_}
 use mathlib.Core.Logic.{inl, inr}
 use mathlib.Core.Path.{_≡_, refl, ap, ap₂, sym, _∙_}
 use mathlib.Core.List.{List, _++_}
-use lib.Dec.{eqb, leb, lit<}
+use lib.Dec.{leb, lit<}
 use lib.ListN.{length, getD, replicate, length-replicate}
-use borrow.Author.Tests.{le-leb, leb-true}
+use borrow.Author.Tests.{le-leb}
 use Rattle.fields.specs.Bytes.{Bytes}
-use Rattle.fields.proofs.Bools.{and-left, and-right, both}
+use Rattle.fields.proofs.Bools.{both}
+use Rattle.offsets.specs.Offsets.{headSize, siteLatitudeAt, siteLongitudeAt, keySize, keyStart}
 use Rattle.positions.specs.declared.Spot.{Spot}
 use Rattle.positions.specs.Positions.{poleToPole}
-use Rattle.located.specs.declared.Site.{Site}
 use Rattle.words.specs.Bytes.{numberAt, lowBytes, put}
 use Rattle.place.specs.Place.{raised}
-use Rattle.held.specs.Ranges.{inRange, held}
+use Rattle.held.specs.Ranges.{inRange}
 use Rattle.place.proofs.Latitudes.{raised-small, lowered-raised}
 use Rattle.words.proofs.Put.{put-length, put-append}
-use Rattle.lent.specs.Layout.{wholePlaces, placesIn, clockOf, siteFrom, siteOf, keyAt, holds, emptied, emptiedAt}
+use Rattle.lent.specs.Layout.{siteFrom, siteOf, keyAt, emptied, emptiedAt}
 use Rattle.located.specs.Located.{noSite}
 use Rattle.lent.proofs.Stores.{byte-out, number-agree, number-there, put-bytes, append-bytes, low-bytes}
-use Rattle.table.specs.View.{places, trackIn, viewAt, Fresh}
-use Rattle.table.proofs.Search.{fails, look-miss}
 
 zeros : (l j : ℕ) → getD {A = ℕ} (replicate l 0) j 0 ≡ 0
 zeros zero j = refl
 zeros (suc l) zero = refl
 zeros (suc l) (suc j) = zeros l j
 
-number-zero : (k : ℕ) (s : List ℕ) (a : ℕ) → ((j : ℕ) → a ≤ j → j < a + k → getD s j 0 ≡ 0) → numberAt k s a ≡ 0
+pub number-zero : (k : ℕ) (s : List ℕ) (a : ℕ) → ((j : ℕ) → a ≤ j → j < a + k → getD s j 0 ≡ 0) → numberAt k s a ≡ 0
 unfolding numberAt
 number-zero zero s a h = refl
 number-zero (suc k) s a h =
@@ -39,46 +37,29 @@ number-zero (suc k) s a h =
 
 -- ---- nothing after the head
 
-module _ (s : List ℕ) (rest : (j : ℕ) → 16 ≤ j → getD s j 0 ≡ 0) where
-  unkept : (c k i : ℕ) → holds c k (places s i) ≡ true → ⊥
-  unfolding holds held inRange keyAt
-  unkept c k i h =
-      let z : numberAt 4 s (16 + 4 * i) ≡ 0 = number-zero 4 s (16 + 4 * i) (λ j p q. rest j (omega arith)) in
-      let l : 16777216 ≤ numberAt 4 s (16 + 4 * i) = leb-true _ _ (and-left _ _ (and-left _ _ (and-left _ _ (and-right (eqb (numberAt 4 s (16 + 4 * i)) k) _ h)))) in
-      omega arith
-
-  -- so with a clock of 0 it is as set-up leaves it
-  fresh : (site : Site) → Bytes s → wholePlaces (length s) ≡ true → clockOf s ≡ 0 → siteOf s ≡ site → Fresh site s
-  unfolding viewAt
-  fresh site b w c e =
-      record {
-        table = record { bytes = b; size = w; once = λ k i j h g p q. absurd (unkept (clockOf s) k i p) };
-        clock = c;
-        sited = e;
-        unheld = λ k. ap trackIn (look-miss (holds (clockOf s) k) (places s) (placesIn s) (λ i h. fails _ (unkept (clockOf s) k i)));
-      }
+pub no-key : (s : List ℕ) → ((j : ℕ) → headSize ≤ j → getD s j 0 ≡ 0) → (i : ℕ) (body : List ℕ) → inRange (keyAt s i) body ≡ false
+unfolding inRange keyAt
+no-key s rest i body =
+    let z : numberAt keySize s (keyStart i) ≡ 0 = number-zero keySize s (keyStart i) (λ j p q. rest j (omega arith)) in
+    rw z
 
 -- ---- no site
 
 module _ (s : List ℕ) where
-  emptied-zero : (j : ℕ) → getD (emptied s) j 0 ≡ 0
+  pub emptied-zero : (j : ℕ) → getD (emptied s) j 0 ≡ 0
   unfolding emptied
   emptied-zero j = zeros (length s) j
 
-  emptied-length : length (emptied s) ≡ length s
+  pub emptied-length : length (emptied s) ≡ length s
   unfolding emptied
   emptied-length = length-replicate (length s) 0
 
-  emptied-bytes : Bytes (emptied s)
+  pub emptied-bytes : Bytes (emptied s)
   emptied-bytes j = rw (emptied-zero j) (lit< tt)
 
-  siteless : siteOf (emptied s) ≡ noSite
+  pub siteless : siteOf (emptied s) ≡ noSite
   unfolding siteFrom
-  siteless = ap₂ siteFrom (number-zero 4 (emptied s) 8 (λ j p q. emptied-zero j)) (number-zero 4 (emptied s) 12 (λ j p q. emptied-zero j))
-
-  pub emptied-fresh : wholePlaces (length s) ≡ true → Fresh noSite (emptied s)
-  emptied-fresh w =
-      fresh (emptied s) (λ j h. emptied-zero j) noSite emptied-bytes (rw emptied-length w) (number-zero 8 (emptied s) 0 (λ j p q. emptied-zero j)) siteless
+  siteless = ap₂ siteFrom (number-zero 4 (emptied s) siteLatitudeAt (λ j p q. emptied-zero j)) (number-zero 4 (emptied s) siteLongitudeAt (λ j p q. emptied-zero j))
 
   -- ---- a site
 
@@ -93,42 +74,42 @@ module _ (s : List ℕ) where
     unfolding lowBytes
     eight = refl
 
-    site-length : length (emptiedAt s spot) ≡ length s
+    pub site-length : length (emptiedAt s spot) ≡ length s
     unfolding emptiedAt
-    site-length = put-length (emptied s) 8 (lowBytes 4 x ++ lowBytes 4 y) ∙ emptied-length
+    site-length = put-length (emptied s) siteLatitudeAt (lowBytes 4 x ++ lowBytes 4 y) ∙ emptied-length
 
-    site-bytes : Bytes (emptiedAt s spot)
+    pub site-bytes : Bytes (emptiedAt s spot)
     unfolding emptiedAt
-    site-bytes = put-bytes (emptied s) 8 (lowBytes 4 x ++ lowBytes 4 y) emptied-bytes (append-bytes (lowBytes 4 x) (lowBytes 4 y) (low-bytes 4 x) (low-bytes 4 y))
+    site-bytes = put-bytes (emptied s) siteLatitudeAt (lowBytes 4 x ++ lowBytes 4 y) emptied-bytes (append-bytes (lowBytes 4 x) (lowBytes 4 y) (low-bytes 4 x) (low-bytes 4 y))
 
-    before : (j : ℕ) → j < 8 → getD (emptiedAt s spot) j 0 ≡ 0
+    pub before : (j : ℕ) → j < siteLatitudeAt → getD (emptiedAt s spot) j 0 ≡ 0
     unfolding emptiedAt
-    before j h = byte-out (lowBytes 4 x ++ lowBytes 4 y) (emptied s) 8 j (inl h) ∙ emptied-zero j
+    before j h = byte-out (lowBytes 4 x ++ lowBytes 4 y) (emptied s) siteLatitudeAt j (inl h) ∙ emptied-zero j
 
-    behind : (j : ℕ) → 16 ≤ j → getD (emptiedAt s spot) j 0 ≡ 0
+    pub behind : (j : ℕ) → headSize ≤ j → getD (emptiedAt s spot) j 0 ≡ 0
     unfolding emptiedAt
-    behind j h = byte-out (lowBytes 4 x ++ lowBytes 4 y) (emptied s) 8 j (inr (rw eight h)) ∙ emptied-zero j
+    behind j h = byte-out (lowBytes 4 x ++ lowBytes 4 y) (emptied s) siteLatitudeAt j (inr (rw eight h)) ∙ emptied-zero j
 
     -- one number after the other
     abbrev first : List ℕ
-    first = put (emptied s) 8 (lowBytes 4 x)
+    first = put (emptied s) siteLatitudeAt (lowBytes 4 x)
 
-    in-two : emptiedAt s spot ≡ put first 12 (lowBytes 4 y)
+    in-two : emptiedAt s spot ≡ put first siteLongitudeAt (lowBytes 4 y)
     unfolding emptiedAt lowBytes
-    in-two = sym (put-append (emptied s) 8 (lowBytes 4 x) (lowBytes 4 y))
+    in-two = sym (put-append (emptied s) siteLatitudeAt (lowBytes 4 x) (lowBytes 4 y))
 
-    module _ (size : 16 ≤ length s) (north : poleToPole (spot .latitude) ≡ true) (east : spot .longitude < 2 ^ 32) where
-      latitude-there : numberAt 4 (emptiedAt s spot) 8 ≡ x
+    module _ (size : headSize ≤ length s) (north : poleToPole (spot .latitude) ≡ true) (east : spot .longitude < 2 ^ 32) where
+      latitude-there : numberAt 4 (emptiedAt s spot) siteLatitudeAt ≡ x
       latitude-there =
-          ap (λ (l : List ℕ). numberAt 4 l 8) in-two
-          ∙ number-agree 4 (put first 12 (lowBytes 4 y)) first 8 (λ j p q. byte-out (lowBytes 4 y) first 12 j (inl q))
-          ∙ number-there 4 x (emptied s) 8 (rw emptied-length (omega arith))
+          ap (λ (l : List ℕ). numberAt 4 l siteLatitudeAt) in-two
+          ∙ number-agree 4 (put first siteLongitudeAt (lowBytes 4 y)) first siteLatitudeAt (λ j p q. byte-out (lowBytes 4 y) first siteLongitudeAt j (inl q))
+          ∙ number-there 4 x (emptied s) siteLatitudeAt (rw emptied-length (omega arith))
           ∙ mod-eq-of-lt (omega (arith, raised-small (spot .latitude) north))
 
-      longitude-there : numberAt 4 (emptiedAt s spot) 12 ≡ y
+      longitude-there : numberAt 4 (emptiedAt s spot) siteLongitudeAt ≡ y
       longitude-there =
-          ap (λ (l : List ℕ). numberAt 4 l 12) in-two
-          ∙ number-there 4 y first 12 (rw (put-length (emptied s) 8 (lowBytes 4 x) ∙ emptied-length) size)
+          ap (λ (l : List ℕ). numberAt 4 l siteLongitudeAt) in-two
+          ∙ number-there 4 y first siteLongitudeAt (rw (put-length (emptied s) siteLatitudeAt (lowBytes 4 x) ∙ emptied-length) size)
           ∙ mod-eq-of-lt east
 
       site-from : siteFrom x y ≡ record { known = true; spot = spot }
@@ -140,8 +121,3 @@ module _ (s : List ℕ) where
 
       pub set-up-site : siteOf (emptiedAt s spot) ≡ record { known = true; spot = spot }
       set-up-site = ap₂ siteFrom latitude-there longitude-there ∙ site-from
-
-      pub emptied-at-fresh : wholePlaces (length s) ≡ true → Fresh (record { known = true; spot = spot }) (emptiedAt s spot)
-      emptied-at-fresh w =
-          fresh (emptiedAt s spot) behind (record { known = true; spot = spot }) site-bytes (rw site-length w)
-          (number-zero 8 (emptiedAt s spot) 0 (λ j p q. before j q)) set-up-site

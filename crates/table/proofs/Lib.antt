@@ -1,11 +1,6 @@
 pub mod Answers
-pub mod Unique
-pub mod KeyOrder
-pub mod Search
-pub mod Steps
-pub mod Delivered
-pub mod Ways
 pub mod Emptied
-pub mod Laws
-pub mod Exactly
+pub mod Hearing
+pub mod Lawful
 pub mod Promised
+pub mod Unique

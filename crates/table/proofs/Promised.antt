@@ -1,56 +1,40 @@
--- What the contracts promise in document 01's terms: whatever meets the contract of a public function says the number that the paper's table gives, or what the lent table holds. The definitions of specs/Said
--- carry each case of the answer over.
+-- What the contracts promise in document 01's terms: whatever meets the contract of a public function says the number that the paper's table gives, or what the lent table holds. Each is a law of `rules`, at the bytes;
+-- of the head, which only the bytes have within, by the test.
 -- Assumes nothing.
 use Prim.Native.Nat.{ℕ}
 use mathlib.Core.Path.{_≡_, refl, ap, _∙_}
 use mathlib.Core.Bool.{Bool, true, false, cond, not}
 use mathlib.Core.List.{List}
-use mathlib.Core.Option.{Option, some, none}
-use lib.Dec.{eqb}
 use lib.ListN.{length}
 use contract.Lifetimes.{Lfts}
 use denote.Triple.Clauses.{AtExit}
 use borrow.Fn.Kinds.{Dens, resT, endedOf}
-use Rattle.refusals.specs.declared.Refusal.the-variants.{Places, Field}
-use Rattle.positions.specs.declared.Spot.{Spot}
+use Rattle.refusals.specs.declared.Refusal.the-variants.{Places}
 use Rattle.messages.specs.declared.Decoded.{Decoded}
+use Rattle.messages.specs.declared.Decoded.the-variants as decode
 use Rattle.messages.specs.Table.{said}
 use Rattle.located.specs.declared.Site.{Site}
-use Rattle.track.specs.declared.Track.{Track}
-use Rattle.lent.specs.Layout.{wholePlaces, placesIn, clockOf, siteOf, emptied, emptiedAt}
-use Rattle.lent.specs.Walk.{smallest}
+use Rattle.located.specs.Located.{noSite}
+use Rattle.answers.specs.declared.Heard.{Heard}
 use Rattle.answers.specs.declared.SetUp.{SetUp}
-use Rattle.answers.specs.declared.SetUp.the-variants as setting
-use Rattle.answers.specs.declared.NextKey.the-variants as following
 use Rattle.answers.specs.declared.Clock.the-variants as clocked
 use Rattle.answers.specs.declared.Sited.the-variants as sited
-use Rattle.table.specs.Table.{After, after, setUp, setUpAt, lookedUp, nextAbove, clockIn, siteIn}
-use Rattle.table.specs.View.{places, view, lookedAs}
-use Rattle.table.specs.Said.{
-  Said,
-  number,
-  done,
-  track,
-  next-key,
-  clock,
-  site,
-  setUpSaid,
-  lookedSaid,
-  nextSaid,
-  clockSaid,
-  spotIn,
-  sitedSaid,
-  keyAbove,
-  earns7,
-  earns8,
-  receiveTable,
-}
-use Rattle.table.proofs.Laws.{looked-up}
-use Rattle.table.proofs.Exactly.{says-the-table}
+use Rattle.rules.specs.Said.{number, track, next-key, clock, site, setUpSaid, heardSaid, doneOr, lookedSaid, nextSaid, clockSaid, spotIn, sitedSaid, keyAbove, earns7, setUpTable, receiveTable}
+use Rattle.rules.proofs.Exactly.{says-the-table}
+use Rattle.rules.proofs.Says.{set-up-says, look-says, next-says}
+use Rattle.offsets.specs.Offsets.{wholePlaces}
+use Rattle.lent.specs.Layout.{clockOf, siteOf}
+use Rattle.table.specs.Bytes.{bytes}
+use Rattle.table.specs.Heard.{heardAs}
+use Rattle.table.specs.Table.{After, received, siteAt, clockIn, siteIn}
+use Rattle.table.specs.View.{view}
+use Rattle.table.proofs.Lawful.{bytes-lawful}
 use Rattle.table.proofs.set_up.Kinds as set-up-kinds
 use Rattle.table.proofs.set_up.Reads as set-up
 use Rattle.table.proofs.set_up_at.Kinds as set-up-at-kinds
 use Rattle.table.proofs.set_up_at.Reads as set-up-at
+use Rattle.table.proofs.hear.Kinds as hear-kinds
+use Rattle.table.proofs.hear.Reads as hear
 use Rattle.table.proofs.receive.Kinds as receive-kinds
 use Rattle.table.proofs.receive.Reads as receive
 use Rattle.table.proofs.look_up.Kinds as look-up-kinds
@@ -64,82 +48,49 @@ use Rattle.table.proofs.site_of.Reads as site-of
 
 -- ---- set-up: 7, then 8
 
-abbrev saidAfter : After SetUp → Said
-saidAfter x = setUpSaid (x .answer)
-
-set-up-says : (s : List ℕ) → saidAfter (setUp s) ≡ cond (earns7 s) (number 7) done
-unfolding setUp
-set-up-says s = by-whole (wholePlaces (length s)) (emptied s)
-  where
-    by-whole : (w : Bool) (l : List ℕ) → saidAfter (cond w (after setting.Done l) (after (setting.Refused Places) s)) ≡ cond (not w) (number 7) done
-    by-whole true l = refl
-    by-whole false l = refl
-
-set-up-at-says : (s : List ℕ) (spot : Spot) → saidAfter (setUpAt s spot) ≡ cond (earns7 s) (number 7) (cond (earns8 spot) (number 8) done)
-unfolding setUpAt
-set-up-at-says s spot = by-tests (earns7 s) (earns8 spot) (emptiedAt s spot)
-  where
-    by-tests : (a b : Bool) (l : List ℕ)
-        → saidAfter (cond a (after (setting.Refused Places) s) (cond b (after (setting.Refused Field) s) (after setting.Done l))) ≡ cond a (number 7) (cond b (number 8) done)
-    by-tests true b l = refl
-    by-tests false true l = refl
-    by-tests false false l = refl
-
 pub set-up-promised : (κs : Lfts 1) (args : Dens κs set-up-kinds.ps) (x : resT set-up-kinds.r κs .Denot)
     (left : AtExit (endedOf 1 set-up-kinds.ps set-up-kinds.r) κs) → set-up.Post κs args x left
-    → setUpSaid x ≡ cond (earns7 (args .0 .now)) (number 7) done
-set-up-promised κs args x left p = ap saidAfter p ∙ set-up-says (args .0 .now)
+    → setUpSaid x ≡ setUpTable bytes (args .0 .now) noSite
+set-up-promised κs args x left p = ap (λ (y : After SetUp). setUpSaid (y .answer)) p ∙ set-up-says bytes (args .0 .now) noSite
 
 pub set-up-at-promised : (κs : Lfts 1) (args : Dens κs set-up-at-kinds.ps) (x : resT set-up-at-kinds.r κs .Denot)
     (left : AtExit (endedOf 1 set-up-at-kinds.ps set-up-at-kinds.r) κs) → set-up-at.Post κs args x left
-    → setUpSaid x ≡ cond (earns7 (args .0 .now)) (number 7) (cond (earns8 (args .1 .0)) (number 8) done)
-set-up-at-promised κs args x left p = ap saidAfter p ∙ set-up-at-says (args .0 .now) (args .1 .0)
+    → setUpSaid x ≡ setUpTable bytes (args .0 .now) (siteAt (args .1 .0))
+set-up-at-promised κs args x left p = ap (λ (y : After SetUp). setUpSaid (y .answer)) p ∙ set-up-says bytes (args .0 .now) (siteAt (args .1 .0))
 
 -- ---- a received message: 1, 7, 2, 3, 4, 5, 6, or its fields
 
 pub receive-promised : (κs : Lfts 2) (args : Dens κs receive-kinds.ps) (x : resT receive-kinds.r κs .Denot)
     (left : AtExit (endedOf 2 receive-kinds.ps receive-kinds.r) κs) → receive.Post κs args x left
-    → said x ≡ receiveTable (args .0 .now) (args .1 .0 .now) (args .1 .1 .0)
-receive-promised κs args x left p = ap (λ (y : After Decoded). said (y .answer)) p ∙ says-the-table (args .0 .now) (args .1 .0 .now) (args .1 .1 .0)
+    → said x ≡ receiveTable bytes (args .0 .now) (args .1 .0 .now) (args .1 .1 .0)
+receive-promised κs args x left p = ap (λ (y : After Decoded). said (y .answer)) p ∙ says-the-table bytes bytes-lawful (args .0 .now) (args .1 .0 .now) (args .1 .1 .0)
+
+heard-says : (d : Decoded) → heardSaid (heardAs d) ≡ doneOr (said d)
+heard-says (decode.Message m) = refl
+heard-says (decode.Refused r) = refl
+
+pub hear-promised : (κs : Lfts 2) (args : Dens κs hear-kinds.ps) (x : resT hear-kinds.r κs .Denot)
+    (left : AtExit (endedOf 2 hear-kinds.ps hear-kinds.r) κs) → hear.Post κs args x left
+    → heardSaid x ≡ doneOr (receiveTable bytes (args .0 .now) (args .1 .0 .now) (args .1 .1 .0))
+hear-promised κs args x left p =
+    let a : After Decoded = received (args .0 .now) (args .1 .0 .now) (args .1 .1 .0) in
+    ap (λ (y : After Heard). heardSaid (y .answer)) p
+    ∙ heard-says (a .answer)
+    ∙ ap doneOr (says-the-table bytes bytes-lawful (args .0 .now) (args .1 .0 .now) (args .1 .1 .0))
 
 -- ---- what is read: 7, or what the table holds
 
-module _ (s : List ℕ) (key : ℕ) where
-  viewed : (v : Option Track) → lookedSaid (lookedAs v) ≡ track v
-  viewed none = refl
-  viewed (some t) = refl
-
-  look-refused : wholePlaces (length s) ≡ false → lookedSaid (lookedUp s key) ≡ number 7
-  unfolding lookedUp
-  look-refused e = rw e
-
-  look-says : lookedSaid (lookedUp s key) ≡ cond (earns7 s) (number 7) (track (view s key))
-  look-says = by-whole (wholePlaces (length s)) refl
-    where
-      by-whole : (w : Bool) → wholePlaces (length s) ≡ w → lookedSaid (lookedUp s key) ≡ cond (not w) (number 7) (track (view s key))
-      by-whole true e = ap lookedSaid (looked-up s key e) ∙ viewed (view s key)
-      by-whole false e = look-refused e
-
 pub look-up-promised : (κs : Lfts 1) (args : Dens κs look-up-kinds.ps) (x : resT look-up-kinds.r κs .Denot)
     (left : AtExit (endedOf 1 look-up-kinds.ps look-up-kinds.r) κs) → look-up.Post κs args x left
-    → lookedSaid x ≡ cond (earns7 (args .0 .now)) (number 7) (track (view (args .0 .now) (args .1 .0)))
-look-up-promised κs args x left p = ap lookedSaid p ∙ look-says (args .0 .now) (args .1 .0)
-
-next-says : (s : List ℕ) (above : ℕ) → nextSaid (nextAbove s above) ≡ cond (earns7 s) (number 7) (next-key (keyAbove s above))
-unfolding nextAbove
-next-says s above = by-tests (earns7 s) (eqb (smallest (places s) (clockOf s) above (placesIn s)) 0) (smallest (places s) (clockOf s) above (placesIn s))
-  where
-    by-tests : (a b : Bool) (k : ℕ) → nextSaid (cond a (following.Refused Places) (cond b following.End (following.Key k))) ≡ cond a (number 7) (next-key (cond b none (some k)))
-    by-tests true b k = refl
-    by-tests false true k = refl
-    by-tests false false k = refl
+    → lookedSaid x ≡ cond (earns7 bytes (args .0 .now)) (number 7) (track (view (args .0 .now) (args .1 .0)))
+look-up-promised κs args x left p = ap lookedSaid p ∙ look-says bytes (args .0 .now) (args .1 .0)
 
 pub next-promised : (κs : Lfts 1) (args : Dens κs next-kinds.ps) (x : resT next-kinds.r κs .Denot)
     (left : AtExit (endedOf 1 next-kinds.ps next-kinds.r) κs) → next.Post κs args x left
-    → nextSaid x ≡ cond (earns7 (args .0 .now)) (number 7) (next-key (keyAbove (args .0 .now) (args .1 .0)))
-next-promised κs args x left p = ap nextSaid p ∙ next-says (args .0 .now) (args .1 .0)
+    → nextSaid x ≡ cond (earns7 bytes (args .0 .now)) (number 7) (next-key (keyAbove bytes (args .0 .now) (args .1 .0)))
+next-promised κs args x left p = ap nextSaid p ∙ next-says bytes (args .0 .now) (args .1 .0)
 
-clock-says : (s : List ℕ) → clockSaid (clockIn s) ≡ cond (earns7 s) (number 7) (clock (clockOf s))
+clock-says : (s : List ℕ) → clockSaid (clockIn s) ≡ cond (earns7 bytes s) (number 7) (clock (clockOf s))
 unfolding clockIn
 clock-says s = by-whole (wholePlaces (length s)) (clockOf s)
   where
@@ -149,10 +100,10 @@ clock-says s = by-whole (wholePlaces (length s)) (clockOf s)
 
 pub clock-of-promised : (κs : Lfts 1) (args : Dens κs clock-of-kinds.ps) (x : resT clock-of-kinds.r κs .Denot)
     (left : AtExit (endedOf 1 clock-of-kinds.ps clock-of-kinds.r) κs) → clock-of.Post κs args x left
-    → clockSaid x ≡ cond (earns7 (args .0 .now)) (number 7) (clock (clockOf (args .0 .now)))
+    → clockSaid x ≡ cond (earns7 bytes (args .0 .now)) (number 7) (clock (clockOf (args .0 .now)))
 clock-of-promised κs args x left p = ap clockSaid p ∙ clock-says (args .0 .now)
 
-site-says : (s : List ℕ) → sitedSaid (siteIn s) ≡ cond (earns7 s) (number 7) (site (spotIn (siteOf s)))
+site-says : (s : List ℕ) → sitedSaid (siteIn s) ≡ cond (earns7 bytes s) (number 7) (site (spotIn (siteOf s)))
 unfolding siteIn
 site-says s = by-whole (wholePlaces (length s)) (siteOf s)
   where
@@ -162,5 +113,5 @@ site-says s = by-whole (wholePlaces (length s)) (siteOf s)
 
 pub site-of-promised : (κs : Lfts 1) (args : Dens κs site-of-kinds.ps) (x : resT site-of-kinds.r κs .Denot)
     (left : AtExit (endedOf 1 site-of-kinds.ps site-of-kinds.r) κs) → site-of.Post κs args x left
-    → sitedSaid x ≡ cond (earns7 (args .0 .now)) (number 7) (site (spotIn (siteOf (args .0 .now))))
+    → sitedSaid x ≡ cond (earns7 bytes (args .0 .now)) (number 7) (site (spotIn (siteOf (args .0 .now))))
 site-of-promised κs args x left p = ap sitedSaid p ∙ site-says (args .0 .now)

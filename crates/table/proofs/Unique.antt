@@ -3,12 +3,15 @@
 use mathlib.Core.Path.{sym, _∙_}
 use Rattle.refusals.specs.Answers.{OneAnswer, OneOutcome}
 use Rattle.messages.specs.declared.Decoded.{Decoded}
+use Rattle.answers.specs.declared.Heard.{Heard}
 use Rattle.answers.specs.declared.SetUp.{SetUp}
 use Rattle.table.specs.Table.{After, after}
 use Rattle.table.proofs.set_up.Kinds as set-up-kinds
 use Rattle.table.proofs.set_up.Reads as set-up
 use Rattle.table.proofs.set_up_at.Kinds as set-up-at-kinds
 use Rattle.table.proofs.set_up_at.Reads as set-up-at
+use Rattle.table.proofs.hear.Kinds as hear-kinds
+use Rattle.table.proofs.hear.Reads as hear
 use Rattle.table.proofs.receive.Kinds as receive-kinds
 use Rattle.table.proofs.receive.Reads as receive
 use Rattle.table.proofs.look_up.Kinds as look-up-kinds
@@ -25,6 +28,9 @@ set-up-once κs args x y left left′ p q = p ∙ sym q
 
 pub set-up-at-once : OneOutcome 1 set-up-at-kinds.ps set-up-at-kinds.r (After SetUp) (λ κs x left. after x (left .0 .now)) set-up-at.Post
 set-up-at-once κs args x y left left′ p q = p ∙ sym q
+
+pub hear-once : OneOutcome 2 hear-kinds.ps hear-kinds.r (After Heard) (λ κs x left. after x (left .0 .now)) hear.Post
+hear-once κs args x y left left′ p q = p ∙ sym q
 
 pub receive-once : OneOutcome 2 receive-kinds.ps receive-kinds.r (After Decoded) (λ κs x left. after x (left .0 .now)) receive.Post
 receive-once κs args x y left left′ p q = p ∙ sym q

@@ -1,3 +1,4 @@
-pub mod Said
+pub mod Bytes
+pub mod Heard
 pub mod Table
 pub mod View

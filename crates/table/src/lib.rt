@@ -1,23 +1,30 @@
-// The lent table: 1 to 1,024 places in bytes that the caller lends, laid out as `lent` says.
+// The lent table: 1 to 1,024 places in bytes that the caller lends, laid out as `offsets` says.
 use answers::Clock;
+use answers::Heard;
 use answers::Holding;
 use answers::Looked;
 use answers::NextKey;
 use answers::SetUp;
 use answers::Sited;
 use lent::Target;
+use messages::Accepted;
 use messages::Decoded;
+use messages::Frame;
 use positions::Spot;
 use refusals::Refusal;
 use track::Track;
 ghost use mathlib.Core.Path.{_≡_};
-ghost use Prim.Native.Nat.{_+_, _*_, _≤_, _<_};
+ghost use Prim.Native.Nat.{_<_};
 ghost use mathlib.Core.Bool.{true, cond};
 ghost use lib.ListN.{length};
-ghost use Rattle.track.specs.Track.{newTrack, stepped};
+ghost use Rattle.offsets.specs.Offsets.{Room, wholePlaces};
+ghost use Rattle.messages.specs.declared.Accepted.the-variants as accept;
+ghost use Rattle.messages.specs.Accepted.{IsAccepted, openedAs};
+ghost use Rattle.track.specs.Track.{newTrack, stepMe};
 ghost use Rattle.place.specs.Place.{trackOf};
-ghost use Rattle.lent.specs.Layout.{wholePlaces, siteOf, bodyAt};
-ghost use Rattle.table.specs.Table.{after, placed, delivered, received, setUp, setUpAt, lookedUp, nextAbove, clockIn, siteIn};
+ghost use Rattle.lent.specs.Layout.{siteOf, bodyAt, stored};
+ghost use Rattle.table.specs.Heard.{heard};
+ghost use Rattle.table.specs.Table.{after, delivered, received, setUp, setUpAt, lookedUp, nextAbove, clockIn, siteIn};
 
 // Empties the table: no track, no site, clock 0.
 pub fn set_up(table: &mut [u8]) -> SetUp
@@ -47,7 +54,7 @@ pub fn set_up_at(table: &mut [u8], site: Spot) -> SetUp
 
 // The track that a message steps: the target's, or a new one.
 fn start_of(table: &[u8], n: usize, target: Target) -> Track
-    requires { ⌜ (n ≤ 1024) × ((target .at < n) × (16 + 79 * n ≤ length (now table))) ⌝ }
+    requires { ⌜ (target .at < n) × Room n (now table) ⌝ }
     ensures { λ r. ⌜ r ≡ cond (target .held) (trackOf (bodyAt (now (table .entry)) n (target .at))) newTrack ⌝ }
 {
     if target.held {
@@ -57,59 +64,61 @@ fn start_of(table: &[u8], n: usize, target: Target) -> Track
     }
 }
 
-// The track's step by the answer, stored at the place i.
-fn step_at(
-    table: &mut [u8],
-    n: usize,
-    i: usize,
-    key: u32,
-    t: Track,
-    answer: Decoded,
-    time: u64,
-) -> Decoded
-    requires { ⌜ (n ≤ 1024) × ((i < n) × (16 + 79 * n ≤ length (now table))) ⌝ }
-    ensures { λ r. ⌜ after r (now (table .exit)) ≡ placed (now (table .entry)) n i key (stepped t answer (siteOf (now (table .entry))) time) ⌝ }
+// The step of a track by an ME, stored at the place i.
+fn step_at(table: &mut [u8], n: usize, i: usize, key: u32, t: Track, me: u64, time: u64)
+    requires { ⌜ (i < n) × Room n (now table) ⌝ }
+    ensures { λ _. ⌜ now (table .exit) ≡ stored (now (table .entry)) n i key (stepMe t me (siteOf (now (table .entry))) time) ⌝ }
 {
     let site = lent::site_of(table);
-    let next = track::step(t, answer, site, time);
-    let track = next.track;
-    lent::store(table, n, i, key, track);
-    next.answer
+    lent::store(table, n, i, key, track::step_me(t, me, site, time));
 }
 
-// The decoder's answer reaches the table. The clock is already at the time.
-fn deliver(table: &mut [u8], answer: Decoded, time: u64) -> Decoded
-    requires { ⌜ wholePlaces (length (now table)) ≡ true ⌝ }
-    ensures { λ r. ⌜ after r (now (table .exit)) ≡ delivered (now (table .entry)) answer time ⌝ }
+// An acceptable message reaches the table. The clock is already at the time.
+fn deliver(table: &mut [u8], f: Frame, time: u64) -> Heard
+    requires { ⌜ (wholePlaces (length (now table)) ≡ true) × IsAccepted f ⌝ }
+    ensures { λ r. ⌜ after r (now (table .exit)) ≡ heard (delivered (now (table .entry)) (openedAs (accept.Frame f)) time) ⌝ }
 {
-    let Decoded::Message(m) = answer else {
-        return answer;
-    };
-    let key = messages::key_of(m);
+    let key = messages::frame_key(f);
     let n = lent::places_in(table);
     let target = lent::target_of(table, n, time, key);
     if target.at < n {
         let t = start_of(table, n, target);
-        return step_at(table, n, target.at, key, t, answer, time);
+        step_at(table, n, target.at, key, t, f.me, time);
+        return Heard::Done;
     }
-    Decoded::Refused(Refusal::Full)
+    Heard::Refused(Refusal::Full)
 }
 
-// What a message received at a time does to the table: the decoded message, or the number that it earns.
+// What a message received at a time does to the table: done, or the number that it earns.
+pub fn hear(table: &mut [u8], message: &[u8], time: u64) -> Heard
+    ensures { λ r. ⌜ after r (now (table .exit)) ≡ heard (received (now (table .entry)) (now (message .entry)) time) ⌝ }
+{
+    if message.len() != 14 {
+        return Heard::Refused(Refusal::Length);
+    }
+    if !lent::whole_places(table.len()) {
+        return Heard::Refused(Refusal::Places);
+    }
+    if time < lent::clock_of(table) {
+        return Heard::Refused(Refusal::Late);
+    }
+    lent::move_clock(table, time);
+    let answer = messages::accept(message);
+    match answer {
+        Accepted::Frame(f) => deliver(table, f, time),
+        Accepted::Refused(r) => Heard::Refused(r),
+    }
+}
+
+// The same, with the decoded message as the answer.
 pub fn receive(table: &mut [u8], message: &[u8], time: u64) -> Decoded
     ensures { λ r. ⌜ after r (now (table .exit)) ≡ received (now (table .entry)) (now (message .entry)) time ⌝ }
 {
-    if message.len() != 14 {
-        return Decoded::Refused(Refusal::Length);
+    let answer = hear(table, message, time);
+    match answer {
+        Heard::Done => messages::decode(message),
+        Heard::Refused(r) => Decoded::Refused(r),
     }
-    if !lent::whole_places(table.len()) {
-        return Decoded::Refused(Refusal::Places);
-    }
-    if time < words::get8(table, 0) {
-        return Decoded::Refused(Refusal::Late);
-    }
-    words::put8(table, 0, time);
-    deliver(table, messages::decode(message), time)
 }
 
 // The track of a key.
@@ -123,7 +132,7 @@ pub fn look_up(table: &[u8], key: u32) -> Looked
         };
     }
     let n = lent::places_in(table);
-    let i = lent::find_key(table, n, words::get8(table, 0), key);
+    let i = lent::find_key(table, n, lent::clock_of(table), key);
     if i < n {
         return Looked {
             answer: Holding::Held,
@@ -144,14 +153,14 @@ pub fn next(table: &[u8], above: u32) -> NextKey
         return NextKey::Refused(Refusal::Places);
     }
     let n = lent::places_in(table);
-    answers::key_or_end(lent::smallest_above(table, n, words::get8(table, 0), above))
+    answers::key_or_end(lent::smallest_above(table, n, lent::clock_of(table), above))
 }
 
 pub fn clock_of(table: &[u8]) -> Clock
     ensures { λ r. ⌜ r ≡ clockIn (now (table .entry)) ⌝ }
 {
     if lent::whole_places(table.len()) {
-        Clock::At(words::get8(table, 0))
+        Clock::At(lent::clock_of(table))
     } else {
         Clock::Refused(Refusal::Places)
     }

@@ -1,6 +1,6 @@
 -- Every line fits into its 96 bytes, and its first bytes are its text: each number has at most 20 digits, and the lengths are added.
 -- Assumes nothing.
-use Prim.Native.Nat.{ℕ, _+_, _-_, _%_, _^_, _≤_}
+use Prim.Native.Nat.{ℕ, _+_, _-_, _≤_}
 use mathlib.Core.Path.{_≡_, sym, ap, ap₂, _∙_}
 use mathlib.Core.Bool.{Bool, true, false, cond}
 use mathlib.Core.List.{List, _++_}
@@ -9,6 +9,7 @@ use lib.IntN.{ℤ, pos, natAbs}
 use lib.Signed.{ltZ}
 use lib.ListN.{length, drop, replicate, length-append, length-replicate, replicate-append-replicate}
 use lib.Seq.{take-append-seam, drop-at}
+use Rattle.keys.specs.Keys.{addressIn}
 use Rattle.text.specs.Numbers.{decimal, minus, signed}
 use Rattle.text.specs.Lines.{space, newline, field, figure, clockLabel, tracksLabel, badLabel, headerText, keyText, rowText, lineOf, textIn}
 use Rattle.text.specs.Wrote.{Wrote}
@@ -38,7 +39,7 @@ figure-most (Known z) = omega (arith, length-append space (signed z), signed-mos
 
 key-length : (key : ℕ) → length (keyText key) ≡ 8
 unfolding keyText
-key-length key = omega (arith, hex-length 6 (key % 2 ^ 24))
+key-length key = omega (arith, hex-length 6 (addressIn key))
 
 -- the header has at most 87 bytes
 pub header-most : (clock tracks bad : ℕ) → length (headerText clock tracks bad) ≤ 87

@@ -1,9 +1,8 @@
 -- A line of the listing as text, in ASCII, as document 01 has it under 'Captures and the listing'.
-use Prim.Native.Nat.{ℕ, _-_, _%_, _^_}
-use mathlib.Core.Bool.{cond}
+use Prim.Native.Nat.{ℕ, _-_}
 use mathlib.Core.List.{List, [], _∷_, _++_}
-use lib.Dec.{leb}
 use lib.ListN.{length, take, replicate}
+use Rattle.keys.specs.Keys.{letterIn, addressIn}
 use Rattle.text.specs.Numbers.{decimal, hex, minus, signed}
 use Rattle.text.specs.declared.Figure.{Figure}
 use Rattle.text.specs.declared.Figure.the-variants.{Unknown, Known}
@@ -41,13 +40,9 @@ badLabel = 32 ∷ 98 ∷ 97 ∷ 100 ∷ 45 ∷ 98 ∷ 108 ∷ 111 ∷ 99 ∷ 107
 unfoldable pub headerText : ℕ → ℕ → ℕ → List ℕ
 headerText clock tracks bad = field clockLabel clock ++ field tracksLabel tracks ++ field badLabel bad ++ newline
 
--- of a key, the kind above 24 bits of address: O for kind 2, I for kind 1
-abbrev pub kindLetter : ℕ → ℕ
-kindLetter key = cond (leb (2 ^ 25) key) 79 73
-
 -- kind, address in six hex digits
 unfoldable pub keyText : ℕ → List ℕ
-keyText key = (kindLetter key ∷ []) ++ space ++ hex 6 (key % 2 ^ 24)
+keyText key = (letterIn key ∷ []) ++ space ++ hex 6 (addressIn key)
 
 -- kind, address, last heard, latitude, longitude, pressure altitude
 unfoldable pub rowText : Row → List ℕ

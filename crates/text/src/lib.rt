@@ -6,7 +6,7 @@ ghost use mathlib.Core.Path.{_≡_};
 ghost use Prim.Native.Nat.{_+_, _≤_, _<_, _^_};
 ghost use lib.ListN.{length};
 ghost use Rattle.text.specs.Wrote.{Wrote};
-ghost use Rattle.text.specs.Lines.{field, figure, kindLetter, keyText, headerText, rowText, lineOf};
+ghost use Rattle.text.specs.Lines.{field, figure, keyText, headerText, rowText, lineOf};
 
 // A line in ASCII, the newline its last byte, then zeros.
 pub struct Line {
@@ -19,7 +19,7 @@ pub enum Figure {
     Known(i64),
 }
 
-// What a line says of a track. The key is the kind, 1 or 2, above 24 bits of address.
+// What a line says of a track.
 pub struct Row {
     pub key: u32,
     pub heard: u64,
@@ -49,20 +49,14 @@ fn put_field(out: &mut [u8], at: usize, label: &[u8], n: u64) -> usize
     numbers::put_decimal(out, a, n)
 }
 
-fn kind_letter(key: u32) -> u8
-    ensures { λ r. ⌜ r ≡ kindLetter key ⌝ }
-{
-    if 0x200_0000 <= key { b'O' } else { b'I' }
-}
-
 fn put_key(out: &mut [u8], at: usize, key: u32) -> usize
     requires { ⌜ at + 8 < 2 ^ 64 ⌝ }
     ensures { λ r. ⌜ Wrote (now (out .entry)) at (keyText key) r (now (out .exit)) ⌝ }
     ensures { λ r. ⌜ r ≡ at + 8 ⌝ }
 {
-    let a = write::put_byte(out, at, kind_letter(key));
+    let a = write::put_byte(out, at, keys::letter_in(key));
     let a = write::put_byte(out, a, b' ');
-    numbers::put_hex(out, a, 6, key % 0x100_0000)
+    numbers::put_hex(out, a, 6, keys::address_in(key))
 }
 
 fn put_row(out: &mut [u8], row: Row) -> usize

@@ -1,2 +1,4 @@
+pub mod Mes
 pub mod Rules
+pub mod Meanings
 pub mod Unique

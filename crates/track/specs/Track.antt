@@ -1,5 +1,5 @@
 -- Tracks: what one message does to its track, as document 01 has it under that name.
-use Prim.Native.Nat.{ℕ, _-_}
+use Prim.Native.Nat.{ℕ, _-_, _%_, _^_}
 use mathlib.Core.List.{[], _∷_}
 use mathlib.Core.Bool.{true, false, cond}
 use lib.ListN.{getD, set}
@@ -9,7 +9,9 @@ use Rattle.layouts.specs.declared.surface.Surface.{Surface}
 use Rattle.layouts.specs.declared.airborne.Airborne.{Airborne}
 use Rattle.layouts.specs.declared.bodies.Body.{Body}
 use Rattle.layouts.specs.declared.bodies.Body.the-variants as body
-use Rattle.layouts.specs.Bodies.{bodyMe, bodyFits}
+use Rattle.layouts.specs.declared.bodies.Taken.{Taken}
+use Rattle.layouts.specs.declared.bodies.Taken.the-variants as read
+use Rattle.layouts.specs.Bodies.{taken, bodyMe, bodyFits}
 use Rattle.messages.specs.declared.Decoded.{Decoded}
 use Rattle.messages.specs.declared.Decoded.the-variants as decode
 use Rattle.located.specs.declared.Saved.{Saved}
@@ -62,6 +64,14 @@ stepBody t (body.Surface b) me site time = surfaceTrack t b me site time
 stepBody t (body.Airborne b) me site time = airborneTrack t b time
 stepBody t (body.Ground b) me site time = groupTrack t (moving (t .groups) me) time
 stepBody t (body.Air b) me site time = groupTrack t (moving (t .groups) me) time
+
+-- what the ME of a message does, of which 56 bits are read: one that is not taken leaves the track
+abbrev pub stepTaken : Track → Taken → ℕ → Site → ℕ → Track
+stepTaken t (read.Body b) me site time = stepBody t b me site time
+stepTaken t (read.Refused r) me site time = t
+
+abbrev pub stepMe : Track → ℕ → Site → ℕ → Track
+stepMe t n site time = stepTaken t (taken (n % 2 ^ 56)) (n % 2 ^ 56) site time
 
 -- what the decoder's answer does: a message steps the track, and a refusal is passed on and leaves it; a message whose ME fields do not fit is 8 (DF, CA or CF and AA are not read here)
 abbrev pub stepped : Track → Decoded → Site → ℕ → Stepped

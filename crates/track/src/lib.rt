@@ -1,23 +1,23 @@
 // One aircraft's track by value, and its step by one message.
+mod meaning;
 mod replaced;
 
 use counts::LatitudeCount;
 use counts::LongitudeCount;
 use layouts::Airborne;
-use layouts::Body;
+use layouts::Layout;
 use layouts::Surface;
 use layouts::Written;
 use located::Position;
 use located::Saved;
 use located::Site;
+pub use meaning::meant;
 use messages::Decoded;
 use positions::Counts;
 use refusals::Refusal;
 ghost use mathlib.Core.Path.{_≡_};
 ghost use Prim.Native.Nat.{_<_};
-ghost use mathlib.Core.Bool.{true};
-ghost use Rattle.layouts.specs.Bodies.{bodyFits};
-ghost use Rattle.track.specs.Track.{airborneTrack, surfaceTrack, groupTrack, stepBody, stepped, newTrack, noSaved};
+ghost use Rattle.track.specs.Track.{airborneTrack, surfaceTrack, groupTrack, stepMe, stepped, newTrack, noSaved};
 
 // What was last heard of each group: of three the ME that gave it, 0 where none did; of two the code of 12 bits, 0 where it is unknown.
 pub struct Groups {
@@ -133,17 +133,20 @@ fn group_track(t: Track, g: Groups, time: u64) -> Track
     }
 }
 
-fn step_body(t: Track, body: Body, me: u64, site: Site, time: u64) -> Track
-    requires { ⌜ bodyFits body ≡ true ⌝ }
-    ensures { λ r. ⌜ r ≡ stepBody t body me site time ⌝ }
+// What the ME of a message does to its track, by its layout: one that is not taken leaves it. Of the number 56 bits are read.
+pub fn step_me(t: Track, number: u64, site: Site, time: u64) -> Track
+    ensures { λ r. ⌜ r ≡ stepMe t number site time ⌝ }
 {
     let g = t.groups;
-    match body {
-        Body::Identification(_) => group_track(t, replaced::with_identification(g, me), time),
-        Body::Surface(b) => surface_track(t, b, me, site, time),
-        Body::Airborne(b) => airborne_track(t, b, time),
-        Body::Ground(_) => group_track(t, replaced::with_velocity(g, me), time),
-        Body::Air(_) => group_track(t, replaced::with_velocity(g, me), time),
+    let me = number % 0x100_0000_0000_0000;
+    let layout = layouts::layout_of(me);
+    match layout {
+        Layout::Identification => group_track(t, replaced::with_identification(g, me), time),
+        Layout::Surface => surface_track(t, layouts::surface_of(me), me, site, time),
+        Layout::Airborne => airborne_track(t, layouts::airborne_of(me), time),
+        Layout::Ground => group_track(t, replaced::with_velocity(g, me), time),
+        Layout::Air => group_track(t, replaced::with_velocity(g, me), time),
+        Layout::NotTaken => t,
     }
 }
 
@@ -166,6 +169,6 @@ pub fn step(t: Track, answer: Decoded, site: Site, time: u64) -> Stepped
     };
     Stepped {
         answer: answer,
-        track: step_body(t, body, me, site, time),
+        track: step_me(t, me, site, time),
     }
 }

@@ -16,17 +16,19 @@ use Rattle.messages.specs.declared.Decoded.the-variants as decode
 use Rattle.messages.specs.Message.{decoded, keyOf}
 use Rattle.track.specs.declared.Track.{Track}
 use Rattle.track.specs.Track.{newTrack, stepped}
-use Rattle.table.proofs.Search.{lowest-passes}
-use Rattle.lent.specs.Scan.{lowest}
+use Rattle.rules.specs.Form as form
+use Rattle.rules.specs.Rules as rules
+use Rattle.rules.proofs.Search.{lowest-passes}
 use Rattle.slots.specs.declared.Place.{Place}
 use Rattle.slots.specs.declared.Head.{Head}
 use Rattle.arrivals.specs.declared.Received.{Received}
 use Rattle.arrivals.specs.declared.Renewal.{Renewal}
-use Rattle.slots.specs.Ranges.{noPlace, isHeld, holds}
+use Rattle.slots.specs.Ranges.{noPlace, meaningOf, isHeld, holds}
 use Rattle.slots.specs.Head.{placesFit, moved, siteOf}
 use Rattle.slots.specs.Decided.{sought}
 use Rattle.arrivals.specs.Arrivals.{refusedWith, judged, isRefused, keyIn, trackIn, soughtBy, nextOf}
-use Rattle.tracks.specs.Tracks.{After, after, placeOf, freePlace, placed, delivered, received}
+use Rattle.tracks.specs.Slice.{sliceOf, slice}
+use Rattle.tracks.specs.Tracks.{After, after, delivered, received}
 use Rattle.tracks.specs.Scan.{scanned, chosen}
 
 chosen-true : {A : Type 0} {b : Bool} (x y : A) → b ≡ true → x ≡ cond b x y
@@ -37,27 +39,34 @@ chosen-false x y e = rw e
 
 -- ---- what a place holds
 
-own-track : (clock key : ℕ) (p : Place) → holds clock key p ≡ true → trackIn (sought clock key) p ≡ p .track
+own-track : (clock key : ℕ) (p : Place) → holds clock key p ≡ true → trackIn (sought clock key) p ≡ meaningOf p
 unfolding trackIn
-own-track clock key p e = sym (chosen-true (p .track) newTrack e)
+own-track clock key p e = sym (chosen-true (meaningOf p) newTrack e)
 
 new-track : (clock key : ℕ) (p : Place) → isHeld clock p ≡ false → trackIn (sought clock key) p ≡ newTrack
-unfolding trackIn holds
-new-track clock key p e = sym (chosen-false (p .track) newTrack (ap (λ (b : Bool). eqb (p .key) key && b) e ∙ and-false (eqb (p .key) key)))
+unfolding trackIn form.holds
+new-track clock key p e = sym (chosen-false (meaningOf p) newTrack (ap (λ (b : Bool). eqb (p .key) key && b) e ∙ and-false (eqb (p .key) key)))
 
 -- ---- what the scan finds
 
-own-holds : (ps : List Place) (clock key : ℕ) → placeOf ps clock key < length ps → holds clock key (getD ps (placeOf ps clock key) noPlace) ≡ true
-unfolding placeOf
-own-holds ps clock key h = lowest-passes (λ i. holds clock key (getD ps i noPlace)) (length ps) h
+module _ (ps : List Place) (head : Head) (key : ℕ) where
+  abbrev own : ℕ
+  own = rules.placeOf slice (sliceOf head ps) (head .clock) key
 
-free-unheld : (ps : List Place) (clock : ℕ) → freePlace ps clock < length ps → isHeld clock (getD ps (freePlace ps clock) noPlace) ≡ false
-unfolding freePlace
-free-unheld ps clock h = not-true (isHeld clock (getD ps (lowest (λ i. not (isHeld clock (getD ps i noPlace))) (length ps)) noPlace)) (lowest-passes (λ i. not (isHeld clock (getD ps i noPlace))) (length ps) h)
+  abbrev free : ℕ
+  free = rules.freePlace slice (sliceOf head ps) (head .clock)
 
-chosen-is : (ps : List Place) (clock key : ℕ) → chosen (scanned ps (sought clock key) (length ps)) (length ps) ≡ cond (ltb (placeOf ps clock key) (length ps)) (placeOf ps clock key) (freePlace ps clock)
-unfolding scanned placeOf freePlace
-chosen-is ps clock key = refl
+  own-holds : own < length ps → holds (head .clock) key (getD ps own noPlace) ≡ true
+  unfolding rules.placeOf
+  own-holds h = lowest-passes (λ i. holds (head .clock) key (getD ps i noPlace)) (length ps) h
+
+  free-unheld : free < length ps → isHeld (head .clock) (getD ps free noPlace) ≡ false
+  unfolding rules.freePlace
+  free-unheld h = not-true _ (lowest-passes (λ i. not (isHeld (head .clock) (getD ps i noPlace))) (length ps) h)
+
+  chosen-is : chosen (scanned ps (sought (head .clock) key) (length ps)) (length ps) ≡ cond (ltb own (length ps)) own free
+  unfolding scanned rules.placeOf rules.freePlace
+  chosen-is = refl
 
 -- ---- the ways of a delivery
 
@@ -69,56 +78,56 @@ module _ (ps : List Place) (head : Head) (m : Message) where
   abbrev due : Received
   due = record { answer = decode.Message m; head = head }
 
-  abbrev own : ℕ
-  own = placeOf ps (head .clock) (keyOf m)
+  abbrev here : ℕ
+  here = own ps head (keyOf m)
 
-  abbrev free : ℕ
-  free = freePlace ps (head .clock)
+  abbrev spare : ℕ
+  spare = free ps head (keyOf m)
 
   -- a track's step, at a place
   abbrev stepped-at : ℕ → Track → After Decoded
-  stepped-at i t = placed ps head i (keyOf m) (stepped t (decode.Message m) (siteOf head) (head .clock))
+  stepped-at i t = rules.placed slice (sliceOf head ps) i (keyOf m) (stepped t (decode.Message m) (siteOf head) (head .clock))
 
   step-is : (i : ℕ) → leftBy ps i (nextOf due (getD ps i noPlace)) ≡ stepped-at i (trackIn (sought (head .clock) (keyOf m)) (getD ps i noPlace))
   unfolding nextOf
   step-is i = refl
 
-  own-step : own < length ps → leftBy ps own (nextOf due (getD ps own noPlace)) ≡ delivered ps head (decode.Message m)
-  unfolding delivered
-  own-step h = step-is own ∙ ap (stepped-at own) (own-track (head .clock) (keyOf m) (getD ps own noPlace) (own-holds ps (head .clock) (keyOf m) h)) ∙ chosen-true _ _ (lt-ltb own (length ps) h)
+  own-step : here < length ps → leftBy ps here (nextOf due (getD ps here noPlace)) ≡ delivered ps head (decode.Message m)
+  unfolding rules.delivered
+  own-step h = step-is here ∙ ap (stepped-at here) (own-track (head .clock) (keyOf m) (getD ps here noPlace) (own-holds ps head (keyOf m) h)) ∙ chosen-true _ _ (lt-ltb here (length ps) h)
 
-  free-step : ltb own (length ps) ≡ false → free < length ps → leftBy ps free (nextOf due (getD ps free noPlace)) ≡ delivered ps head (decode.Message m)
-  unfolding delivered
+  free-step : ltb here (length ps) ≡ false → spare < length ps → leftBy ps spare (nextOf due (getD ps spare noPlace)) ≡ delivered ps head (decode.Message m)
+  unfolding rules.delivered
   free-step f h =
-      step-is free
-      ∙ ap (stepped-at free) (new-track (head .clock) (keyOf m) (getD ps free noPlace) (free-unheld ps (head .clock) h))
-      ∙ chosen-true _ _ (lt-ltb free (length ps) h)
+      step-is spare
+      ∙ ap (stepped-at spare) (new-track (head .clock) (keyOf m) (getD ps spare noPlace) (free-unheld ps head (keyOf m) h))
+      ∙ chosen-true _ _ (lt-ltb spare (length ps) h)
       ∙ chosen-false _ _ f
 
-  no-step : ltb own (length ps) ≡ false → length ps ≤ free → after (decode.Refused Full) head ps ≡ delivered ps head (decode.Message m)
-  unfolding delivered
-  no-step f h = chosen-false _ _ (le-ltb free (length ps) h) ∙ chosen-false _ _ f
+  no-step : ltb here (length ps) ≡ false → length ps ≤ spare → after (decode.Refused Full) head ps ≡ delivered ps head (decode.Message m)
+  unfolding rules.delivered
+  no-step f h = chosen-false _ _ (le-ltb spare (length ps) h) ∙ chosen-false _ _ f
 
-  by-place : (b : Bool) → ltb own (length ps) ≡ b → (i : ℕ) → i ≡ cond b own free → i < length ps → leftBy ps i (nextOf due (getD ps i noPlace)) ≡ delivered ps head (decode.Message m)
-  by-place true f i e h = ap (λ (j : ℕ). leftBy ps j (nextOf due (getD ps j noPlace))) e ∙ own-step (ltb-true own (length ps) f)
+  by-place : (b : Bool) → ltb here (length ps) ≡ b → (i : ℕ) → i ≡ cond b here spare → i < length ps → leftBy ps i (nextOf due (getD ps i noPlace)) ≡ delivered ps head (decode.Message m)
+  by-place true f i e h = ap (λ (j : ℕ). leftBy ps j (nextOf due (getD ps j noPlace))) e ∙ own-step (ltb-true here (length ps) f)
   by-place false f i e h = ap (λ (j : ℕ). leftBy ps j (nextOf due (getD ps j noPlace))) e ∙ free-step f (omega (arith, e, h))
 
-  by-none : (b : Bool) → ltb own (length ps) ≡ b → (i : ℕ) → i ≡ cond b own free → length ps ≤ i → after (decode.Refused Full) head ps ≡ delivered ps head (decode.Message m)
-  by-none true f i e h = absurd (omega (arith, e, h, ltb-true own (length ps) f))
+  by-none : (b : Bool) → ltb here (length ps) ≡ b → (i : ℕ) → i ≡ cond b here spare → length ps ≤ i → after (decode.Refused Full) head ps ≡ delivered ps head (decode.Message m)
+  by-none true f i e h = absurd (omega (arith, e, h, ltb-true here (length ps) f))
   by-none false f i e h = no-step f (omega (arith, e, h))
 
 place-of : (ps : List Place) (head : Head) (d : Decoded) → isRefused d ≡ false → (i : ℕ) → i ≡ chosen (scanned ps (sought (head .clock) (keyIn d)) (length ps)) (length ps) → i < length ps
     → leftBy ps i (nextOf (record { answer = d; head = head }) (getD ps i noPlace)) ≡ delivered ps head d
 place-of ps head (decode.Refused r) h i e l = absurd (true≢false h)
-place-of ps head (decode.Message m) h i e l = by-place ps head m (ltb (own ps head m) (length ps)) refl i (e ∙ chosen-is ps (head .clock) (keyOf m)) l
+place-of ps head (decode.Message m) h i e l = by-place ps head m (ltb (own ps head (keyOf m)) (length ps)) refl i (e ∙ chosen-is ps head (keyOf m)) l
 
 none-of : (ps : List Place) (head : Head) (d : Decoded) → isRefused d ≡ false → (i : ℕ) → i ≡ chosen (scanned ps (sought (head .clock) (keyIn d)) (length ps)) (length ps) → length ps ≤ i
     → after (decode.Refused Full) head ps ≡ delivered ps head d
 none-of ps head (decode.Refused r) h i e l = absurd (true≢false h)
-none-of ps head (decode.Message m) h i e l = by-none ps head m (ltb (own ps head m) (length ps)) refl i (e ∙ chosen-is ps (head .clock) (keyOf m)) l
+none-of ps head (decode.Message m) h i e l = by-none ps head m (ltb (own ps head (keyOf m)) (length ps)) refl i (e ∙ chosen-is ps head (keyOf m)) l
 
 refused-of : (ps : List Place) (head : Head) (d : Decoded) → isRefused d ≡ true → after d head ps ≡ delivered ps head d
-unfolding delivered
+unfolding rules.delivered
 refused-of ps head (decode.Refused r) h = refl
 refused-of ps head (decode.Message m) h = absurd (false≢true h)
 
@@ -138,13 +147,13 @@ module _ (ps : List Place) (due : Received) where
 judged-of : (a b c : Bool) (ps : List Place) (head next : Head) (d : Decoded) (r : Received) → r ≡ cond a (refusedWith Length head) (cond b (refusedWith Places head) (cond c (refusedWith Late head) (record { answer = d; head = next })))
     → delivered ps (r .head) (r .answer)
     ≡ cond a (after (decode.Refused Length) head ps) (cond b (after (decode.Refused Places) head ps) (cond c (after (decode.Refused Late) head ps) (delivered ps next d)))
-unfolding delivered
+unfolding rules.delivered
 judged-of true b c ps head next d r e = ap (λ (y : Received). delivered ps (y .head) (y .answer)) e
 judged-of false true c ps head next d r e = ap (λ (y : Received). delivered ps (y .head) (y .answer)) e
 judged-of false false true ps head next d r e = ap (λ (y : Received). delivered ps (y .head) (y .answer)) e
 judged-of false false false ps head next d r e = ap (λ (y : Received). delivered ps (y .head) (y .answer)) e
 
 pub received-is : (ps : List Place) (head : Head) (message : List ℕ) (time : ℕ) (r : Received) → r ≡ judged (length ps) head message time → delivered ps (r .head) (r .answer) ≡ received ps head message time
-unfolding judged received
+unfolding judged rules.received
 received-is ps head message time r e =
     judged-of (not (eqb (length message) 14)) (not (placesFit (length ps))) (ltb time (head .clock)) ps head (moved head time) (decoded message) r e

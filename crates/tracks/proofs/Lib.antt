@@ -2,9 +2,9 @@ pub mod Ways
 pub mod Filled
 pub mod Scanned
 pub mod Again
+pub mod Walk
 pub mod Delivered
-pub mod Same
-pub mod Agreed
-pub mod AgreedSetUp
-pub mod Runs
+pub mod Clauses
 pub mod Unique
+pub mod Lawful
+pub mod Promised

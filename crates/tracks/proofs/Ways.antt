@@ -20,10 +20,12 @@ use Rattle.answers.specs.Keys.{keyOrEnd}
 use Rattle.slots.specs.declared.Place.{Place}
 use Rattle.slots.specs.declared.Head.{Head}
 use Rattle.slots.specs.declared.Started.{Started}
-use Rattle.slots.specs.Ranges.{noPlace}
+use Rattle.slots.specs.Ranges.{noPlace, meaningOf}
 use Rattle.slots.specs.Head.{placesFit, headOf}
 use Rattle.slots.specs.Decided.{notStarted, started, isDone, sought, looked}
-use Rattle.tracks.specs.Tracks.{After, after, emptied, setUp, placeOf, lookedUp, smallest, nextAbove}
+use Rattle.rules.specs.Rules as rules
+use Rattle.tracks.specs.Slice.{sliceOf, slice}
+use Rattle.tracks.specs.Tracks.{After, after, emptied, setUp, lookedUp, smallest, nextAbove}
 use Rattle.tracks.specs.Scan.{scanned}
 
 -- ---- how a test of the machine came out
@@ -55,13 +57,13 @@ off-of false true ps zs site h = refl
 off-of false false ps zs site h = absurd (true≢false h)
 
 pub set-on : (ps : List Place) (site : Site) {r : Started} → r ≡ started (length ps) site → isDone (r .answer) ≡ true → after (r .answer) (r .head) (emptied ps) ≡ setUp ps site
-unfolding started setUp
+unfolding started rules.setUp
 set-on ps site e h =
     ap (λ (x : Started). after (x .answer) (x .head) (emptied ps)) e
     ∙ on-of (not (placesFit (length ps))) (site .known && not (poleToPole (site .spot .latitude))) ps (emptied ps) site (ap (λ (x : Started). isDone (x .answer)) (sym e) ∙ h)
 
 pub set-off : (ps : List Place) (site : Site) {r : Started} → r ≡ started (length ps) site → isDone (r .answer) ≡ false → after (r .answer) (r .head) ps ≡ setUp ps site
-unfolding started setUp
+unfolding started rules.setUp
 set-off ps site e h =
     ap (λ (x : Started). after (x .answer) (x .head) ps) e
     ∙ off-of (not (placesFit (length ps))) (site .known && not (poleToPole (site .spot .latitude))) ps (emptied ps) site (ap (λ (x : Started). isDone (x .answer)) (sym e) ∙ h)
@@ -69,28 +71,28 @@ set-off ps site e h =
 -- ---- a look
 
 pub looked-not : (ps : List Place) (head : Head) (key : ℕ) → not (placesFit (length ps)) ≡ true → looked (holding.Refused Places) newTrack ≡ lookedUp ps head key
-unfolding lookedUp
+unfolding rules.lookedUp
 looked-not ps head key h = rw h
 
 module _ (ps : List Place) (head : Head) (key : ℕ) (f : not (placesFit (length ps)) ≡ false) (i : ℕ) (e : i ≡ scanned ps (sought (head .clock) key) (length ps) .own) where
-  own-is : i ≡ placeOf ps (head .clock) key
-  unfolding scanned placeOf
+  own-is : i ≡ rules.placeOf slice (sliceOf head ps) (head .clock) key
+  unfolding scanned rules.placeOf
   own-is = e
 
-  pub looked-held : i < length ps → looked holding.Held (getD ps i noPlace .track) ≡ lookedUp ps head key
-  unfolding lookedUp
+  pub looked-held : i < length ps → looked holding.Held (meaningOf (getD ps i noPlace)) ≡ lookedUp ps head key
+  unfolding rules.lookedUp
   looked-held h = rw (f, ← own-is, lt-ltb i (length ps) h)
 
   pub looked-none : length ps ≤ i → looked holding.Unheld newTrack ≡ lookedUp ps head key
-  unfolding lookedUp
+  unfolding rules.lookedUp
   looked-none h = rw (f, ← own-is, le-ltb i (length ps) h)
 
 -- ---- the next key
 
 pub next-not : (ps : List Place) (head : Head) (above : ℕ) → not (placesFit (length ps)) ≡ true → key-after.Refused Places ≡ nextAbove ps head above
-unfolding nextAbove
+unfolding rules.nextAbove
 next-not ps head above h = rw h
 
 pub next-is : (ps : List Place) (head : Head) (above : ℕ) → not (placesFit (length ps)) ≡ false → keyOrEnd (smallest ps (head .clock) above (length ps)) ≡ nextAbove ps head above
-unfolding nextAbove
+unfolding rules.nextAbove
 next-is ps head above h = rw h

@@ -4,7 +4,7 @@ use mathlib.Core.Bool.{Bool, cond, not}
 use mathlib.Core.List.{List}
 use lib.Dec.{ltb}
 use lib.ListN.{getD}
-use Rattle.lent.specs.Scan.{lowest}
+use Rattle.rules.specs.Search.{lowest}
 use Rattle.slots.specs.declared.Place.{Place}
 use Rattle.slots.specs.declared.Sought.{Sought}
 use Rattle.slots.specs.Ranges.{noPlace, isHeld, holds}

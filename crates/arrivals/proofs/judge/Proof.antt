@@ -1,4 +1,4 @@
--- `slots::judge` meets its contract: its four ways out are the definition's.
+-- `arrivals::judge` meets its contract: its four ways out are the definition's.
 -- Assumes nothing.
 use mathlib.Core.Path.{sym, _∙_}
 use borrow.Author.Tests.{lt-ltb, eq-eqb, ne-eqb, not-false}

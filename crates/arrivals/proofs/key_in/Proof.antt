@@ -1,4 +1,4 @@
--- `slots::key_in` meets its contract: a message has its key.
+-- `arrivals::key_in` meets its contract: a message has its key.
 -- Assumes nothing.
 use borrow.Author.Needs.{needs}
 use Rattle.arrivals.proofs.key_in.Statement.{statement}

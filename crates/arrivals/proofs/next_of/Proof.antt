@@ -1,4 +1,4 @@
--- `slots::next_of` meets its contract: its parts in order.
+-- `arrivals::next_of` meets its contract: its parts in order.
 -- Assumes nothing.
 use Rattle.arrivals.specs.Arrivals.{nextOf}
 use borrow.Author.Needs.{needs}

@@ -1,4 +1,4 @@
--- `slots::sought_by` meets its contract: the head's clock and the answer's key.
+-- `arrivals::sought_by` meets its contract: the head's clock and the answer's key.
 -- Assumes nothing.
 use borrow.Author.Needs.{needs}
 use Rattle.arrivals.proofs.sought_by.Statement.{statement}

@@ -19,19 +19,19 @@ add-end c =
     let a = c .before .before .before .before .before .before .args in
     omega (arith, inside (a .block .now) (a .i) _ _ (sym (c .before .r .given .1) ∙ c .before .before .before .record-of .ensures))
 
-sub-receive : tie.Need-sub-receive
-sub-receive c = search needs
+sub-hear : tie.Need-sub-hear
+sub-hear c = search needs
 
-part-receive-start : tie.Need-part-receive-start
-part-receive-start c = search needs
+part-hear-start : tie.Need-part-hear-start
+part-hear-start c = search needs
 
-part-receive-end : tie.Need-part-receive-end
-part-receive-end c =
+part-hear-end : tie.Need-part-hear-end
+part-hear-end c =
     let a = c .before .before .before .before .before .before .before .args in
     omega (arith, inside (a .block .now) (a .i) _ _ (sym (c .before .before .r .given .1) ∙ c .before .before .before .before .record-of .ensures))
 
-receive-requires : tie.Need-receive-requires
-receive-requires c κs = search needs
+hear-requires : tie.Need-hear-requires
+hear-requires c κs = search needs
 
 enum-told : tie.Need-enum-told
 enum-told c = search needs
@@ -42,7 +42,7 @@ same-length c = search needs
 returns : tie.Need-returns
 returns c =
     let a = c .before .before .before .before .before .before .before .before .before .before .before .args in
-    record-taken (a .table .now) (a .block .now) (a .i) _ _ (sym (c .before .before .before .before .before .before .r .given .1) ∙ c .before .before .before .before .before .before .before .before .record-of .ensures) (c .before .before .receive .ensures)
+    record-taken (a .table .now) (a .block .now) (a .i) _ _ (sym (c .before .before .before .before .before .before .r .given .1) ∙ c .before .before .before .before .before .before .before .before .record-of .ensures) (c .before .before .hear .ensures)
 
 returns-2 : tie.Need-returns-2
 returns-2 c =
@@ -56,10 +56,10 @@ take-record-spec =
     record-of-requires
     enum-known-r
     add-end
-    sub-receive
-    part-receive-start
-    part-receive-end
-    receive-requires
+    sub-hear
+    part-hear-start
+    part-hear-end
+    hear-requires
     enum-told
     same-length
     returns

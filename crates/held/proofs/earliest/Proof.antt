@@ -1,4 +1,4 @@
--- `place::earliest` meets its contract: below 124,999 the difference of the definition is 0.
+-- `held::earliest` meets its contract: below 124,999 the difference of the definition is 0.
 -- Assumes nothing.
 use native.Mathlib.Omega.{arith}
 use Rattle.held.proofs.earliest.Statement.{statement}

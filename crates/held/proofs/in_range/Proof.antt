@@ -1,16 +1,19 @@
--- `place::in_range` meets its contract: its three tests are the definition's.
+-- `held::in_range` meets its contract: its tests are the definition's.
 -- Assumes nothing.
 use Rattle.held.specs.Ranges.{inRange}
 use borrow.Author.Needs.{needs}
 use Rattle.held.proofs.in_range.Statement.{statement}
 use Rattle.held.proofs.in_range.Tie as tie
 
+is-key-requires : tie.Need-is-key-requires
+is-key-requires c κs = search needs
+
 get4-requires : tie.Need-get4-requires
 get4-requires c κs = search needs
 
 returns : tie.Need-returns
 unfolding inRange
-returns c = rw (c .get4 .ensures)
+returns c = rw (c .before .is-key .ensures, c .get4 .ensures)
 
 pub in-range-spec : {M : Type 1} → statement M
-in-range-spec = tie.close (tie.spec get4-requires returns)
+in-range-spec = tie.close (tie.spec is-key-requires get4-requires returns)

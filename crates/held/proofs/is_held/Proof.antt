@@ -1,4 +1,4 @@
--- `place::is_held` meets its contract: heard no earlier than 124,999 before the clock is heard less than 125,000 ago.
+-- `held::is_held` meets its contract: heard no earlier than 124,999 before the clock is heard less than 125,000 ago.
 -- Assumes nothing.
 use Prim.Native.Nat.{ℕ, _-_}
 use mathlib.Core.Path.{_≡_, refl}

@@ -19,15 +19,15 @@ with-body-requires c κs = search needs
 returns : tie.Need-returns
 unfolding opened
 returns c =
-    let a = c .before .before .before .before .args in
-    let t : formatTaken (a .format) (a .control) ≡ true = sym (c .before .before .before .format-taken .ensures) ∙ c .before .before .if1 .taken in
-    rw t (c .with-body .ensures ∙ ap (withBody (a .format) (a .control) (a .address)) (c .before .body-of .ensures))
+    let f = c .before .before .before .before .args .f in
+    let t : formatTaken (f .format) (f .control) ≡ true = sym (c .before .before .before .format-taken .ensures) ∙ c .before .before .if1 .taken in
+    rw t (c .with-body .ensures ∙ ap (withBody (f .format) (f .control) (f .address)) (c .before .body-of .ensures))
 
 returns-2 : tie.Need-returns-2
 unfolding opened
 returns-2 c =
-    let a = c .before .before .args in
-    let t : formatTaken (a .format) (a .control) ≡ false = sym (c .before .format-taken .ensures) ∙ c .if1 .left in
+    let f = c .before .before .args .f in
+    let t : formatTaken (f .format) (f .control) ≡ false = sym (c .before .format-taken .ensures) ∙ c .if1 .left in
     rw t
 
 pub opened-of-spec : {M : Type 1} → statement M

@@ -4,16 +4,17 @@ use Prim.Native.Nat.{ℕ, _+_, _-_, _≤_, _<_}
 use mathlib.Core.Path.{_≡_, ap, sym, _∙_}
 use native.Mathlib.Omega.{arith}
 use borrow.Author.Needs.{needs}
+use Rattle.keys.specs.Keys.{endOfKeys}
 use Rattle.report.specs.Listing.{counted}
 use Rattle.report.proofs.Keys.{Seen, Least, least, skipped, skipped-first, counted-keeps, counted-more, counted-none}
 use Rattle.report.proofs.count.Statement.{statement}
 use Rattle.report.proofs.count.Tie as tie
 
 abbrev Inv-loop : tie.InvT-loop
-Inv-loop table n₀ key₀ n key = (key ≤ 50331648) × (n ≤ key) × (n ≡ counted table key) × (key < 50331648 → Seen table key)
+Inv-loop table n₀ key₀ n key = (key ≤ endOfKeys) × (n ≤ key) × (n ≡ counted table key) × (key < endOfKeys → Seen table key)
 
 abbrev μ-loop : tie.MeasureT-loop
-μ-loop table n₀ key₀ n key = 50331648 - key
+μ-loop table n₀ key₀ n key = endOfKeys - key
 
 key-above-requires : tie.Need-key-above-requires Inv-loop μ-loop
 key-above-requires c κs = search needs
@@ -46,7 +47,7 @@ loop-again c =
 returns : tie.Need-returns Inv-loop μ-loop
 returns c =
     let l = c .before .loop in
-    let e : l .key ≡ 50331648 = omega arith in
+    let e : l .key ≡ endOfKeys = omega arith in
     l .inv .2 ∙ ap (counted (c .before .before .before .before .args .table .now)) e
 
 pub count-spec : {M : Type 1} → statement M

@@ -1,6 +1,6 @@
 -- `slots::better_of` meets its contract: its tests are the definition's, the dearest last.
 -- Assumes nothing.
-use Rattle.slots.specs.Decided.{better}
+use Rattle.rules.specs.Search.{better}
 use borrow.Author.Needs.{needs}
 use Rattle.slots.proofs.better_of.Statement.{statement}
 use Rattle.slots.proofs.better_of.Tie as tie

@@ -1,21 +1,16 @@
--- `table::deliver` meets its contract: its three ways out are the definition's.
+-- `table::deliver` meets its contract: the frame opens to a message whose step is that of its ME, and the two ways out are the definition's.
 -- Assumes nothing.
-use Rattle.table.proofs.Answers.{deliver-refused, deliver-on, deliver-full}
+use mathlib.Core.Path.{ap}
+use Rattle.messages.proofs.Acceptance.{messageOf, Opens, frame-opens}
+use Rattle.table.specs.Heard.{heard}
+use Rattle.table.proofs.Answers.{deliver-on, deliver-full}
+use Rattle.table.proofs.Hearing.{placed-by-me}
 use borrow.Author.Needs.{needs}
 use Rattle.table.proofs.deliver.Statement.{statement}
 use Rattle.table.proofs.deliver.Tie as tie
 
-enum-known-answer : tie.Need-enum-known-answer
-enum-known-answer c = search needs
-
-enum-told : tie.Need-enum-told
-enum-told c = search needs
-
-returns : tie.Need-returns
-returns c = deliver-refused _ _ _ (c .enum-told .given .1)
-
-key-of-requires : tie.Need-key-of-requires
-key-of-requires c κs = search needs
+frame-key-requires : tie.Need-frame-key-requires
+frame-key-requires c κs = search needs
 
 places-in-requires : tie.Need-places-in-requires
 places-in-requires c κs = search needs
@@ -32,28 +27,36 @@ step-at-requires c κs = search needs
 same-length : tie.Need-same-length
 same-length c = search needs
 
-returns-2 : tie.Need-returns-2
-returns-2 c = deliver-on _ _ (c .before .before .before .before .before .before .before .before .before .before .before .before .before .before .answer .given .1) (c .before .before .before .before .before .before .before .before .before .before .before .before .key-of .ensures) (c .before .before .before .before .before .before .before .before .before .before .places-in .ensures .0) (c .before .before .before .before .before .before .before .before .target-of .ensures) (c .before .before .before .before .before .before .if1 .taken) (c .before .before .before .before .start-of .ensures) (c .before .before .step-at .ensures)
+returns : tie.Need-returns
+returns c =
+    let p = c .before .before .before .before .before .before .before .before in
+    let q = p .before .before .before .before in
+    let a = q .before .before .args in
+    let o : Opens (a .f) = frame-opens (a .f) (q .before .before .pre .1) in
+    ap heard
+    (deliver-on (a .table .now) (a .time) (o .message) (q .frame-key .ensures) (p .before .before .places-in .ensures .0) (p .target-of .ensures) (c .before .before .before .before .before .before .if1 .taken) (c .before .before .before .before .start-of .ensures)
+    (placed-by-me (a .table .now) _ _ _ (a .time) (a .f .me) _ (messageOf (a .f) (o .body)) (o .fits) (o .same) (c .before .before .step-at .ensures)))
 
 same-length-2 : tie.Need-same-length-2
 same-length-2 c = search needs
 
-returns-3 : tie.Need-returns-3
-returns-3 c = deliver-full _ _ (c .before .before .before .before .before .before .before .before .answer .given .1) (c .before .before .before .before .before .before .key-of .ensures) (c .before .before .before .before .places-in .ensures .0) (c .before .before .target-of .ensures) (c .if1 .left)
+returns-2 : tie.Need-returns-2
+returns-2 c =
+    let q = c .before .before .before .before .before .before in
+    let a = q .before .before .args in
+    let o : Opens (a .f) = frame-opens (a .f) (q .before .before .pre .1) in
+    ap heard (deliver-full (a .table .now) (a .time) (o .message) (q .frame-key .ensures) (c .before .before .before .before .places-in .ensures .0) (c .before .before .target-of .ensures) (c .if1 .left))
 
 pub deliver-spec : {M : Type 1} → statement M
 deliver-spec =
     tie.close
     (tie.spec
-    enum-known-answer
-    enum-told
-    returns
-    key-of-requires
+    frame-key-requires
     places-in-requires
     target-of-requires
     start-of-requires
     step-at-requires
     same-length
-    returns-2
+    returns
     same-length-2
-    returns-3)
+    returns-2)

@@ -18,8 +18,8 @@ returns c = look-size _ (c .before .before .whole-places .ensures) _ (c .before 
 places-in-requires : tie.Need-places-in-requires
 places-in-requires c κs = whole _ (c .before .whole-places .ensures) (c .if1 .left)
 
-get8-requires : tie.Need-get8-requires
-get8-requires c κs = search needs
+clock-of-requires : tie.Need-clock-of-requires
+clock-of-requires c κs = search needs
 
 find-key-requires : tie.Need-find-key-requires
 find-key-requires c κs = search needs
@@ -31,13 +31,13 @@ load-requires : tie.Need-load-requires
 load-requires c κs = search needs
 
 returns-2 : tie.Need-returns-2
-returns-2 c = look-found _ (c .before .before .before .before .before .before .before .whole-places .ensures) _ (c .before .before .before .before .before .before .if1 .left) (c .before .before .before .before .before .places-in .ensures .0) (c .before .before .before .before .get8 .ensures) (c .before .before .before .find-key .ensures) (c .before .before .if2 .taken) (c .before .body .ensures .0) (c .load .ensures)
+returns-2 c = look-found _ (c .before .before .before .before .before .before .before .whole-places .ensures) _ (c .before .before .before .before .before .before .if1 .left) (c .before .before .before .before .before .places-in .ensures .0) (c .before .before .before .before .clock-of .ensures) (c .before .before .before .find-key .ensures) (c .before .before .if2 .taken) (c .before .body .ensures .0) (c .load .ensures)
 
 new-track-requires-2 : tie.Need-new-track-requires-2
 new-track-requires-2 c κs = search needs
 
 returns-3 : tie.Need-returns-3
-returns-3 c = look-none _ (c .before .before .before .before .before .before .whole-places .ensures) _ (c .before .before .before .before .before .if1 .left) (c .before .before .before .before .places-in .ensures .0) (c .before .before .before .get8 .ensures) (c .before .before .find-key .ensures) (c .before .if2 .left) (c .new-track2 .ensures)
+returns-3 c = look-none _ (c .before .before .before .before .before .before .whole-places .ensures) _ (c .before .before .before .before .before .if1 .left) (c .before .before .before .before .places-in .ensures .0) (c .before .before .before .clock-of .ensures) (c .before .before .find-key .ensures) (c .before .if2 .left) (c .new-track2 .ensures)
 
 pub look-up-spec : {M : Type 1} → statement M
 look-up-spec =
@@ -47,7 +47,7 @@ look-up-spec =
     new-track-requires
     returns
     places-in-requires
-    get8-requires
+    clock-of-requires
     find-key-requires
     body-requires
     load-requires

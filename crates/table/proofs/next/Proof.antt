@@ -15,8 +15,8 @@ returns c = next-size _ (c .before .whole-places .ensures) _ (c .if1 .taken)
 places-in-requires : tie.Need-places-in-requires
 places-in-requires c κs = whole _ (c .before .whole-places .ensures) (c .if1 .left)
 
-get8-requires : tie.Need-get8-requires
-get8-requires c κs = search needs
+clock-of-requires : tie.Need-clock-of-requires
+clock-of-requires c κs = search needs
 
 smallest-above-requires : tie.Need-smallest-above-requires
 smallest-above-requires c κs = search needs
@@ -25,7 +25,7 @@ key-or-end-requires : tie.Need-key-or-end-requires
 key-or-end-requires c κs = search needs
 
 returns-2 : tie.Need-returns-2
-returns-2 c = next-on _ (c .before .before .before .before .before .whole-places .ensures) _ (c .before .before .before .before .if1 .left) (c .before .before .before .places-in .ensures .0) (c .before .before .get8 .ensures) (c .before .smallest-above .ensures) (c .key-or-end .ensures)
+returns-2 c = next-on _ (c .before .before .before .before .before .whole-places .ensures) _ (c .before .before .before .before .if1 .left) (c .before .before .before .places-in .ensures .0) (c .before .before .clock-of .ensures) (c .before .smallest-above .ensures) (c .key-or-end .ensures)
 
 pub next-spec : {M : Type 1} → statement M
 next-spec =
@@ -34,7 +34,7 @@ next-spec =
     whole-places-requires
     returns
     places-in-requires
-    get8-requires
+    clock-of-requires
     smallest-above-requires
     key-or-end-requires
     returns-2)

@@ -6,7 +6,8 @@ use mir.Syntax.{w32}
 use mathlib.Core.Path.{ap, sym, _∙_}
 use borrow.Author.Tests.{not-false}
 use Rattle.positions.specs.Positions.{poleToPole}
-use Rattle.lent.proofs.Parts.{sized, whole}
+use Rattle.offsets.proofs.Counts.{whole-head}
+use Rattle.lent.proofs.Parts.{whole}
 use Rattle.table.proofs.Answers.{site-size, site-pole, site-on}
 use borrow.Author.Needs.{needs}
 use Rattle.table.proofs.set_up_at.Statement.{statement}
@@ -32,7 +33,7 @@ clear-requires c κs = search needs
 put-site-requires : tie.Need-put-site-requires
 put-site-requires c κs =
     let a = c .before .before .before .before .before .before .before .before .before .before .before .args in
-    (omega (arith, c .before .before .before .clear .kept, sized _ (whole _ (c .before .before .before .before .before .before .before .before .before .whole-places .ensures) (c .before .before .before .before .before .before .before .before .if1 .left))), sym (c .before .before .before .before .before .before .pole-to-pole .ensures ∙ ap poleToPole (toZ-ofZ {w = w32} {z = a .site .latitude} (record { sfits = omega (arith, c .before .before .before .before .before .before .before .struct-told .given) }))) ∙ not-false _ (c .before .before .before .before .before .if2 .left))
+    (omega (arith, c .before .before .before .clear .kept, whole-head _ (whole _ (c .before .before .before .before .before .before .before .before .before .whole-places .ensures) (c .before .before .before .before .before .before .before .before .if1 .left))), sym (c .before .before .before .before .before .before .pole-to-pole .ensures ∙ ap poleToPole (toZ-ofZ {w = w32} {z = a .site .latitude} (record { sfits = omega (arith, c .before .before .before .before .before .before .before .struct-told .given) }))) ∙ not-false _ (c .before .before .before .before .before .if2 .left))
 
 same-length : tie.Need-same-length
 same-length c = search needs

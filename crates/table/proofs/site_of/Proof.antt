@@ -1,8 +1,7 @@
 -- `table::site_of` meets its contract: its two ways out are the definition's.
 -- Assumes nothing.
-use native.Mathlib.Omega.{arith}
 use mathlib.Core.Path.{sym, _∙_}
-use Rattle.lent.proofs.Parts.{sized}
+use Rattle.offsets.proofs.Counts.{whole-head}
 use Rattle.table.proofs.Answers.{site-in, no-site}
 use borrow.Author.Needs.{needs}
 use Rattle.table.proofs.site_of.Statement.{statement}
@@ -12,7 +11,7 @@ whole-places-requires : tie.Need-whole-places-requires
 whole-places-requires c κs = search needs
 
 site-of-requires : tie.Need-site-of-requires
-site-of-requires c κs = omega (arith, sized _ (sym (c .before .whole-places .ensures) ∙ c .if1 .taken))
+site-of-requires c κs = whole-head _ (sym (c .before .whole-places .ensures) ∙ c .if1 .taken)
 
 returns : tie.Need-returns
 returns c = site-in _ (c .before .before .whole-places .ensures) (c .before .if1 .taken) (c .site-of .ensures)

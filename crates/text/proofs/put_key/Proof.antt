@@ -5,19 +5,23 @@ use mathlib.Core.Path.{ap}
 use mathlib.Core.List.{[], _∷_}
 use Prim.Native.Nat.{ℕ}
 use Rattle.text.specs.Lines.{keyText}
+use Rattle.text.specs.Numbers.{hex}
 use Rattle.text.proofs.Buffer.{wrote-then, wrote-as}
 use borrow.Author.Needs.{needs}
 use Rattle.text.proofs.put_key.Statement.{statement}
 use Rattle.text.proofs.put_key.Tie as tie
 
-kind-letter-requires : tie.Need-kind-letter-requires
-kind-letter-requires c κs = search needs
+letter-in-requires : tie.Need-letter-in-requires
+letter-in-requires c κs = search needs
 
 put-byte-requires : tie.Need-put-byte-requires
 put-byte-requires c κs = search needs
 
 put-byte-requires-2 : tie.Need-put-byte-requires-2
 put-byte-requires-2 c κs = search needs
+
+address-in-requires : tie.Need-address-in-requires
+address-in-requires c κs = search needs
 
 put-hex-requires : tie.Need-put-hex-requires
 put-hex-requires c κs = search needs
@@ -28,17 +32,20 @@ same-length c = search needs
 returns : tie.Need-returns
 unfolding keyText
 returns c =
-    let k = wrote-as (c .before .before .before .before .before .before .before .before .before .before .put-byte .ensures) (ap (λ (x : ℕ). x ∷ []) (c .before .before .before .before .before .before .before .before .before .before .before .kind-letter .ensures)) in
-    let s = c .before .before .before .before .before .before .put-byte2 .ensures in
-    (wrote-then (wrote-then k s) (c .before .before .put-hex .ensures .0), omega (arith, k .next, s .next))
+    let begun = c .before .before .before .before .before .before .before .before .before .before .before in
+    let k = wrote-as (begun .put-byte .ensures) (ap (λ (x : ℕ). x ∷ []) (begun .before .letter-in .ensures)) in
+    let s = c .before .before .before .before .before .before .before .put-byte2 .ensures in
+    let a = wrote-as (c .before .before .put-hex .ensures .0) (ap (hex 6) (c .before .before .before .address-in .ensures)) in
+    (wrote-then (wrote-then k s) a, omega (arith, k .next, s .next))
 
 pub put-key-spec : {M : Type 1} → statement M
 put-key-spec =
     tie.close
     (tie.spec
-    kind-letter-requires
+    letter-in-requires
     put-byte-requires
     put-byte-requires-2
+    address-in-requires
     put-hex-requires
     same-length
     returns)

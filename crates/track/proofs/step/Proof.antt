@@ -6,7 +6,8 @@ use Rattle.layouts.specs.Bodies.{bodyMe, bodyFits}
 use Rattle.layouts.proofs.BothWays.{if-written, if-refused}
 use Rattle.messages.specs.declared.Decoded.the-variants as decode
 use Rattle.track.specs.declared.Track.{Track}
-use Rattle.track.specs.Track.{stepBody}
+use Rattle.track.specs.Track.{stepMe}
+use Rattle.track.proofs.Mes.{stepped-me}
 use borrow.Author.Needs.{needs}
 use Rattle.track.proofs.step.Statement.{statement}
 use Rattle.track.proofs.step.Tie as tie
@@ -37,11 +38,8 @@ returns-2 c =
     let g = if-refused (bodyFits b) (bodyMe b) _ (sym (p .me-of .ensures) ∙ c .enum-told2 .given .1) in
     rw (m .1, g .0)
 
-step-body-requires : tie.Need-step-body-requires
-step-body-requires c κs =
-    let p = c .before .before .before in
-    let b = p .before .before .answer .given .0 .0 .body in
-    if-written (bodyFits b) (bodyMe b) _ (sym (p .me-of .ensures) ∙ c .before .me .given .1) .0
+step-me-requires : tie.Need-step-me-requires
+step-me-requires c κs = search needs
 
 returns-3 : tie.Need-returns-3
 returns-3 c =
@@ -49,10 +47,11 @@ returns-3 c =
     let a = p .before .before .before .before .args in
     let m = p .before .before .answer .given in
     let b = m .0 .0 .body in
-    let g = if-written (bodyFits b) (bodyMe b) _ (sym (p .me-of .ensures) ∙ c .before .before .me .given .1) in
+    let n : ℕ = c .before .before .me .given .0 .0 in
+    let g = if-written (bodyFits b) (bodyMe b) n (sym (p .me-of .ensures) ∙ c .before .before .me .given .1) in
     rw (m .1, g .0)
     (ap (λ (x : Track). record { answer = decode.Message (m .0 .0); track = x })
-    (c .step-body .ensures ∙ ap (λ (n : ℕ). stepBody (a .t) b n (a .site) (a .time)) (sym (g .1))))
+    (c .step-me .ensures ∙ ap (λ (k : ℕ). stepMe (a .t) k (a .site) (a .time)) (sym (g .1)) ∙ stepped-me (a .t) (a .site) (a .time) b (g .0)))
 
 pub step-spec : {M : Type 1} → statement M
 step-spec =
@@ -65,5 +64,5 @@ step-spec =
     enum-known-me
     enum-told-2
     returns-2
-    step-body-requires
+    step-me-requires
     returns-3)

@@ -6,6 +6,7 @@ use mathlib.Core.Bool.{Bool, true, false, _&&_}
 use native.Mathlib.Omega.{arith}
 use borrow.Author.Tests.{leb-true}
 use lib.Dec.{leb}
+use Rattle.offsets.specs.Offsets.{mostPlaces}
 use Rattle.addercoil.proofs.tables.addercoil_table_bytes.Statement.{statement}
 use Rattle.addercoil.proofs.tables.addercoil_table_bytes.Tie as tie
 
@@ -13,8 +14,8 @@ second : (a b : Bool) → (a && b) ≡ true → b ≡ true
 second true b h = h
 second false b h = cc
 
-most : (places : ℕ) → (leb 1 places && leb places 1024) ≡ true → places ≤ 1024
-most places h = leb-true places 1024 (second (leb 1 places) (leb places 1024) h)
+most : (places : ℕ) → (leb 1 places && leb places mostPlaces) ≡ true → places ≤ mostPlaces
+most places h = leb-true places mostPlaces (second (leb 1 places) (leb places mostPlaces) h)
 
 mul-result : tie.Need-mul-result
 mul-result c = omega (arith, most (c .before .args .places) (c .if1 .taken))

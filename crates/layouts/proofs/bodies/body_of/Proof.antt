@@ -1,54 +1,103 @@
--- `layouts::body_of` meets its contract: each return has the tests on its way, which are those of the definition.
+-- `layouts::body_of` meets its contract: the layout that `layout_of` answers chooses the arm, and each arm is the definition's.
 -- Assumes nothing.
+use Prim.Native.Nat.{ℕ}
+use mathlib.Core.Path.{_≡_, refl, sym, ap, _∙_}
+use Rattle.layouts.specs.declared.bodies.Body.the-variants as body
+use Rattle.layouts.specs.declared.bodies.Layout.{Layout}
+use Rattle.layouts.specs.declared.bodies.Taken.{Taken}
+use Rattle.layouts.specs.declared.bodies.Taken.the-variants as read
+use Rattle.layouts.specs.Bodies.{layoutOf, takenAs, taken}
 use borrow.Author.Needs.{needs}
 use Rattle.layouts.proofs.bodies.body_of.Statement.{statement}
 use Rattle.layouts.proofs.bodies.body_of.Tie as tie
 
+-- the arm of the layout that was answered
+arm : (n : ℕ) {a l : Layout} {x : Taken} → a ≡ layoutOf n → a ≡ l → x ≡ takenAs l n → x ≡ taken n
+arm n p q e = e ∙ ap (λ (k : Layout). takenAs k n) (sym q ∙ p)
+
+layout-of-requires : tie.Need-layout-of-requires
+layout-of-requires c κs = search needs
+
+enum-told : tie.Need-enum-told
+enum-told c = search needs
+
 identification-of-requires : tie.Need-identification-of-requires
 identification-of-requires c κs = search needs
 
-returns : tie.Need-returns
-returns c = simp (c .before .if1 .taken, c .identification-of .ensures)
+enum-told-2 : tie.Need-enum-told-2
+enum-told-2 c = search needs
 
 surface-of-requires : tie.Need-surface-of-requires
 surface-of-requires c κs = search needs
 
-returns-2 : tie.Need-returns-2
-returns-2 c = simp (c .before .before .if1 .left, c .before .if2 .taken, c .surface-of .ensures)
+enum-told-3 : tie.Need-enum-told-3
+enum-told-3 c = search needs
 
 airborne-of-requires : tie.Need-airborne-of-requires
 airborne-of-requires c κs = search needs
 
-returns-3 : tie.Need-returns-3
-returns-3 c = simp (c .before .before .before .if1 .left, c .before .before .if2 .left, c .before .if3 .taken, c .airborne-of .ensures)
+enum-told-4 : tie.Need-enum-told-4
+enum-told-4 c = search needs
 
 ground-of-requires : tie.Need-ground-of-requires
 ground-of-requires c κs = search needs
 
-returns-4 : tie.Need-returns-4
-returns-4 c = simp (c .before .before .before .before .if1 .left, c .before .before .before .if2 .left, c .before .before .if3 .left, c .before .if4 .taken, c .ground-of .ensures)
+enum-told-5 : tie.Need-enum-told-5
+enum-told-5 c = search needs
 
 air-of-requires : tie.Need-air-of-requires
 air-of-requires c κs = search needs
 
+enum-told-6 : tie.Need-enum-told-6
+enum-told-6 c = search needs
+
+returns : tie.Need-returns
+returns c =
+    let p = c .before .before .before in
+    arm (p .before .args .me) (p .layout-of .ensures) (c .before .enum-told .given .1) (ap (λ b. read.Body (body.Identification b)) (c .identification-of .ensures))
+
+returns-2 : tie.Need-returns-2
+returns-2 c =
+    let p = c .before .before .before in
+    arm (p .before .args .me) (p .layout-of .ensures) (c .before .enum-told2 .given .1) (ap (λ b. read.Body (body.Surface b)) (c .surface-of .ensures))
+
+returns-3 : tie.Need-returns-3
+returns-3 c =
+    let p = c .before .before .before in
+    arm (p .before .args .me) (p .layout-of .ensures) (c .before .enum-told3 .given .1) (ap (λ b. read.Body (body.Airborne b)) (c .airborne-of .ensures))
+
+returns-4 : tie.Need-returns-4
+returns-4 c =
+    let p = c .before .before .before in
+    arm (p .before .args .me) (p .layout-of .ensures) (c .before .enum-told4 .given .1) (ap (λ b. read.Body (body.Ground b)) (c .ground-of .ensures))
+
 returns-5 : tie.Need-returns-5
-returns-5 c = simp (c .before .before .before .before .before .if1 .left, c .before .before .before .before .if2 .left, c .before .before .before .if3 .left, c .before .before .if4 .left, c .before .if5 .taken, c .air-of .ensures)
+returns-5 c =
+    let p = c .before .before .before in
+    arm (p .before .args .me) (p .layout-of .ensures) (c .before .enum-told5 .given .1) (ap (λ b. read.Body (body.Air b)) (c .air-of .ensures))
 
 returns-6 : tie.Need-returns-6
-returns-6 c = simp (c .before .before .before .before .if1 .left, c .before .before .before .if2 .left, c .before .before .if3 .left, c .before .if4 .left, c .if5 .left)
+returns-6 c = let p = c .before .before in arm (p .before .args .me) (p .layout-of .ensures) (c .enum-told6 .given .1) refl
 
 pub body-of-spec : {M : Type 1} → statement M
 body-of-spec =
     tie.close
     (tie.spec
+    layout-of-requires
+    enum-told
     identification-of-requires
-    returns
+    enum-told-2
     surface-of-requires
-    returns-2
+    enum-told-3
     airborne-of-requires
-    returns-3
+    enum-told-4
     ground-of-requires
-    returns-4
+    enum-told-5
     air-of-requires
+    enum-told-6
+    returns
+    returns-2
+    returns-3
+    returns-4
     returns-5
     returns-6)

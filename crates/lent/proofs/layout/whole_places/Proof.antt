@@ -1,7 +1,7 @@
 -- `lent::layout::whole_places` meets its contract: it is the definition.
 -- Assumes nothing.
 use mathlib.Core.Path.{refl}
-use Rattle.lent.specs.Layout.{wholePlaces}
+use Rattle.offsets.specs.Offsets.{wholePlaces}
 use Rattle.lent.proofs.layout.whole_places.Statement.{statement}
 use Rattle.lent.proofs.layout.whole_places.Tie as tie
 

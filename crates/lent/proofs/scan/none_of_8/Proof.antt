@@ -14,11 +14,17 @@ add-get4 c = search needs
 get4-requires-2 : tie.Need-get4-requires-2
 get4-requires-2 c κs = search needs
 
+mul-get4 : tie.Need-mul-get4
+mul-get4 c = search needs
+
 add-get4-2 : tie.Need-add-get4-2
 add-get4-2 c = search needs
 
 get4-requires-3 : tie.Need-get4-requires-3
 get4-requires-3 c κs = search needs
+
+mul-get4-2 : tie.Need-mul-get4-2
+mul-get4-2 c = search needs
 
 add-get4-3 : tie.Need-add-get4-3
 add-get4-3 c = search needs
@@ -26,11 +32,17 @@ add-get4-3 c = search needs
 get4-requires-4 : tie.Need-get4-requires-4
 get4-requires-4 c κs = search needs
 
+mul-get4-3 : tie.Need-mul-get4-3
+mul-get4-3 c = search needs
+
 add-get4-4 : tie.Need-add-get4-4
 add-get4-4 c = search needs
 
 get4-requires-5 : tie.Need-get4-requires-5
 get4-requires-5 c κs = search needs
+
+mul-get4-4 : tie.Need-mul-get4-4
+mul-get4-4 c = search needs
 
 add-get4-5 : tie.Need-add-get4-5
 add-get4-5 c = search needs
@@ -38,11 +50,17 @@ add-get4-5 c = search needs
 get4-requires-6 : tie.Need-get4-requires-6
 get4-requires-6 c κs = search needs
 
+mul-get4-5 : tie.Need-mul-get4-5
+mul-get4-5 c = search needs
+
 add-get4-6 : tie.Need-add-get4-6
 add-get4-6 c = search needs
 
 get4-requires-7 : tie.Need-get4-requires-7
 get4-requires-7 c κs = search needs
+
+mul-get4-6 : tie.Need-mul-get4-6
+mul-get4-6 c = search needs
 
 add-get4-7 : tie.Need-add-get4-7
 add-get4-7 c = search needs
@@ -62,16 +80,22 @@ none-of-8-spec =
     get4-requires
     add-get4
     get4-requires-2
+    mul-get4
     add-get4-2
     get4-requires-3
+    mul-get4-2
     add-get4-3
     get4-requires-4
+    mul-get4-3
     add-get4-4
     get4-requires-5
+    mul-get4-4
     add-get4-5
     get4-requires-6
+    mul-get4-5
     add-get4-6
     get4-requires-7
+    mul-get4-6
     add-get4-7
     get4-requires-8
     returns)

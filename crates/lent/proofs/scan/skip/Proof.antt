@@ -1,10 +1,11 @@
 -- `lent::scan::skip` meets its contract: no key that the loop has passed is the key.
 -- Assumes nothing.
-use Prim.Native.Nat.{ℕ, _+_, _*_, _-_, _≤_, _<_}
+use Prim.Native.Nat.{ℕ, _-_, _≤_, _<_}
 use native.Mathlib.Omega.{arith}
 use mathlib.Core.Bool.{false}
 use mathlib.Core.Path.{_≡_}
 use lib.Dec.{eqb}
+use Rattle.offsets.specs.Offsets.{keyStart}
 use Rattle.words.specs.Bytes.{numberAt}
 use Rattle.lent.proofs.Scanned.{skip-more}
 use borrow.Author.Needs.{needs}
@@ -12,7 +13,7 @@ use Rattle.lent.proofs.scan.skip.Statement.{statement}
 use Rattle.lent.proofs.scan.skip.Tie as tie
 
 abbrev Inv-loop : tie.InvT-loop
-Inv-loop s n key i₀ i = (i ≤ n) × ((j : ℕ) → j < i → eqb (numberAt 4 s (16 + 4 * j)) key ≡ false)
+Inv-loop s n key i₀ i = (i ≤ n) × ((j : ℕ) → j < i → eqb (numberAt 4 s (keyStart j)) key ≡ false)
 
 abbrev μ-loop : tie.MeasureT-loop
 μ-loop s n key i₀ i = n - i

@@ -1,36 +1,19 @@
--- `place::read::load` meets its contract: each field is the definition's.
+-- `place::read::load` meets its contract: what is written, as it is meant.
 -- Assumes nothing.
 use Rattle.place.specs.Place.{trackOf}
 use borrow.Author.Needs.{needs}
 use Rattle.place.proofs.read.load.Statement.{statement}
 use Rattle.place.proofs.read.load.Tie as tie
 
-saved-at-requires : tie.Need-saved-at-requires
-saved-at-requires c κs = search needs
+written-in-requires : tie.Need-written-in-requires
+written-in-requires c κs = search needs
 
-saved-at-requires-2 : tie.Need-saved-at-requires-2
-saved-at-requires-2 c κs = search needs
-
-get8-requires : tie.Need-get8-requires
-get8-requires c κs = search needs
-
-groups-in-requires : tie.Need-groups-in-requires
-groups-in-requires c κs = search needs
-
-position-in-requires : tie.Need-position-in-requires
-position-in-requires c κs = search needs
+meant-requires : tie.Need-meant-requires
+meant-requires c κs = search needs
 
 returns : tie.Need-returns
 unfolding trackOf
-returns c = rw (c .position-in .ensures, c .before .groups-in .ensures, c .before .before .get8 .ensures, c .before .before .before .saved-at2 .ensures, c .before .before .before .before .saved-at .ensures)
+returns c = rw (c .meant .ensures, c .before .written-in .ensures)
 
 pub load-spec : {M : Type 1} → statement M
-load-spec =
-    tie.close
-    (tie.spec
-    saved-at-requires
-    saved-at-requires-2
-    get8-requires
-    groups-in-requires
-    position-in-requires
-    returns)
+load-spec = tie.close (tie.spec written-in-requires meant-requires returns)

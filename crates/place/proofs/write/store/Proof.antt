@@ -1,6 +1,7 @@
 -- `place::write::store` meets its contract: six stores in a row.
 -- Assumes nothing.
 use mathlib.Core.Path.{ap}
+use Rattle.offsets.specs.Offsets.{identificationAt, marksAt, latitudeAt, evenAt, messagesSize, spotSize, savedSize}
 use Rattle.words.specs.Bytes.{lowBytes}
 use Rattle.place.specs.Place.{bodyOf}
 use Rattle.words.proofs.Numbers.{low-length}
@@ -58,10 +59,10 @@ same-length c = search needs
 returns : tie.Need-returns
 unfolding bodyOf
 returns c = put-then _ _ 8 _ _ (low-length 8 _) (c .before .before .before .before .before .before .before .before .before .before .before .before .before .before .before .before .before .before .before .before .before .before .before .put8 .ensures)
-    (put-after _ _ 8 21 _ _ (message-length _) (c .before .before .before .before .before .before .before .before .before .before .before .before .before .before .before .before .before .before .before .put-messages .ensures)
-    (put-after _ _ 29 4 _ _ (low-length 4 _) (put-same _ _ (ap (lowBytes 4) (c .before .before .before .before .before .before .before .before .before .before .before .before .before .before .before .marks-of .ensures)) (c .before .before .before .before .before .before .before .before .before .before .before .before .before .before .put4 .ensures))
-    (put-after _ _ 33 16 _ _ (spot-length _) (c .before .before .before .before .before .before .before .before .before .before .put-spot .ensures)
-    (put-after _ _ 49 13 _ _ (saved-length _) (c .before .before .before .before .before .before .put-saved .ensures) (c .before .before .put-saved2 .ensures)))))
+    (put-after _ _ identificationAt messagesSize _ _ (message-length _) (c .before .before .before .before .before .before .before .before .before .before .before .before .before .before .before .before .before .before .before .put-messages .ensures)
+    (put-after _ _ marksAt 4 _ _ (low-length 4 _) (put-same _ _ (ap (lowBytes 4) (c .before .before .before .before .before .before .before .before .before .before .before .before .before .before .before .marks-of .ensures)) (c .before .before .before .before .before .before .before .before .before .before .before .before .before .before .put4 .ensures))
+    (put-after _ _ latitudeAt spotSize _ _ (spot-length _) (c .before .before .before .before .before .before .before .before .before .before .put-spot .ensures)
+    (put-after _ _ evenAt savedSize _ _ (saved-length _) (c .before .before .before .before .before .before .put-saved .ensures) (c .before .before .put-saved2 .ensures)))))
 
 pub store-spec : {M : Type 1} → statement M
 store-spec =

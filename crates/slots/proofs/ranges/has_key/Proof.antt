@@ -1,7 +1,7 @@
 -- `slots::ranges::has_key` meets its contract: its tests are the definition's.
 -- Assumes nothing.
 use borrow.Author.Tests.{eq-eqb, ne-eqb}
-use Rattle.slots.specs.Ranges.{holds}
+use Rattle.rules.specs.Form.{holds}
 use borrow.Author.Needs.{needs}
 use Rattle.slots.proofs.ranges.has_key.Statement.{statement}
 use Rattle.slots.proofs.ranges.has_key.Tie as tie

@@ -1,6 +1,7 @@
 -- `slots::ranges::is_held` meets its contract: its tests are the definition's.
 -- Assumes nothing.
-use Rattle.slots.specs.Ranges.{isHeld}
+use Rattle.rules.specs.Form.{isHeld}
+use Rattle.track.specs.Meaning.{meant}
 use borrow.Author.Needs.{needs}
 use Rattle.slots.proofs.ranges.is_held.Statement.{statement}
 use Rattle.slots.proofs.ranges.is_held.Tie as tie
@@ -12,7 +13,7 @@ is-in-date-requires : tie.Need-is-in-date-requires
 is-in-date-requires c κs = search needs
 
 returns : tie.Need-returns
-unfolding isHeld
+unfolding isHeld meant
 returns c = rw (c .is-in-date .ensures, c .before .in-range .ensures)
 
 pub is-held-spec : {M : Type 1} → statement M

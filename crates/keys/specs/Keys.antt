@@ -1,0 +1,50 @@
+-- A track's key, as document 01 has it: AA with its kind, I or O. In one number the kind stands above the 24 bits of the address.
+use Prim.Native.Nat.{ℕ, _+_, _-_, _*_, _/_, _%_, _^_}
+use mathlib.Core.Bool.{Bool, _&&_}
+use mathlib.Core.List.{List, [], _∷_}
+use lib.Dec.{leb, ltb}
+use lib.ListN.{length, getD}
+use Rattle.keys.specs.declared.Kind.{Kind}
+use Rattle.keys.specs.declared.Kind.the-variants.{I, O}
+
+-- the kinds in the order of their keys
+abbrev pub kinds : List Kind
+kinds = I ∷ O ∷ []
+
+-- each with its number, the top byte of its keys: its place in the list, counted from 1
+abbrev pub numberOf : Kind → ℕ
+numberOf I = 1
+numberOf O = 2
+
+-- .. and its letter, in ASCII
+abbrev pub letterOf : Kind → ℕ
+letterOf I = 73
+letterOf O = 79
+
+-- the 24 bits of an address
+abbrev pub low24 : ℕ → ℕ
+low24 address = address % 2 ^ 24
+
+-- the key of a kind and an address
+abbrev pub keyFor : Kind → ℕ → ℕ
+keyFor kind address = numberOf kind * 2 ^ 24 + low24 address
+
+-- above every key
+abbrev pub endOfKeys : ℕ
+endOfKeys = (length kinds + 1) * 2 ^ 24
+
+-- whether a number is a key
+abbrev pub isKey : ℕ → Bool
+isKey key = leb (2 ^ 24) key && ltb key endOfKeys
+
+-- a key's kind; a number below every key counts with the first kind, one above with the last
+abbrev pub kindIn : ℕ → Kind
+kindIn key = getD kinds (key / 2 ^ 24 - 1) O
+
+-- a key's letter
+abbrev pub letterIn : ℕ → ℕ
+letterIn key = letterOf (kindIn key)
+
+-- a key's address
+abbrev pub addressIn : ℕ → ℕ
+addressIn key = low24 key

@@ -1,0 +1,66 @@
+// A track's key: AA with its kind, in one number, the kind above the 24 bits of the address. The order of the numbers is the listing's: by kind, then by address.
+ghost use mathlib.Core.Path.{_≡_};
+ghost use Rattle.keys.specs.Keys.{numberOf, letterOf, keyFor, kindIn, letterIn, addressIn, isKey};
+
+// The kinds in the order of their keys.
+pub enum Kind {
+    I,
+    O,
+}
+
+// Above every key.
+pub const END: u32 = 0x300_0000;
+
+// The top byte of a kind's keys.
+fn number_of(kind: Kind) -> u32
+    ensures { λ r. ⌜ r ≡ numberOf kind ⌝ }
+{
+    match kind {
+        Kind::I => 1,
+        Kind::O => 2,
+    }
+}
+
+fn letter_of(kind: Kind) -> u8
+    ensures { λ r. ⌜ r ≡ letterOf kind ⌝ }
+{
+    match kind {
+        Kind::I => b'I',
+        Kind::O => b'O',
+    }
+}
+
+// The key of a kind and an address, which counts by its low 24 bits.
+pub fn key_for(kind: Kind, address: u32) -> u32
+    ensures { λ r. ⌜ r ≡ keyFor kind address ⌝ }
+{
+    number_of(kind) * 0x100_0000 + address % 0x100_0000
+}
+
+// A key's kind; of a number that is no key the kind of the nearest.
+pub fn kind_in(key: u32) -> Kind
+    ensures { λ r. ⌜ r ≡ kindIn key ⌝ }
+{
+    if key < 0x200_0000 { Kind::I } else { Kind::O }
+}
+
+// A key's letter in ASCII.
+pub fn letter_in(key: u32) -> u8
+    ensures { λ r. ⌜ r ≡ letterIn key ⌝ }
+{
+    letter_of(kind_in(key))
+}
+
+// The 24 bits of a key's address.
+pub fn address_in(key: u32) -> u32
+    ensures { λ r. ⌜ r ≡ addressIn key ⌝ }
+{
+    key % 0x100_0000
+}
+
+// Whether a number is the key of some kind and address.
+pub fn is_key(key: u32) -> bool
+    ensures { λ r. ⌜ r ≡ isKey key ⌝ }
+{
+    (0x100_0000 <= key) & (key < END)
+}

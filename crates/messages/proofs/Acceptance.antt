@@ -1,0 +1,148 @@
+-- An acceptable message is one that is decoded: both go by the same tests, and TYPE and subtype choose a layout or none. What its ME is unpacked to is packed to the same ME.
+-- Assumes nothing.
+use Prim.Native.Nat.{ℕ, _/_, _^_}
+use mathlib.Core.Path.{_≡_, refl, ap, ap₂, subst, _∙_}
+use mathlib.Core.Bool.{Bool, true, false, cond, not, _||_}
+use mathlib.Core.List.{List}
+use native.Mathlib.Omega.{arith}
+use native.Mathlib.Nat.{mod-lt}
+use lib.Dec.{eqb, lit<}
+use lib.ListN.{length}
+use Rattle.refusals.specs.declared.Refusal.{Refusal}
+use Rattle.refusals.specs.declared.Refusal.the-variants.{Length, Parity, Format, TypeCode}
+use Rattle.fields.specs.Packing.{me}
+use Rattle.fields.specs.Bytes.{number as numeral}
+use Rattle.parity.specs.Parity.{remainder}
+use Rattle.layouts.specs.Layouts.{isIdentification, isSurface, isAirborne}
+use Rattle.velocity.specs.Velocity.{isGround, isAir}
+use Rattle.layouts.specs.Bodies.{layoutOf, isTaken, takenAs, taken, bodyMe, bodyFits}
+use Rattle.layouts.specs.declared.bodies.Body.{Body}
+use Rattle.layouts.specs.declared.bodies.Layout.{Layout}
+use Rattle.layouts.specs.declared.bodies.Layout.the-variants as layout
+use Rattle.layouts.specs.declared.bodies.Taken.{Taken}
+use Rattle.layouts.specs.declared.bodies.Taken.the-variants as read
+use Rattle.layouts.proofs.BothWays.{read-good}
+use Rattle.messages.specs.Message.{bits, formatTaken, opened, decoded}
+use Rattle.messages.specs.Accepted.{frameOf, framed, accepted, openedAs, IsAccepted}
+use Rattle.messages.specs.Table.{number, acceptedSaid, earns1, earns3, earns4, typeTaken, acceptTable}
+use Rattle.messages.specs.declared.Frame.{Frame}
+use Rattle.messages.specs.declared.Message.{Message}
+use Rattle.messages.specs.declared.Accepted.{Accepted}
+use Rattle.messages.specs.declared.Accepted.the-variants as accept
+use Rattle.messages.specs.declared.Decoded.the-variants as decode
+
+-- ---- a layout, or none
+
+-- what a layout that is taken, or none, reads the bits as
+abbrev Reads : Bool → Taken → Type 0
+Reads true x = (b : Body) × (x ≡ read.Body b)
+Reads false x = x ≡ read.Refused TypeCode
+
+reads : (l : Layout) (n : ℕ) → Reads (isTaken l) (takenAs l n)
+reads layout.Identification n = (_, refl)
+reads layout.Surface n = (_, refl)
+reads layout.Airborne n = (_, refl)
+reads layout.Ground n = (_, refl)
+reads layout.Air n = (_, refl)
+reads layout.NotTaken n = refl
+
+-- ---- decoded is what was accepted, opened
+
+module _ (f : Frame) where
+  abbrev a : Bool
+  a = formatTaken (f .format) (f .control)
+
+  opens : opened (f .format) (f .control) (f .address) (f .me) ≡ openedAs (framed f)
+  unfolding opened framed
+  opens = by-cases a (isTaken (layoutOf (f .me))) refl refl (reads (layoutOf (f .me)) (f .me))
+    where
+      by-cases : (b t : Bool) → a ≡ b → isTaken (layoutOf (f .me)) ≡ t → Reads t (taken (f .me)) → opened (f .format) (f .control) (f .address) (f .me) ≡ openedAs (framed f)
+      by-cases false t e k r = rw e
+      by-cases true true e k r = rw (e, k, e)
+      by-cases true false e k r = rw (e, k, r)
+
+pub accepted-opened : (s : List ℕ) → decoded s ≡ openedAs (accepted s)
+accepted-opened s = by-cases (eqb (length s) 14) (eqb (remainder s) 0)
+  where
+    by-cases : (l p : Bool)
+        → cond (not l) (decode.Refused Length) (cond (not p) (decode.Refused Parity) (opened (bits 1 5 s) (bits 6 8 s) (bits 9 32 s) (bits 33 88 s)))
+        ≡ openedAs (cond (not l) (accept.Refused Length) (cond (not p) (accept.Refused Parity) (framed (frameOf s))))
+    by-cases false p = refl
+    by-cases true false = refl
+    by-cases true true = opens (frameOf s)
+
+-- ---- the message of a frame
+
+abbrev pub messageOf : Frame → Body → Message
+messageOf f b = record { format = f .format; control = f .control; address = f .address; body = b }
+
+-- a frame that was accepted opens to a body that fits, whose bits are its ME
+pub record Opens (f : Frame) : Type 0 where
+  pub body : Body
+  pub message : openedAs (accept.Frame f) ≡ decode.Message (messageOf f body)
+  pub fits : bodyFits body ≡ true
+  pub same : bodyMe body ≡ f .me
+
+no-frame : {A : Type 0} {r : Refusal} {f : Frame} → accept.Refused r ≡ accept.Frame f → A
+no-frame e = let z : _≡_ {A = ℕ} 0 1 = cc in let w : ⊥ = omega arith in absurd w
+
+module _ (g f : Frame) where
+  tested : (l p : Bool) → cond (not l) (accept.Refused Length) (cond (not p) (accept.Refused Parity) (framed g)) ≡ accept.Frame f → framed g ≡ accept.Frame f
+  tested false p e = no-frame e
+  tested true false e = no-frame e
+  tested true true e = e
+
+  -- what `framed` asks of a frame that it gives back
+  passed : (b t : Bool) → cond (not b) (accept.Refused Format) (cond (not t) (accept.Refused TypeCode) (accept.Frame g)) ≡ accept.Frame f → (b ≡ true) × ((t ≡ true) × (g ≡ f))
+  passed false t e = no-frame e
+  passed true false e = no-frame e
+  passed true true e = (refl, (refl, cc))
+
+opened-as : (g : Frame) (b : Body) → formatTaken (g .format) (g .control) ≡ true → taken (g .me) ≡ read.Body b → openedAs (accept.Frame g) ≡ decode.Message (messageOf g b)
+unfolding opened
+opened-as g b h r = rw (h, r)
+
+pub frame-opens : (f : Frame) → IsAccepted f → Opens f
+unfolding framed
+frame-opens f a =
+    let s : List ℕ = a .0 in
+    let g : Frame = frameOf s in
+    let p = passed g f (formatTaken (g .format) (g .control)) (isTaken (layoutOf (g .me))) (tested g f (eqb (length s) 14) (eqb (remainder s) 0) (a .1)) in
+    let r : Reads true (taken (g .me)) = subst (λ (t : Bool). Reads t (taken (g .me))) (p .1 .0) (reads (layoutOf (g .me)) (g .me)) in
+    of-frame g (p .0) (r .0) (r .1) (read-good (g .me) (r .0) (mod-lt (numeral s / 2 ^ 24) (lit< tt)) (r .1)) (p .1 .1)
+  where
+    of-frame : (g : Frame) → formatTaken (g .format) (g .control) ≡ true → (b : Body) → taken (g .me) ≡ read.Body b → (bodyFits b ≡ true) × (bodyMe b ≡ g .me) → g ≡ f → Opens f
+    of-frame g h b r good q = subst Opens q (record { body = b; message = opened-as g b h r; fits = good .0; same = good .1 })
+
+-- ---- document 01's table
+
+taken-as : (i s a o r : Bool) → isTaken (cond i layout.Identification (cond s layout.Surface (cond a layout.Airborne (cond o layout.Ground (cond r layout.Air layout.NotTaken))))) ≡ (i || s || a || o || r)
+taken-as true s a o r = refl
+taken-as false true a o r = refl
+taken-as false false true o r = refl
+taken-as false false false true r = refl
+taken-as false false false false true = refl
+taken-as false false false false false = refl
+
+-- TYPE and subtype by the bits of the message
+type-taken : (s : List ℕ) → isTaken (layoutOf (bits 33 88 s)) ≡ typeTaken (bits 33 37 s) (bits 38 40 s)
+type-taken s =
+    let n : ℕ = numeral s in
+    let t : me 1 5 (bits 33 88 s) ≡ bits 33 37 s = omega arith in
+    let u : me 6 8 (bits 33 88 s) ≡ bits 38 40 s = omega arith in
+    taken-as (isIdentification (me 1 5 (bits 33 88 s))) (isSurface (me 1 5 (bits 33 88 s))) (isAirborne (me 1 5 (bits 33 88 s))) (isGround (me 1 5 (bits 33 88 s)) (me 6 8 (bits 33 88 s))) (isAir (me 1 5 (bits 33 88 s)) (me 6 8 (bits 33 88 s)))
+    ∙ ap₂ typeTaken t u
+
+says : (t : Bool) (x y : Accepted) → acceptedSaid (cond t x y) ≡ cond t (acceptedSaid x) (acceptedSaid y)
+says true x y = refl
+says false x y = refl
+
+-- what `accept` answers is what the table says
+pub accept-says-the-table : (s : List ℕ) → acceptedSaid (accepted s) ≡ acceptTable s
+unfolding framed
+accept-says-the-table s =
+    says (earns1 s) _ _
+    ∙ ap (cond (earns1 s) (number 1)) (says (earns3 s) _ _
+    ∙ ap (cond (earns3 s) (number 3)) (says (earns4 s) _ _
+    ∙ ap (cond (earns4 s) (number 4)) (says (not (isTaken (layoutOf (bits 33 88 s)))) _ _
+    ∙ ap (λ (b : Bool). cond (not b) (number 5) (acceptedSaid (accept.Frame (frameOf s)))) (type-taken s))))

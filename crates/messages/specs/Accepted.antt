@@ -1,0 +1,48 @@
+-- Acceptable messages: those that earn none of 1, 3, 4 and 5, which doesn't depend on the table. Nothing is unpacked of ME.
+use Prim.Native.Nat.{ℕ}
+use mathlib.Core.List.{List}
+use mathlib.Core.Path.{_≡_}
+use mathlib.Core.Bool.{cond, not}
+use lib.Dec.{eqb}
+use lib.ListN.{length}
+use Rattle.refusals.specs.declared.Refusal.the-variants.{Length, Parity, Format, TypeCode}
+use Rattle.keys.specs.Keys.{keyFor}
+use Rattle.parity.specs.Parity.{remainder}
+use Rattle.layouts.specs.Bodies.{layoutOf, isTaken}
+use Rattle.messages.specs.declared.Frame.{Frame}
+use Rattle.messages.specs.declared.Accepted.{Accepted}
+use Rattle.messages.specs.declared.Accepted.the-variants as accept
+use Rattle.messages.specs.declared.Decoded.{Decoded}
+use Rattle.messages.specs.declared.Decoded.the-variants as decode
+use Rattle.messages.specs.Message.{bits, formatTaken, opened, kindOf}
+
+-- DF, CA or CF, AA and ME
+abbrev pub frameOf : List ℕ → Frame
+frameOf s = record { format = bits 1 5 s; control = bits 6 8 s; address = bits 9 32 s; me = bits 33 88 s }
+
+-- 4, then 5
+unfoldable pub framed : Frame → Accepted
+framed f =
+    cond (not (formatTaken (f .format) (f .control))) (accept.Refused Format)
+    (cond (not (isTaken (layoutOf (f .me)))) (accept.Refused TypeCode)
+    (accept.Frame f))
+
+-- 1, then 3, then 4 and 5
+abbrev pub accepted : List ℕ → Accepted
+accepted s =
+    cond (not (eqb (length s) 14)) (accept.Refused Length)
+    (cond (not (eqb (remainder s) 0)) (accept.Refused Parity)
+    (framed (frameOf s)))
+
+-- what an accepted message says
+abbrev pub openedAs : Accepted → Decoded
+openedAs (accept.Frame f) = opened (f .format) (f .control) (f .address) (f .me)
+openedAs (accept.Refused r) = decode.Refused r
+
+-- the key of its track
+abbrev pub frameKey : Frame → ℕ
+frameKey f = keyFor (kindOf (f .format) (f .control)) (f .address)
+
+-- the frame of some acceptable message
+abbrev pub IsAccepted : Frame → Type 0
+IsAccepted f = (s : List ℕ) × (accepted s ≡ accept.Frame f)

@@ -1,0 +1,133 @@
+-- The answer to a received message is document 01's table, in its order, for any table of any form and any message. The definition's first three tests are the table's; what is delivered says what the decoder says,
+-- which is the table of messages, and 6 in the place of a message for which there is no room.
+-- Assumes nothing.
+use Prim.Native.Nat.{ℕ}
+use mathlib.Core.Bool.{Bool, true, false, cond, not, _&&_}
+use mathlib.Core.Logic.{_↔_}
+use mathlib.Core.Path.{_≡_, refl, ap, _∙_}
+use mathlib.Core.List.{List, _++_}
+use lib.Dec.{ltb}
+use borrow.Author.Tests.{ltb-true, not-true, not-false}
+use Rattle.refusals.specs.declared.Refusal.the-variants.{Length, Late, Full, Places}
+use Rattle.fields.specs.Packing.{unpack}
+use Rattle.fields.proofs.Bools.{and-left, and-right}
+use Rattle.messages.specs.declared.Message.{Message}
+use Rattle.messages.specs.declared.Decoded.{Decoded}
+use Rattle.messages.specs.declared.Decoded.the-variants as decode
+use Rattle.messages.specs.Message.{bits, headWidths, decoded, keyOf}
+use Rattle.messages.specs.Table.{Said, number, values, said, earns1, earns3, earns4, earns5, layoutWidths, table}
+use Rattle.messages.proofs.Exactly as decoder
+use Rattle.messages.proofs.Keys.{decoded-key}
+use Rattle.located.specs.declared.Site.{Site}
+use Rattle.track.specs.declared.Stepped.{Stepped}
+use Rattle.track.specs.declared.Track.{Track}
+use Rattle.track.specs.Track.{stepped}
+use Rattle.track.proofs.Rules.{accepted}
+use Rattle.rules.specs.Form.{Cell, isHeld, holds, Form, Lawful}
+use Rattle.rules.specs.Search.{lowest}
+use Rattle.rules.specs.Rules.{After, after, placeOf, freePlace, delivered, received}
+use Rattle.rules.specs.View.{AllTaken}
+use Rattle.rules.specs.Said.{keyIn, keyHeld, placeFree, earns2, earns6, earns7, receiveTable}
+use Rattle.rules.proofs.Search.{clash, fails, lowest-passes, none-passes}
+use Rattle.rules.proofs.Steps.{as-moved}
+use Rattle.rules.proofs.Ways.{decoded-fits}
+
+-- ---- 6
+
+module _ {S : Type 0} (F : Form S) (L : Lawful F) (s : S) (message : List ℕ) (t : ℕ) where
+  -- 6 is earned exactly when no place holds the key and each holds a track in date
+  pub six-means : earns6 F s message t ≡ true ↔ AllTaken F t (keyIn message) s
+  unfolding placeOf freePlace
+  six-means = (
+    λ e. record {
+      unheld = none-passes key-here (F .count s) (not-true _ (and-left (not (keyHeld F s t (keyIn message))) _ e));
+      taken = λ i h. not-false _ (none-passes free-here (F .count s) (not-true _ (and-right (not (keyHeld F s t (keyIn message))) _ e)) i h);
+    },
+    λ x.
+        let unheld : keyHeld F s t (keyIn message) ≡ false
+        = fails _ (λ e. clash (lowest-passes key-here (F .count s) (ltb-true _ _ e)) (x .unheld _ (ltb-true _ _ e))) in
+        let taken : placeFree F s t ≡ false
+        = fails _ (λ e. clash (x .taken _ (ltb-true _ _ e)) (not-true _ (lowest-passes free-here (F .count s) (ltb-true _ _ e)))) in
+        rw (unheld, taken),
+  )
+    where
+      key-here : ℕ → Bool
+      key-here i = holds t (keyIn message) (F .cell s i)
+
+      free-here : ℕ → Bool
+      free-here i = not (isHeld t (F .cell s i))
+
+  -- the clock's move changes no place
+  six-moved : earns6 F (F .moved s t) message t ≡ earns6 F s message t
+  unfolding placeOf freePlace
+  six-moved =
+      as-moved F L s t
+      (λ (f : ℕ → Cell) (n : ℕ). (not (ltb (lowest (λ i. holds t (keyIn message) (f i)) n) n) && not (ltb (lowest (λ i. not (isHeld t (f i))) n) n)) ≡ earns6 F s message t)
+      refl
+
+-- ---- what is delivered
+
+abbrev saidAfter : {S : Type 0} → After S Decoded → Said
+saidAfter x = said (x .answer)
+
+-- 6 in the place of a message's values
+abbrev unless : Bool → Said → Said
+unless six (number n) = number n
+unless six (values v) = cond six (number 6) (values v)
+
+module _ (message : List ℕ) (m : Message) (d : decoded message ≡ decode.Message m) where
+  stepped-answer : (x : Track) (site : Site) (t : ℕ) → stepped x (decode.Message m) site t .answer ≡ decode.Message m
+  stepped-answer x site t = ap (λ (y : Stepped). y .answer) (accepted x m site t (decoded-fits message m d))
+
+  by-room : {S : Type 0} (held free : Bool) (s : S) (x y : After S Decoded) → x .answer ≡ decode.Message m → y .answer ≡ decode.Message m
+      → saidAfter (cond held x (cond free y (after (decode.Refused Full) s))) ≡ unless (not held && not free) (said (decode.Message m))
+  by-room true free s x y e f = ap said e
+  by-room false true s x y e f = ap said f
+  by-room false false s x y e f = refl
+
+  message-says : {S : Type 0} (F : Form S) (s : S) (t : ℕ) → saidAfter (delivered F s (decode.Message m) t) ≡ unless (earns6 F s message t) (said (decode.Message m))
+  unfolding delivered
+  message-says F s t =
+      by-room (keyHeld F s t (keyOf m)) (placeFree F s t) s _ _ (stepped-answer _ _ t) (stepped-answer _ _ t)
+      ∙ ap (λ (k : ℕ). unless (not (keyHeld F s t k) && not (placeFree F s t)) (said (decode.Message m))) (decoded-key message m d)
+
+delivered-says : {S : Type 0} (F : Form S) (s : S) (message : List ℕ) (t : ℕ) (d : Decoded) → decoded message ≡ d → saidAfter (delivered F s d t) ≡ unless (earns6 F s message t) (said d)
+unfolding delivered
+delivered-says F s message t (decode.Refused r) e = refl
+delivered-says F s message t (decode.Message m) e = message-says message m e F s t
+
+-- ---- the whole
+
+said-first : {S : Type 0} (a b c : Bool) (s : S) (x : After S Decoded)
+    → saidAfter (cond a (after (decode.Refused Length) s) (cond b (after (decode.Refused Places) s) (cond c (after (decode.Refused Late) s) x)))
+    ≡ cond a (number 1) (cond b (number 7) (cond c (number 2) (saidAfter x)))
+said-first true b c s x = refl
+said-first false true c s x = refl
+said-first false false true s x = refl
+said-first false false false s x = refl
+
+in-order : (one seven two three four five six : Bool) (v : List ℕ)
+    → cond one (number 1) (cond seven (number 7) (cond two (number 2)
+    (unless six (cond one (number 1) (cond three (number 3) (cond four (number 4) (cond five (number 5) (values v))))))))
+    ≡ cond one (number 1) (cond seven (number 7) (cond two (number 2)
+    (cond three (number 3) (cond four (number 4) (cond five (number 5) (cond six (number 6) (values v)))))))
+in-order true seven two three four five six v = refl
+in-order false true two three four five six v = refl
+in-order false false true three four five six v = refl
+in-order false false false true four five six v = refl
+in-order false false false false true five six v = refl
+in-order false false false false false true six v = refl
+in-order false false false false false false six v = refl
+
+-- what `receive` answers is what the table says
+pub says-the-table : {S : Type 0} (F : Form S) → Lawful F → (s : S) (message : List ℕ) (t : ℕ) → said (received F s message t .answer) ≡ receiveTable F s message t
+unfolding received
+says-the-table F L s message t =
+    let rest : saidAfter (delivered F (F .moved s t) (decoded message) t) ≡ unless (earns6 F s message t) (table message) =
+    delivered-says F (F .moved s t) message t (decoded message) refl
+    ∙ ap (λ (six : Bool). unless six (said (decoded message))) (six-moved F L s message t)
+    ∙ ap (unless (earns6 F s message t)) (decoder.says-the-table message) in
+    said-first (earns1 message) (earns7 F s) (earns2 F s t) s (delivered F (F .moved s t) (decoded message) t)
+    ∙ ap (λ (x : Said). cond (earns1 message) (number 1) (cond (earns7 F s) (number 7) (cond (earns2 F s t) (number 2) x))) rest
+    ∙ in-order (earns1 message) (earns7 F s) (earns2 F s t) (earns3 message) (earns4 message) (earns5 message) (earns6 F s message t)
+    (unpack (headWidths ++ layoutWidths (bits 33 37 message)) (bits 1 88 message))

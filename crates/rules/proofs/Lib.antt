@@ -1,0 +1,9 @@
+pub mod Search
+pub mod Steps
+pub mod Delivered
+pub mod Ways
+pub mod Laws
+pub mod Exactly
+pub mod Says
+pub mod KeyOrder
+pub mod Agreed

@@ -1,0 +1,18 @@
+-- The two searches among things that are numbered: the lowest that passes a test, and the smallest key above a given one.
+use Prim.Native.Nat.{ℕ, zero, suc}
+use mathlib.Core.Bool.{Bool, cond, _&&_, _||_}
+use lib.Dec.{eqb, ltb}
+
+-- the lowest number below n that passes the test; n if none does
+abbrev pub lowest : (ℕ → Bool) → ℕ → ℕ
+lowest p zero = zero
+lowest p (suc n) = cond (ltb (lowest p n) n) (lowest p n) (cond (p n) n (suc n))
+
+-- the lesser of the best key so far, 0 for none, and another, if that is held and above
+unfoldable pub better : ℕ → ℕ → ℕ → Bool → ℕ
+better above best key held = cond (ltb above key && (eqb best 0 || ltb key best) && held) key best
+
+-- the smallest key above that the first n hold; 0 if there is none
+abbrev pub smallest : (ℕ → ℕ) → (ℕ → Bool) → ℕ → ℕ → ℕ
+smallest key held above zero = 0
+smallest key held above (suc n) = better above (smallest key held above n) (key n) (held n)
