@@ -154,6 +154,11 @@ def busy_hour():
     return with_bad_blocks(chance, blocks_of(chance, with_faults(chance, records)))
 
 
+def crowd():
+    """Two aircraft more than the program has places, each heard once: the last two find none free."""
+    return capture([(time, traffic.identification(TRANSPONDER, time, "CROWD")) for time in range(1, PLACES + 3)])
+
+
 # A minute, in hex
 
 
@@ -195,7 +200,7 @@ def hex_listing(strings, step):
     return listing_of(made, 0).encode("ascii"), refused
 
 
-SAMPLES = {"example": example, "busy-hour": busy_hour}
+SAMPLES = {"example": example, "busy-hour": busy_hour, "crowd": crowd}
 RUN = "example"
 
 

@@ -1,10 +1,12 @@
-"""Runs the program "listing" on the samples and on 200 random captures, and compares with the model.
+"""Runs the program "listing" on the samples and on 200 random captures, and compares with the model; then where its input
+or its output fails, which it has to say.
 
     python3 reference/run_captures.py
 
 The program must have been built: target/bin/listing. The first difference is named, and the status is 1.
 """
 
+import subprocess
 import sys
 from random import Random
 
@@ -12,7 +14,7 @@ import traffic
 from captures import BLOCK, MOST_RECORDS, SEAL, block, listing
 from make_samples import SAMPLES, resealed
 from positions import EVEN, ODD
-from programs import ran
+from programs import ROOT, ran
 from traffic import NO_TRANSPONDER, OTHER, TRANSPONDER
 from vectors.message_vectors import flipped, random_valid
 
@@ -79,6 +81,24 @@ def captures():
         yield f"random capture {number}", random_capture(chance)
 
 
+# How a shell makes the input or the output fail, and what the program then says on standard error.
+FAILURES = {
+    "< /": b"listing: the input cannot be read to its end\n",
+    "<&-": b"listing: the input cannot be read to its end\n",
+    "< samples/example.capture > /dev/full": b"listing: the output cannot be written\n",
+}
+
+
+def failures_are_said():
+    """The program prints no listing that is not whole, and says why."""
+    for words, said in FAILURES.items():
+        done = subprocess.run(["sh", "-c", f"exec tools/run target/bin/listing {words}"], cwd=ROOT, capture_output=True, timeout=60, check=False)
+        if (done.stdout, done.stderr) != (b"", said):
+            print(f"listing {words}: {done.stdout + done.stderr}, and not {said}")
+            return False
+    return True
+
+
 def main():
     count = 0
     for name, whole in captures():
@@ -90,7 +110,7 @@ def main():
             return 1
         count += 1
     print(f"{count} captures: the program prints what the model says")
-    return 0
+    return 0 if failures_are_said() else 1
 
 
 if __name__ == "__main__":

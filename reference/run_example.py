@@ -14,14 +14,16 @@ GOOD = "8DABCDEF58378200010000300279"
 
 
 def odd_lines():
-    """Lines, each with the bytes that it says: bare and lower case, empty, too long, cut short, not hex."""
+    """Lines, each with the bytes that it says: bare and lower case, empty, too long, cut short, not hex. Half a byte is one."""
     whole = bytes.fromhex(GOOD)
     return [
         (GOOD.lower(), whole),
         ("", b""),
         (f"*{GOOD}00;", whole + b"\0"),
         (f"*{GOOD * 40};", (whole * 2)[:15]),
-        (f"*{GOOD[:27]};", whole[:13]),
+        (f"*{GOOD[:26]};", whole[:13]),
+        (f"*{GOOD[:27]};", whole[:13] + b"\x70" + b"\0"),
+        (f"*{GOOD}0;", whole + b"\0"),
         ("*hello;", b""),
         ("8DABCDEF58378580008000CC7711", bytes.fromhex("8DABCDEF58378580008000CC7711")),
     ]

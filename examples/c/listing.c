@@ -17,7 +17,10 @@ static int digit(int c) {
     return isdigit(c) ? c - '0' : tolower(c) - 'a' + 10;
 }
 
-/* The bytes in hex of the next line, at most so many, and how many there are. Whether there was a line. */
+/*
+ * The bytes in hex of the next line, at most so many, and how many there are; of a line with half a byte, the most, so
+ * that it is of no message's length. Whether there was a line.
+ */
 static int read_line(FILE *in, uint8_t *bytes, size_t most, size_t *count) {
     size_t digits = 0;
     int c = getc(in);
@@ -34,7 +37,7 @@ static int read_line(FILE *in, uint8_t *bytes, size_t most, size_t *count) {
     while (c != '\n' && c != EOF) {
         c = getc(in);
     }
-    *count = digits / 2;
+    *count = digits % 2 == 0 ? digits / 2 : most;
     return 1;
 }
 

@@ -1,4 +1,5 @@
 pub mod BothWays
 pub mod Exactly
+pub mod OfCode
 pub mod Promised
 pub mod Unique

@@ -36,6 +36,22 @@ pub ground : taken 0x99440994083817
     }))
 ground = refl
 
+-- the same but for the second direction bit: west and not south, so that neither bit is taken for the other
+pub west-not-south : taken 0x99440914083817
+    ≡ read.Body (body.Ground (record {
+      typecode = 19;
+      subtype = 1;
+      bit9 = 0;
+      bit10 = 1;
+      nacv = 0;
+      west = 1;
+      eastward = 9;
+      south = 0;
+      northward = 160;
+      vertical = record { source = 0; down = 1; rate = 14; reserved = 0; below = 0; difference = 23 };
+    }))
+west-not-south = refl
+
 -- TYPE 0, TYPE 23, and TYPE 19 with subtypes 0 and 5
 pub not-taken : (taken 0 ≡ read.Refused TypeCode)
     × (taken 0xB8000000000000 ≡ read.Refused TypeCode)

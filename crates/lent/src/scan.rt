@@ -94,10 +94,10 @@ fn held_4(s: &[u8], n: usize, i: usize, clock: u64) -> bool
         & is_held(s, n, i + 3, clock)
 }
 
-// How many places can be passed, 4 at a time, before one that is free.
+// How many places can be passed, 4 at a time, before 4 of which one is free, or fewer than 4.
 fn skip_held(s: &[u8], n: usize, clock: u64) -> usize
     requires { ⌜ Room n (now s) ⌝ }
-    ensures { λ r. ⌜ (r ≤ n) × ((i : ℕ) → i < r → isHeld clock (placeAt (now (s .entry)) n i) ≡ true) ⌝ }
+    ensures { λ r. ⌜ (r ≤ n) × (((i : ℕ) → i < r → isHeld clock (placeAt (now (s .entry)) n i) ≡ true) × (r + 4 ≤ n → allHeld 4 (placeAt (now (s .entry)) n) r clock ≡ false)) ⌝ }
 {
     let mut i = 0;
     while i + 4 <= n {
@@ -120,7 +120,7 @@ fn find_free(s: &[u8], n: usize, clock: u64) -> usize
         }
         i += 1;
     }
-    n
+    n // none is free
 }
 
 // Where a message of the key goes: to its place, which is then held, else to the lowest free one.

@@ -1,6 +1,7 @@
 // Reads a capture on standard input to its end and prints the listing: 256 places, no site. It keeps one block at a time, so that memory does not grow with the capture.
 use answers::NextKey;
 use feed::Fed;
+use libc::STDERR_FILENO;
 use libc::STDIN_FILENO;
 use libc::STDOUT_FILENO;
 use text::Line;
@@ -39,36 +40,60 @@ fn read_all(table: &mut [u8], block: &mut [u8]) -> u64
     bad
 }
 
-// The first n bytes. The test costs less than a proof that it holds.
-fn print_first(text: &[u8], n: usize) {
+// Whether the input has come to its end. After a read that failed there is no end, or there are more bytes.
+fn input_ended() -> bool {
+    let mut more = [0u8; 1];
+    libc::read(STDIN_FILENO, &mut more) == 0
+}
+
+// The first n bytes, and whether they were written. The test costs less than a proof that it holds.
+fn print_first(text: &[u8], n: usize) -> bool {
     if n <= text.len() {
-        io::write_all(STDOUT_FILENO, &text[0..n]);
+        return io::write_all(STDOUT_FILENO, &text[0..n]);
     }
+    true
 }
 
-fn print(line: Line) {
+fn print(line: Line) -> bool {
     let bytes = line.bytes;
-    print_first(&bytes, line.len);
+    print_first(&bytes, line.len)
 }
 
-// The lines, in the order of the keys.
-fn print_tracks(table: &[u8]) {
+// The lines, in the order of the keys, and whether all were written.
+fn print_tracks(table: &[u8]) -> bool {
     let mut key: u32 = 0;
     loop {
         let NextKey::Key(next) = table::next(table, key) else {
-            return;
+            return true;
         };
         let r = report::line_of(table, next);
-        print(r.line);
+        if !print(r.line) {
+            return false;
+        }
         key = next;
     }
+}
+
+fn print_all(table: &[u8], bad: u64) -> bool {
+    let r = report::header_of(table, bad);
+    if !print(r.line) {
+        return false;
+    }
+    print_tracks(table)
 }
 
 fn main() {
     let mut table = [0u8; TABLE];
     let mut block = [0u8; 512];
     let bad = read_all(&mut table, &mut block);
-    let r = report::header_of(&table, bad);
-    print(r.line);
-    print_tracks(&table);
+    if !input_ended() {
+        io::write_all(
+            STDERR_FILENO,
+            b"listing: the input cannot be read to its end\n",
+        );
+        return;
+    }
+    if !print_all(&table, bad) {
+        io::write_all(STDERR_FILENO, b"listing: the output cannot be written\n");
+    }
 }

@@ -32,9 +32,13 @@ line-of-requires c κs = search needs
 print-requires : tie.Need-print-requires Inv-loop μ-loop
 print-requires c κs = search needs
 
+returns-2 : tie.Need-returns-2 Inv-loop μ-loop
+returns-2 c = search needs
+
 loop-less : tie.Need-loop-less Inv-loop μ-loop
 loop-less c =
-    let r = next-rises (c .before .before .before .before .before .before .before .before .args .table .now) (c .before .before .before .before .before .before .loop .key) _ (sym (c .before .before .before .before .before .next .ensures) ∙ c .before .before .before .next2 .given .1) in
+    let p = c .before in
+    let r = next-rises (p .before .before .before .before .before .before .before .before .args .table .now) (p .before .before .before .before .before .before .loop .key) _ (sym (p .before .before .before .before .before .next .ensures) ∙ p .before .before .before .next2 .given .1) in
     omega arith
 
 loop-again : tie.Need-loop-again Inv-loop μ-loop
@@ -52,5 +56,6 @@ print-tracks-spec =
     returns
     line-of-requires
     print-requires
+    returns-2
     loop-less
     loop-again)

@@ -23,7 +23,7 @@ skip-held-requires c κs = search needs
 loop-holds : tie.Need-loop-holds Inv-loop μ-loop
 loop-holds c =
     let a = c .before .before .args in
-    (c .skip-held .ensures .0, none-free (placeAt (a .s .now) (a .n)) (a .clock) _ (c .skip-held .ensures .1))
+    (c .skip-held .ensures .0, none-free (placeAt (a .s .now) (a .n)) (a .clock) _ (c .skip-held .ensures .1 .0))
 
 is-held-requires : tie.Need-is-held-requires Inv-loop μ-loop
 is-held-requires c κs = search needs

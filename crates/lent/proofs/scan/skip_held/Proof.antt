@@ -1,9 +1,10 @@
--- `lent::scan::skip_held` meets its contract: each place that the loop has passed is held.
+-- `lent::scan::skip_held` meets its contract: each place that the loop has passed is held, and it ends at its own two tests.
 -- Assumes nothing.
 use Prim.Native.Nat.{ℕ, _-_, _≤_, _<_}
 use native.Mathlib.Omega.{arith}
 use mathlib.Core.Bool.{true}
-use mathlib.Core.Path.{_≡_}
+use mathlib.Core.Path.{_≡_, sym, _∙_}
+use borrow.Author.Tests.{not-true}
 use Rattle.lent.specs.Layout.{placeAt, isHeld}
 use Rattle.lent.proofs.Scanned.{held-more}
 use borrow.Author.Needs.{needs}
@@ -26,7 +27,7 @@ held-4-requires : tie.Need-held-4-requires Inv-loop μ-loop
 held-4-requires c κs = search needs
 
 returns : tie.Need-returns Inv-loop μ-loop
-returns c = (search needs, c .before .before .before .loop .inv .1)
+returns c = (search needs, (c .before .before .before .loop .inv .1, λ g. sym (c .before .held-4 .ensures) ∙ not-true _ (c .if1 .taken)))
 
 add-i : tie.Need-add-i Inv-loop μ-loop
 add-i c = search needs
@@ -40,7 +41,7 @@ loop-again c =
     (search needs, held-more (placeAt (a .s .now) (a .n)) (a .clock) (c .before .before .before .loop .i) (c .before .before .before .loop .inv .1) (c .before .held-4 .ensures) (c .if1 .left))
 
 returns-2 : tie.Need-returns-2 Inv-loop μ-loop
-returns-2 c = (search needs, c .before .loop .inv .1)
+returns-2 c = (search needs, (c .before .loop .inv .1, λ g. absurd (omega arith)))
 
 pub skip-held-spec : {M : Type 1} → statement M
 skip-held-spec =
