@@ -56,10 +56,24 @@ def records_of(one_block):
     return [(int.from_bytes(one[:8], "big"), one[8:]) for one in used]
 
 
+def record_at(one_block, number):
+    """Of a block, good or not: the time of a record, counted from 0, and where its message starts; None past the last."""
+    if len(one_block) != BLOCK or number >= min(one_block[0], MOST_RECORDS):
+        return None
+    start = HEAD + RECORD * number
+    return int.from_bytes(one_block[start : start + 8], "big"), start + 8
+
+
 def fold(whole):
-    """The table after every record of every good block, and the number of bad blocks."""
-    made, bad = bytearray(table.length_of(PLACES)), 0
+    """The listing's table after every record of every good block, and the number of bad blocks."""
+    made = bytearray(table.length_of(PLACES))
     table.set_up(made)
+    return made, feed(made, whole)
+
+
+def feed(made, whole):
+    """Receives every record of every good block in a table; the number of bad blocks."""
+    bad = 0
     for one_block in blocks(whole):
         try:
             records = records_of(one_block)
@@ -68,7 +82,7 @@ def fold(whole):
             continue
         for time, string in records:
             offer(made, string, time)
-    return made, bad
+    return bad
 
 
 def offer(made, string, time):

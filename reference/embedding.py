@@ -60,7 +60,7 @@ def row(length, entries):
 
 def reading(name, value):
     """What a reading is, and its value."""
-    words = {readings.UNKNOWN: "UNKNOWN", readings.OVER: "OVER", "reserved": "NONE", "none": "NONE", "stopped": "STOPPED"}
+    words = {readings.UNKNOWN: "UNKNOWN", readings.OVER: "OVER", "reserved": "NONE", "stopped": "STOPPED"}
     if value in words:
         return {f"{name}_IS": AT[words[value]]}
     return {f"{name}_IS": AT["KNOWN"], name: value}
@@ -119,43 +119,34 @@ def number_of_text(text):
     return int.from_bytes(text.encode("ascii"), "big")
 
 
-def movement_reading(code):
+def movement_reading(name, value):
     """The lower edge of a movement; of the last range, over."""
-    value = readings.movement(code)
     if value.startswith("from "):
-        return reading("SURFACE_SPEED", int(value.removeprefix("from ")))
+        return reading(name, int(value.removeprefix("from ")))
     if value == "8400 and up":
-        return {"SURFACE_SPEED_IS": AT["OVER"], "SURFACE_SPEED": 8400}
-    return reading("SURFACE_SPEED", value)
+        return {f"{name}_IS": AT["OVER"], name: 8400}
+    return reading(name, value)
 
 
-def vertical_readings(message):
-    """The readings in which both velocities end."""
-    rate = readings.rate(message["rate sign"], message["rate"])
-    difference = readings.difference(message["difference sign"], message["difference"])
-    return reading("VERTICAL_RATE", rate) | reading("VERTICAL_DIFFERENCE", difference)
+# The header's names for the readings of each layout, in the model's order
+READINGS = {
+    "IDENTIFICATION": ["IDENTIFICATION_SET", "IDENTIFICATION_TEXT"],
+    "SURFACE": ["SURFACE_SPEED", "SURFACE_TURN"],
+    "AIRBORNE": ["AIRBORNE_ALTITUDE", "AIRBORNE_GNSS"],
+    "GROUND": ["GROUND_EAST", "GROUND_NORTH", "VERTICAL_RATE", "VERTICAL_DIFFERENCE"],
+    "AIR": ["AIR_TURN", "AIR_SPEED", "VERTICAL_RATE", "VERTICAL_DIFFERENCE"],
+}
 
 
 def message_readings(layout, message):
     """What the codes of a message mean."""
+    meant = readings.body(LAYOUTS[layout][0], message)
     if layout == "IDENTIFICATION":
-        letter = readings.category_set(message["TYPE"])
-        text = number_of_text(readings.text(message["characters"]))
-        return reading("IDENTIFICATION_SET", ord(letter)) | reading("IDENTIFICATION_TEXT", text)
-    if layout == "SURFACE":
-        turn = readings.surface_heading(message["heading"])
-        return movement_reading(message["movement"]) | reading("SURFACE_TURN", turn)
-    if layout == "AIRBORNE":
-        altitude = readings.altitude(message["altitude"])
-        return reading("AIRBORNE_ALTITUDE", altitude) | reading("AIRBORNE_GNSS", int(message["TYPE"] >= 20))
-    subtype = message["subtype"]
-    if layout == "GROUND":
-        east = readings.speed(subtype, message["east-west direction"], message["east-west speed"])
-        north = readings.speed(subtype, message["north-south direction"], message["north-south speed"])
-        return reading("GROUND_EAST", east) | reading("GROUND_NORTH", north) | vertical_readings(message)
-    speed = readings.speed(subtype, 0, message["airspeed"])
-    turn = readings.heading(message["heading"])
-    return reading("AIR_TURN", turn) | reading("AIR_SPEED", speed) | vertical_readings(message)
+        meant |= {"set": ord(meant["set"]), "text": number_of_text(meant["text"])}
+    entries = {}
+    for name, (of, value) in zip(READINGS[layout], meant.items(), strict=True):
+        entries |= movement_reading(name, value) if of == "movement" else reading(name, value)
+    return entries
 
 
 HEAD = {"DF": "DF", "CA or CF": "CA", "AA": "AA", "TYPE": "TYPECODE"}  # the model's names, and the header's

@@ -1,10 +1,11 @@
 """What codes mean: the paper, "ME fields, by bit numbers of ME" and "Altitude".
 
 A reading is a number, or a word where the paper has one: unknown, over, stopped, reserved.
-A code wider than its bits is refused with 8, before everything else.
+A code wider than its bits is refused with 8, before everything else; so is a body with such a field, as a whole.
 """
 
-from refusals import fits
+import messages
+from refusals import Refused, fits
 
 UNKNOWN = "unknown"
 OVER = "over"
@@ -148,3 +149,31 @@ def text(characters):
     """The eight characters of an identification, of 6 bits each, as they show."""
     fits(characters, 48)
     return "".join(chr(character(characters >> place & 63)) for place in range(42, -1, -6))
+
+
+def body(fields, message):
+    """What the fields of a layout mean, by name.
+
+    8 for the whole of it where one field is wider than its bits, or TYPE and subtype are not those of the layout.
+    """
+    for name, first, last in [("TYPE", 1, 5), *fields]:
+        fits(message[name], last - first + 1)
+    if messages.layout(message["TYPE"], message.get("subtype")) is not fields:
+        raise Refused(8)
+    if fields is messages.IDENTIFICATION:
+        return {"set": category_set(message["TYPE"]), "text": text(message["characters"])}
+    if fields is messages.SURFACE:
+        return {"movement": movement(message["movement"]), "heading": surface_heading(message["heading"])}
+    if fields is messages.AIRBORNE:
+        return {"altitude": altitude(message["altitude"]), "GNSS": message["TYPE"] in (20, 21, 22)}
+    subtype = message["subtype"]
+    if fields is messages.OVER_GROUND:
+        east = speed(subtype, message["east-west direction"], message["east-west speed"])
+        north = speed(subtype, message["north-south direction"], message["north-south speed"])
+        first = {"east": east, "north": north}
+    else:
+        first = {"heading": heading(message["heading"]), "airspeed": speed(subtype, 0, message["airspeed"])}
+    return first | {
+        "rate": rate(message["rate sign"], message["rate"]),
+        "difference": difference(message["difference sign"], message["difference"]),
+    }

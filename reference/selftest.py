@@ -147,6 +147,24 @@ def wide_codes():
     refused(8, readings.difference, 2, 0)
 
 
+def whole_bodies():
+    """A body is refused as a whole, with 8, just when a field is too wide or TYPE or subtype is another layout's."""
+    for _, fields, kinds in readings_vectors.LAYOUTS:
+        widths = readings_vectors.widths(fields)
+        for type_code, subtype in kinds:
+            good = dict.fromkeys(widths, 0) | {"TYPE": type_code} | ({"subtype": subtype} if subtype else {})
+            readings.body(fields, good)
+            for name, width in widths.items():
+                refused(8, readings.body, fields, good | {name: 1 << width})
+            own = [code for code, _ in kinds]
+            taken = [code for code in range(256) if answer(readings.body, fields, good | {"TYPE": code}) != "refused 8"]
+            true(f"TYPE {own}", set(own) <= set(taken) and all(messages.layout(code, subtype) is fields for code in taken))
+    gnss = [code for code in range(32) if messages.layout(code, 0) is messages.AIRBORNE]
+    blank = dict.fromkeys(readings_vectors.widths(messages.AIRBORNE), 0)
+    heights = [readings.body(messages.AIRBORNE, blank | {"TYPE": code})["GNSS"] for code in gnss]
+    equal("TYPEs with GNSS height", heights, [False] * 10 + [True] * 3)
+
+
 # Messages
 
 
@@ -522,6 +540,14 @@ def track_rules():
     partner = Track(position=far, saved=(Saved(1, 0, 0, 90), Saved()))
     after = tracks.step(partner, traffic.airborne_counts(TRANSPONDER, ONE, ODD, (65536, 0)), None, 100)
     equal("on 9 the pair is read singly", after.position.known and after.position != far, True)
+    wide = Track(position=far, saved=(Saved(1, 131_072, 0, 90), Saved()))
+    after = tracks.step(wide, traffic.airborne_counts(TRANSPONDER, ONE, ODD, (0, 0)), None, 100)
+    equal("on 8 the position stays", (after.position, after.saved[ODD]), (far, Saved(1, 0, 0, 100)))
+    for latitude in (2**30 + 1, -(2**30) - 1):
+        past = Position(1, latitude, 0, 90)
+        equal("a latitude past a pole", answer(tracks.surface_position, past, HERE, EVEN, (0, 0), 100), "refused 8")
+        unread = past._replace(known=0)
+        equal("one that is not read", tracks.surface_position(unread, None, EVEN, (0, 0), 100), unread)
 
 
 def bytes_of_tracks():
@@ -655,6 +681,9 @@ def blocks():
             equal("512 bytes", (len(good), good[0], good[1:3]), (512, count, serial.to_bytes(2, "big")))
             equal("parity", remainder(good), 0)
             equal("read again", captures.records_of(good), records)
+            found = [captures.record_at(good, number) for number in range(count)]
+            equal("one by one", [(time, good[start : start + 14]) for time, start in found], records)
+            equal("past the last", captures.record_at(good, count), None)
         for _ in range(60):
             refused(11, captures.records_of, message_vectors.flipped(good, chance.randrange(1, 4097)))
         for wrong in [0, *range(24, 256, 11), 255, count - 1]:
@@ -710,6 +739,7 @@ TESTS = [
     coding_rows,
     altitudes,
     wide_codes,
+    whole_bodies,
     message_rows,
     layouts,
     message_laws,

@@ -65,22 +65,23 @@ def is_stale(heard, clock):
 # Where a message puts its aircraft: a latitude and a longitude, or None
 
 
-def unless_refused(question, *arguments):
-    """The place, or None on 9 or 10."""
+def unless_refused(numbers, question, *arguments):
+    """What the question gives, or None on these numbers."""
     try:
         return question(*arguments)
     except Refused as refusal:
-        assert refusal.number in (9, 10)
+        if refusal.number not in numbers:
+            raise
         return None
 
 
-def paired(saved, i, time):
+def paired(partner, i, counts, time):
     """Paired with the other one if that is at most 10,000 old; the message is the later one."""
-    other = saved[1 - i]
-    if not other.known or age(other.time, time) > PARTNER:
+    if not partner.known or age(partner.time, time) > PARTNER:
         return None
-    even, odd = saved
-    return unless_refused(pair, i, even.latitude, even.longitude, odd.latitude, odd.longitude)
+    other = partner.latitude, partner.longitude
+    even, odd = (counts, other) if i == EVEN else (other, counts)
+    return unless_refused((9, 10), pair, i, *even, *odd)
 
 
 def usable(position, time):
@@ -90,11 +91,11 @@ def usable(position, time):
     return None
 
 
-def read_singly(turn, message, reference):
+def read_singly(turn, i, counts, reference):
     """Read singly against the reference, if there is one."""
     if reference is None:
         return None
-    return unless_refused(single, turn, message["F"], message["latitude"], message["longitude"], *reference)
+    return unless_refused((9,), single, turn, i, *counts, *reference)
 
 
 def settled(position, place, time):
@@ -102,26 +103,42 @@ def settled(position, place, time):
     return position if place is None else Position(1, *place, time)
 
 
+def airborne_position(position, partner, i, counts, time):
+    """Paired; failing that, or on 9 or 10, read singly. 8 if what is paired or read singly is out of its range."""
+    place = paired(partner, i, counts, time)
+    if place is None:
+        place = read_singly(AIRBORNE, i, counts, usable(position, time))
+    return settled(position, place, time)
+
+
+def surface_position(position, site, i, counts, time):
+    """Read against the track's position within 120,000, else the site. 8 if what is read is out of its range."""
+    reference = usable(position, time)
+    return settled(position, read_singly(SURFACE, i, counts, site if reference is None else reference), time)
+
+
 # The step
+
+
+def unless_out_of_range(position, question, *arguments):
+    """The new position; on 8, which only a track or a site made by hand can earn, the one that was."""
+    return unless_refused((8,), question, position, *arguments) or position
 
 
 def airborne(track, message, time):
     """Saved by its F, then paired; failing that, or on 9 or 10, read singly."""
-    i = message["F"]
-    mine = Saved(1, message["latitude"], message["longitude"], time)
+    i, counts = message["F"], (message["latitude"], message["longitude"])
+    mine = Saved(1, *counts, time)
     saved = (mine, track.saved[ODD]) if i == EVEN else (track.saved[EVEN], mine)
-    place = paired(saved, i, time)
-    if place is None:
-        place = read_singly(AIRBORNE, message, usable(track.position, time))
+    position = unless_out_of_range(track.position, airborne_position, track.saved[1 - i], i, counts, time)
     group = {"pressure": message["altitude"]} if message["TYPE"] <= 18 else {"height": message["altitude"]}
-    return track._replace(saved=saved, position=settled(track.position, place, time), **group)
+    return track._replace(saved=saved, position=position, **group)
 
 
 def on_surface(track, message, me, site, time):
     """Clears the two saved ones; read against the track's position within 120,000, else the site."""
-    reference = usable(track.position, time)
-    place = read_singly(SURFACE, message, site if reference is None else reference)
-    position = settled(track.position, place, time)
+    counts = message["latitude"], message["longitude"]
+    position = unless_out_of_range(track.position, surface_position, site, message["F"], counts, time)
     return track._replace(saved=(Saved(), Saved()), position=position, surface=me)
 
 

@@ -2,7 +2,7 @@
  * Reads messages in hex on standard input, one a line as *HEX; or HEX, keeps a table of 256 places and prints the
  * listing at the end. Message k, from 0, arrives at k times STEP milliseconds; STEP is the argument, or 1.
  *
- * rt staticlib addercoil && gcc -std=c99 -Iinclude examples/c/listing.c target/staticlib/libaddercoil.a -o c-listing
+ * tools/archive && gcc -std=c99 -Iinclude examples/c/listing.c target/staticlib/libaddercoil.a -o c-listing
  *
  * On a machine that is not x86-64, say tools/cc for gcc, and run it with tools/run.
  */

@@ -1,10 +1,13 @@
 """Cases of readings_vectors.
 
 A record: question, a, b, code high byte, code low byte. A line: the reading, or `refused 8`.
+The last question is of a whole body: a is its layout, and 15 fields of eight bytes follow, TYPE first, then the others in
+the order of their bits, then zeros. A line: the layout and its readings, or `refused 8`.
 """
 
 from random import Random
 
+import messages
 import published
 import readings
 from refusals import answer
@@ -22,6 +25,16 @@ QUESTIONS = [
     ("character", 6, 8, lambda a, b, code: readings.character(code)),
 ]
 NUMBER = {name: question for question, (name, _, _, _) in enumerate(QUESTIONS)}
+BODY = len(QUESTIONS)
+# layout: its name, its fields after TYPE, and the TYPEs with their subtypes that it has
+LAYOUTS = [
+    ("identification", messages.IDENTIFICATION, [(code, None) for code in (1, 2, 3, 4)]),
+    ("surface", messages.SURFACE, [(code, None) for code in (5, 6, 7, 8)]),
+    ("airborne", messages.AIRBORNE, [(code, None) for code in (9, 10, 17, 18, 20, 21, 22)]),
+    ("ground", messages.OVER_GROUND, [(19, 1), (19, 2)]),
+    ("air", messages.THROUGH_AIR, [(19, 3), (19, 4)]),
+]
+FIELDS = 15  # that a record carries
 
 
 def wide(width):
@@ -65,9 +78,60 @@ def asked():
             yield from ((name, 0, 0, code) for code in every)
 
 
+def widths(fields):
+    """How many bits each field of a layout has, TYPE the first."""
+    return {"TYPE": 5} | {name: last - first + 1 for name, first, last in fields}
+
+
+def random_body(chance, fields, type_code, subtype):
+    """A body of this layout, each code now and then at an end of its range."""
+    made = {}
+    for name, width in widths(fields).items():
+        last = (1 << width) - 1
+        made[name] = chance.choice([0, 1, 2, last - 1, last, *(chance.randint(0, last) for _ in range(5))])
+    return made | {"TYPE": type_code} | ({} if subtype is None else {"subtype": subtype})
+
+
+def bodies():
+    """The bodies asked for: layout and fields. Each kind that there is, published ones, then one field wrong."""
+    chance = Random(3)
+    for text, _ in [*published.FIELD_ROWS, *published.TEXTS]:
+        message = messages.decode(bytes.fromhex(text))
+        fields = messages.layout(message["TYPE"], message.get("subtype"))
+        number = next(number for number, (_, one, _) in enumerate(LAYOUTS) if one is fields)
+        yield number, {name: message[name] for name in widths(fields)}
+    for number, (_, fields, kinds) in enumerate(LAYOUTS):
+        for type_code, subtype in kinds:
+            for _ in range(8):
+                yield number, random_body(chance, fields, type_code, subtype)
+            good = random_body(chance, fields, type_code, subtype)
+            for name, width in widths(fields).items():
+                yield number, good | {name: 1 << width}  # one too wide
+                yield number, good | {name: (1 << width) - 1}
+        for wrong in (*range(32), 33, 51, 200, 255):
+            yield number, good | {"TYPE": wrong}
+        for wrong in (*range(8), 9, 10, 200, 255) if subtype else ():
+            yield number, good | {"subtype": wrong}
+
+
+def body_reading(number, message):
+    """The layout's name, and its readings with a comma after each but the last."""
+    name, fields, _ = LAYOUTS[number]
+    meant = readings.body(fields, message)
+    if "text" in meant:
+        meant["text"] = int.from_bytes(meant["text"].encode("ascii"), "big")
+    if "GNSS" in meant:
+        meant["GNSS"] = "GNSS" if meant["GNSS"] else "pressure"
+    return f"{name} {', '.join(str(value) for value in meant.values())}"
+
+
 def cases():
     """Records and their lines."""
     for name, a, b, code in asked():
         question = NUMBER[name]
         record = bytes([question, a, b]) + code.to_bytes(2, "big")
         yield record, answer(QUESTIONS[question][3], a, b, code)
+    for number, message in bodies():
+        fields = [*message.values(), *[0] * (FIELDS - len(message))]
+        record = bytes([BODY, number, 0, 0, 0]) + b"".join(value.to_bytes(8, "big") for value in fields)
+        yield record, answer(body_reading, number, message)

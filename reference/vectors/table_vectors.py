@@ -6,8 +6,7 @@ from math import floor
 from random import Random
 
 import published
-from positions import AIRBORNE, COUNTS, EVEN, FIGURES, ODD, SURFACE, UNIT, zones
-from positions import encode as counts_of
+from positions import AIRBORNE, COUNTS, EVEN, FIGURES, ODD, SURFACE, zones
 from table import BODY, POLE, body_of, key_at, length_of
 from tracks import Position, Saved, Track
 from traffic import (
@@ -738,9 +737,8 @@ SCRIPTS = [
 RANDOM_RUNS = [(51, 1, 100), (52, 2, 150), (53, 3, 150), (54, 4, 150), (55, 8, 200), (56, 2, 150), (57, 5, 150)]
 
 
-def run():
+def run(bench):
     """All scripts, one after the other, over one buffer."""
-    bench = Bench()
     for script in SCRIPTS:
         script(bench)
     for seed, places, steps in RANDOM_RUNS:
@@ -752,4 +750,4 @@ def run():
 
 def cases():
     """Records and their lines."""
-    return run().cases
+    return run(Bench()).cases

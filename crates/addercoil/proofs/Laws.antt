@@ -12,6 +12,7 @@ use lib.ListN.{length, getD, List·getD-eq-default}
 use Rattle.refusals.specs.declared.Refusal.{Refusal}
 use Rattle.refusals.specs.declared.Refusal.the-variants.{Length, Late, Parity, Format, TypeCode, Full, Places, Field, Latitude, Zones, Block}
 use Rattle.refusals.specs.Numbers.{numberOf}
+use Rattle.refusals.specs.Said.{gives}
 use Rattle.arrays.specs.Arrays.{filled}
 use Rattle.arrays.proofs.Filling.{filled-at}
 use Rattle.fields.specs.Bytes.{Bytes}
@@ -19,13 +20,13 @@ use Rattle.fields.proofs.Bools.{by-test}
 use Rattle.keys.specs.Keys.{endOfKeys}
 use Rattle.layouts.specs.declared.bodies.Body.{Body}
 use Rattle.layouts.specs.declared.bodies.Body.the-variants as body
+use Rattle.readings.specs.Bodies.{readingsOf}
 use Rattle.messages.specs.declared.Message.{Message}
 use Rattle.messages.specs.declared.Decoded.{Decoded}
 use Rattle.messages.specs.declared.Decoded.the-variants as decode
 use Rattle.encoder.specs.declared.Encoded.the-variants as encode
 use Rattle.messages.specs.Message.{decoded, messageFits}
 use Rattle.encoder.specs.Encoded.{encodedBytes}
-use Rattle.messages.specs.Table.{values}
 use Rattle.messages.proofs.BothWays as messages
 use Rattle.encoder.proofs.BothWays as encoder
 use Rattle.track.specs.declared.Track.{Track}
@@ -33,7 +34,8 @@ use Rattle.text.proofs.Fits.{header-most, row-most}
 use Rattle.lent.specs.Layout.{clockOf}
 use Rattle.report.specs.Listing.{rowOf as lineRow, counted, headerFor, lineFor}
 use Rattle.values.specs.From.{messageFrom}
-use Rattle.values.specs.Rows.{rowOf, bodyRow, messageRow}
+use Rattle.values.specs.declared.rows.Four.{Four}
+use Rattle.values.specs.Rows.{rowOf, bodyRow, fourOf, messageRow}
 use Rattle.values.specs.Same.{Same}
 use Rattle.values.proofs.BothWays.{from-row}
 use Rattle.values.proofs.ReadBack.{from-same}
@@ -43,25 +45,25 @@ use Rattle.addercoil.proofs.Encoding.{encode-right}
 
 -- ---- a row fills its array
 
-row-length : (m : Message) (b : Body) → length (bodyRow m b) ≡ 28
+row-length : (m : Message) (b : Body) (four : Four) → length (bodyRow m b four) ≡ 28
 unfolding rowOf
-row-length m (body.Identification b) = refl
-row-length m (body.Surface b) = refl
-row-length m (body.Airborne b) = refl
-row-length m (body.Ground b) = refl
-row-length m (body.Air b) = refl
+row-length m (body.Identification b) four = refl
+row-length m (body.Surface b) four = refl
+row-length m (body.Airborne b) four = refl
+row-length m (body.Ground b) four = refl
+row-length m (body.Air b) four = refl
 
-row-filled : (m : Message) (b : Body) → filled 28 (bodyRow m b) ≡ bodyRow m b
+row-filled : (m : Message) (b : Body) (four : Four) → filled 28 (bodyRow m b four) ≡ bodyRow m b four
 unfolding rowOf
-row-filled m (body.Identification b) = refl
-row-filled m (body.Surface b) = refl
-row-filled m (body.Airborne b) = refl
-row-filled m (body.Ground b) = refl
-row-filled m (body.Air b) = refl
+row-filled m (body.Identification b) four = refl
+row-filled m (body.Surface b) four = refl
+row-filled m (body.Airborne b) four = refl
+row-filled m (body.Ground b) four = refl
+row-filled m (body.Air b) four = refl
 
-row-into : (out : List ℕ) (m : Message) → length out ≡ 28 → into 28 out (values (messageRow m)) ≡ sent 0 (messageRow m)
+row-into : (out : List ℕ) (m : Message) → length out ≡ 28 → into 28 out (gives (messageRow m)) ≡ sent 0 (messageRow m)
 unfolding into
-row-into out m h = rw (eq-eqb _ _ h) (ap (sent 0) (ap (λ (n : ℕ). filled n (messageRow m)) h ∙ row-filled m (m .body)))
+row-into out m h = rw (eq-eqb _ _ h) (ap (sent 0) (ap (λ (n : ℕ). filled n (messageRow m)) h ∙ row-filled m (m .body) (fourOf (readingsOf (m .body)))))
 
 decoded-into : (s out : List ℕ) (m : Message) → length out ≡ 28 → decoded s ≡ decode.Message m → into 28 out (messageSaid (decoded s)) ≡ sent 0 (messageRow m)
 decoded-into s out m h d = ap (λ (x : Decoded). into 28 out (messageSaid x)) d ∙ row-into out m h
@@ -74,7 +76,7 @@ decoded-encoded s fields out m h f l d =
     let g = encoder.decoded-encoded s out m h l d in
     let fit = messages.decoded-good s m h d .0 in
     ap (λ (x : Sent). encodedFrom (x .array) out) (decoded-into s fields m f d)
-    ∙ sym (encode-right out (messageRow m) (rw (eq-eqb _ _ (row-length m (m .body)), eq-eqb _ _ l)) (sym (from-row m fit)) (sym (ap₂ sent (ap encodedNumber (g .0)) (g .1))))
+    ∙ sym (encode-right out (messageRow m) (rw (eq-eqb _ _ (row-length m (m .body) (fourOf (readingsOf (m .body)))), eq-eqb _ _ l)) (sym (from-row m fit)) (sym (ap₂ sent (ap encodedNumber (g .0)) (g .1))))
 
 -- ---- fields that are accepted, encoded and decoded, come back equal
 

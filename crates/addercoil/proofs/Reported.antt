@@ -9,8 +9,8 @@ use borrow.Author.Tests.{eq-eqb}
 use lib.Dec.{eqb}
 use lib.ListN.{length}
 use Rattle.refusals.specs.declared.Refusal.the-variants.{Places}
+use Rattle.refusals.specs.Said.{number, gives}
 use Rattle.arrays.proofs.Filling.{filled-zeros}
-use Rattle.messages.specs.Table.{number, values}
 use Rattle.track.specs.declared.Track.{Track}
 use Rattle.text.specs.Lines.{rowText, lineOf}
 use Rattle.offsets.specs.Offsets.{wholePlaces}
@@ -24,7 +24,7 @@ use Rattle.addercoil.specs.Sent.{Sent, sent, given}
 use Rattle.addercoil.specs.Lines.{headerSaid, lineSaid, reportSaid, Both, both, fedSaid, fedInto}
 
 module _ (out : List ℕ) where
-  with-text : (text : List ℕ) → given out (reportSaid (with text)) ≡ given out (values text)
+  with-text : (text : List ℕ) → given out (reportSaid (with text)) ≡ given out (gives text)
   unfolding lineOf
   with-text text = ap (sent 0) (filled-zeros (length out) text (96 - length text))
 
@@ -32,11 +32,11 @@ module _ (out : List ℕ) where
   unfolding headerIn headerSaid
   header-said s bad e = ap (λ (x : Report). given out (reportSaid x)) e ∙ by-test (wholePlaces (length s))
     where
-      by-test : (b : Bool) → given out (reportSaid (cond (not b) (without (Refused Places)) (with (headerFor s bad)))) ≡ given out (cond (not b) (number 7) (values (headerFor s bad)))
+      by-test : (b : Bool) → given out (reportSaid (cond (not b) (without (Refused Places)) (with (headerFor s bad)))) ≡ given out (cond (not b) (number 7) (gives (headerFor s bad)))
       by-test true = with-text (headerFor s bad)
       by-test false = refl
 
-  reported-said : (key : ℕ) (v : Option Track) → given out (reportSaid (reported key v)) ≡ given out (values (lineFor key v))
+  reported-said : (key : ℕ) (v : Option Track) → given out (reportSaid (reported key v)) ≡ given out (gives (lineFor key v))
   unfolding reported lineFor lineOf
   reported-said key none = ap (sent 0) (filled-zeros (length out) [] 96)
   reported-said key (some t) = with-text (rowText (rowOf key t))
@@ -45,7 +45,7 @@ module _ (out : List ℕ) where
   unfolding lineIn lineSaid
   line-said s key e = ap (λ (x : Report). given out (reportSaid x)) e ∙ by-test (wholePlaces (length s))
     where
-      by-test : (b : Bool) → given out (reportSaid (cond (not b) (without (Refused Places)) (reported key (view s key)))) ≡ given out (cond (not b) (number 7) (values (lineFor key (view s key))))
+      by-test : (b : Bool) → given out (reportSaid (cond (not b) (without (Refused Places)) (reported key (view s key)))) ≡ given out (cond (not b) (number 7) (gives (lineFor key (view s key))))
       by-test true = reported-said key (view s key)
       by-test false = refl
 

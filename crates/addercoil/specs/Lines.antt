@@ -4,7 +4,7 @@ use mathlib.Core.Bool.{cond, not}
 use mathlib.Core.List.{List, [], _∷_}
 use lib.ListN.{length}
 use Rattle.refusals.specs.Numbers.{numberOf}
-use Rattle.messages.specs.Table.{Said, number, values}
+use Rattle.refusals.specs.Said.{Said, number, gives}
 use Rattle.offsets.specs.Offsets.{wholePlaces}
 use Rattle.table.specs.Table.{After}
 use Rattle.table.specs.View.{view}
@@ -19,20 +19,20 @@ use Rattle.addercoil.specs.Sent.{Sent, given}
 -- ---- lines: a buffer holds the text, then zeros
 
 -- 7, or the header of the listing
-unfoldable pub headerSaid : List ℕ → ℕ → Said
-headerSaid s bad = cond (not (wholePlaces (length s))) (number 7) (values (headerFor s bad))
+unfoldable pub headerSaid : List ℕ → ℕ → Said (List ℕ)
+headerSaid s bad = cond (not (wholePlaces (length s))) (number 7) (gives (headerFor s bad))
 
 -- 7, or the line of a key; no text for one that is not held
-unfoldable pub lineSaid : List ℕ → ℕ → Said
-lineSaid s key = cond (not (wholePlaces (length s))) (number 7) (values (lineFor key (view s key)))
+unfoldable pub lineSaid : List ℕ → ℕ → Said (List ℕ)
+lineSaid s key = cond (not (wholePlaces (length s))) (number 7) (gives (lineFor key (view s key)))
 
 -- what a report says, by its line of 96 bytes
-abbrev pub printedSaid : Printed → List ℕ → Said
-printedSaid Text bytes = values bytes
-printedSaid Nothing bytes = values bytes
+abbrev pub printedSaid : Printed → List ℕ → Said (List ℕ)
+printedSaid Text bytes = gives bytes
+printedSaid Nothing bytes = gives bytes
 printedSaid (Refused r) bytes = number (numberOf r)
 
-abbrev pub reportSaid : Report → Said
+abbrev pub reportSaid : Report → Said (List ℕ)
 reportSaid r = printedSaid (r .answer) (r .line .bytes)
 
 -- ---- blocks
@@ -46,8 +46,8 @@ abbrev pub both : Sent → List ℕ → Both
 both x s = record { sent = x; table = s }
 
 -- the count of bad blocks
-abbrev pub fedSaid : Fed → Said
-fedSaid (feed.Bad n) = values (n ∷ [])
+abbrev pub fedSaid : Fed → Said (List ℕ)
+fedSaid (feed.Bad n) = gives (n ∷ [])
 fedSaid (feed.Refused r) = number (numberOf r)
 
 unfoldable pub fedInto : List ℕ → After Fed → Both

@@ -5,12 +5,12 @@ use mathlib.Core.List.{List, [], _∷_}
 use lib.Dec.{eqb}
 use lib.ListN.{length}
 use Rattle.refusals.specs.Numbers.{numberOf}
+use Rattle.refusals.specs.Said.{Said, number, gives}
 use Rattle.messages.specs.declared.Decoded.{Decoded}
 use Rattle.messages.specs.declared.Decoded.the-variants as decode
 use Rattle.encoder.specs.declared.Encoded.{Encoded}
 use Rattle.encoder.specs.declared.Encoded.the-variants as encode
 use Rattle.encoder.specs.Encoded.{encoded, encodedBytes}
-use Rattle.messages.specs.Table.{Said, number, values}
 use Rattle.track.specs.declared.Track.{Track}
 use Rattle.answers.specs.declared.Holding.{Holding}
 use Rattle.answers.specs.declared.Holding.the-variants as holding
@@ -21,17 +21,17 @@ use Rattle.values.specs.Tracks.{trackRow}
 use Rattle.addercoil.specs.Sent.{Sent, sent}
 
 -- the track of a key that is held; zeros for one that is not
-abbrev pub heldSaid : Track → Holding → Said
-heldSaid t holding.Held = values (trackRow t)
-heldSaid t holding.Unheld = values (0 ∷ [])
+abbrev pub heldSaid : Track → Holding → Said (List ℕ)
+heldSaid t holding.Held = gives (trackRow t)
+heldSaid t holding.Unheld = gives (0 ∷ [])
 heldSaid t (holding.Refused r) = number (numberOf r)
 
-abbrev pub lookedSaid : Looked → Said
+abbrev pub lookedSaid : Looked → Said (List ℕ)
 lookedSaid l = heldSaid (l .track) (l .answer)
 
 -- a decoded message
-abbrev pub messageSaid : Decoded → Said
-messageSaid (decode.Message m) = values (messageRow m)
+abbrev pub messageSaid : Decoded → Said (List ℕ)
+messageSaid (decode.Message m) = gives (messageRow m)
 messageSaid (decode.Refused r) = number (numberOf r)
 
 -- the encoder's answer, and the bytes that it leaves

@@ -1,13 +1,13 @@
 -- The lent table for another language: each answer as a number of document 01's table, or as values.
 use Prim.Native.Nat.{ℕ}
 use mathlib.Core.Bool.{Bool, true, false, cond, _&&_}
-use mathlib.Core.List.{[], _∷_}
+use mathlib.Core.List.{List, [], _∷_}
 use lib.Dec.{leb}
 use Rattle.refusals.specs.Numbers.{numberOf}
+use Rattle.refusals.specs.Said.{Said, number, gives}
 use Rattle.offsets.specs.Offsets.{mostPlaces, tableSize}
 use Rattle.arrays.specs.Twos.{twos}
 use Rattle.messages.specs.declared.Decoded.{Decoded}
-use Rattle.messages.specs.Table.{Said, number, values}
 use Rattle.located.specs.declared.Site.{Site}
 use Rattle.answers.specs.declared.Heard.{Heard}
 use Rattle.answers.specs.declared.Heard.the-variants as hear
@@ -46,8 +46,8 @@ receivedSent a = sent (heardNumber (heardAs (a .answer))) (a .table)
 -- ---- what can be read of it
 
 -- the clock
-abbrev pub clockSaid : Clock → Said
-clockSaid (clock.At time) = values (time ∷ [])
+abbrev pub clockSaid : Clock → Said (List ℕ)
+clockSaid (clock.At time) = gives (time ∷ [])
 clockSaid (clock.Refused r) = number (numberOf r)
 
 abbrev pub bit : Bool → ℕ
@@ -55,15 +55,15 @@ bit true = 1
 bit false = 0
 
 -- whether there is a site, its latitude, its longitude
-abbrev pub siteValues : Site → Said
-siteValues s = values (bit (s .known) ∷ twos (s .spot .latitude) ∷ s .spot .longitude ∷ [])
+abbrev pub siteValues : Site → Said (List ℕ)
+siteValues s = gives (bit (s .known) ∷ twos (s .spot .latitude) ∷ s .spot .longitude ∷ [])
 
-abbrev pub siteSaid : Sited → Said
+abbrev pub siteSaid : Sited → Said (List ℕ)
 siteSaid (sited.Site s) = siteValues s
 siteSaid (sited.Refused r) = number (numberOf r)
 
 -- the key, or 0 at the end
-abbrev pub nextSaid : NextKey → Said
-nextSaid (next.Key key) = values (key ∷ [])
-nextSaid next.End = values (0 ∷ [])
+abbrev pub nextSaid : NextKey → Said (List ℕ)
+nextSaid (next.Key key) = gives (key ∷ [])
+nextSaid next.End = gives (0 ∷ [])
 nextSaid (next.Refused r) = number (numberOf r)

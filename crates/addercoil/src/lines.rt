@@ -8,13 +8,13 @@ ghost use mathlib.Core.Path.{_≡_};
 ghost use mathlib.Core.Bool.{cond, not};
 ghost use lib.Dec.{eqb};
 ghost use lib.ListN.{length};
-ghost use Rattle.messages.specs.Table.{values};
+ghost use Rattle.refusals.specs.Said.{gives};
 ghost use Rattle.feed.specs.Feed.{fedBlock};
 ghost use Rattle.addercoil.specs.Sent.{sent, given, into};
 ghost use Rattle.addercoil.specs.Lines.{headerSaid, lineSaid, reportSaid, both, fedSaid, fedInto};
 
 fn give_line(out: &mut [u8], line: Line) -> u32
-    ensures { λ r. ⌜ sent r (now (out .exit)) ≡ given (now (out .entry)) (values (line .bytes)) ⌝ }
+    ensures { λ r. ⌜ sent r (now (out .exit)) ≡ given (now (out .entry)) (gives (line .bytes)) ⌝ }
 {
     let bytes = line.bytes;
     arrays::fill_bytes(out, &bytes);

@@ -1,3 +1,4 @@
+pub mod Promised
 pub mod Ruled
 pub mod Spelled
 pub mod Unique

@@ -13,7 +13,7 @@ use Rattle.fields.specs.Bytes.{Bytes}
 use Rattle.fields.proofs.Tables.{at}
 use Rattle.division.specs.Division.{reduce, remainderFrom, bitsOf, stepped}
 use Rattle.division.specs.Table.{table}
-use Rattle.division.proofs.Linear.{below-24, bits-bits, added}
+use Rattle.division.proofs.Linear.{bits-bits, added}
 use Rattle.division.proofs.Small.{small, bit-value, bits-number}
 
 -- ---- the table
@@ -50,9 +50,6 @@ by-table r b hr hb =
     ∙ added (bitsOf (b ∷ [])) hi lo (omega arith) (omega arith) (bits-bits (b ∷ []))
     ∙ ap (bitXor (remainderFrom hi (bitsOf (0 ∷ [])))) (small-byte (bitsOf (b ∷ [])) lo b refl (byte-value b hb) (omega arith) hb)
     ∙ xor-comm (remainderFrom hi (bitsOf (0 ∷ []))) (lo * 256 + b)
-
-pub byte-below : (r b : ℕ) → r < 2 ^ 24 → remainderFrom r (bitsOf (b ∷ [])) < 2 ^ 24
-byte-below r b h = below-24 r (bitsOf (b ∷ [])) h (bits-bits (b ∷ []))
 
 -- the step by the table
 pub step-is : (r b : ℕ) → r < 2 ^ 24 → b < 256 → bitXor (r % 2 ^ 16 * 256) (getD table (bitXor (r / 2 ^ 16) b) 0) ≡ stepped r b

@@ -1,4 +1,4 @@
--- The two public functions both ways, for a buffer of 14 bytes: by the round trips of a message and its bytes.
+-- Decoding and encoding, one after the other, for a buffer of 14 bytes: by the round trips of a message and its bytes.
 -- Assumes nothing.
 use Prim.Native.Nat.{ℕ}
 use mathlib.Core.Path.{_≡_, refl}

@@ -11,9 +11,9 @@ use lib.Dec.{eqb}
 use lib.ListN.{length}
 use Rattle.refusals.specs.declared.Refusal.{Refusal}
 use Rattle.refusals.specs.declared.Refusal.the-variants.{Length, Field}
+use Rattle.refusals.specs.Said.{number, gives}
 use Rattle.fields.specs.Bytes.{Bytes}
 use Rattle.messages.specs.Message.{decoded, messageFits, messageBytes}
-use Rattle.messages.specs.Table.{number, values}
 use Rattle.messages.specs.declared.Message.{Message}
 use Rattle.messages.specs.declared.Decoded.the-variants as decode
 use Rattle.encoder.specs.declared.Encoded.the-variants as encode
@@ -32,14 +32,14 @@ refused-unchanged m out r e = unchanged (eqb (length out) 14) (messageFits m) (m
 
 by-tests : (a b : Bool) (x y : List ℕ)
     → wrote (cond (not a) (encode.Refused Length) (cond (not b) (encode.Refused Field) encode.Written)) (cond (a && b) x y)
-    ≡ cond (not a) (number 1) (cond (not b) (number 8) (values x))
+    ≡ cond (not a) (number 1) (cond (not b) (number 8) (gives x))
 by-tests true true x y = refl
 by-tests true false x y = refl
 by-tests false b x y = refl
 
 -- 1 for a buffer that is not of 14 bytes, then 8 for fields that no acceptable message has, else the message's bytes
 pub encoder-says : (m : Message) (out : List ℕ)
-    → wrote (encoded m out) (encodedBytes m out) ≡ cond (not (eqb (length out) 14)) (number 1) (cond (not (messageFits m)) (number 8) (values (messageBytes m)))
+    → wrote (encoded m out) (encodedBytes m out) ≡ cond (not (eqb (length out) 14)) (number 1) (cond (not (messageFits m)) (number 8) (gives (messageBytes m)))
 encoder-says m out = by-tests (eqb (length out) 14) (messageFits m) (messageBytes m) out
 
 -- the fields that are taken are just those that the decoder answers of some bytes

@@ -6,12 +6,12 @@ use lib.Dec.{eqb}
 use lib.ListN.{length}
 use Rattle.refusals.specs.declared.Refusal.the-variants.{Length, Field}
 use Rattle.refusals.specs.Numbers.{numberOf}
+use Rattle.refusals.specs.Said.{Said, number, gives}
 use Rattle.layouts.specs.Bodies.{bodyMe}
 use Rattle.layouts.specs.declared.bodies.Written.{Written}
 use Rattle.layouts.specs.declared.bodies.Written.the-variants as write
 use Rattle.messages.specs.declared.Message.{Message}
 use Rattle.messages.specs.Message.{messageFits, messageBytes}
-use Rattle.messages.specs.Table.{Said, number, values}
 use Rattle.encoder.specs.declared.Encoded.{Encoded}
 use Rattle.encoder.specs.declared.Encoded.the-variants as encode
 
@@ -31,6 +31,6 @@ abbrev pub encodedBytes : Message → List ℕ → List ℕ
 encodedBytes m out = cond (eqb (length out) 14 && messageFits m) (messageBytes m) out
 
 -- what that says in document 01's terms
-abbrev pub wrote : Encoded → List ℕ → Said
-wrote encode.Written out = values out
+abbrev pub wrote : Encoded → List ℕ → Said (List ℕ)
+wrote encode.Written out = gives out
 wrote (encode.Refused r) out = number (numberOf r)

@@ -1,4 +1,4 @@
--- What an answer tells of the table, of the count and of what is left: by the cases of the test of the table's length.
+-- What an answer tells of the table, of the count and of what is left: by the cases of the test of the table's length, and of the block's own rules.
 -- Assumes nothing.
 use Prim.Native.Nat.{ℕ}
 use mathlib.Core.Path.{_≡_, refl, sym, subst}
@@ -46,3 +46,8 @@ module _ (s b : List ℕ) (n : ℕ) {l : List ℕ} where
 
   pub block-refused : (r : Refusal) → after (Refused r) l ≡ fedBlock s b n → (wholePlaces (length s) ≡ false) × (r ≡ Places) × (l ≡ s)
   block-refused r e = subst (Tells s (counted n (good b)) (blockInto s b)) (sym e) (block-tells s b n)
+
+-- a bad block is skipped: not one of its records is received
+pub bad-skipped : (s b : List ℕ) → good b ≡ false → blockInto s b ≡ s
+unfolding blockInto
+bad-skipped s b e = rw e

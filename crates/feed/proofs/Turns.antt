@@ -1,4 +1,4 @@
--- The two forms agree: a capture's blocks fed in turn, from the count 0, answer and leave what the capture fed as a whole does. By the number of blocks; the table stays
+-- The two functions agree: a capture's blocks fed in turn, from the count 0, answer and leave what the capture fed as a whole does. By the number of blocks; the table stays
 -- whole on the way, and fewer than 2^64 bad blocks do not reach the count's end.
 -- Assumes nothing.
 use Prim.Native.Nat.{ℕ, zero, suc, _^_, _<_}

@@ -37,3 +37,8 @@ both p q = rw (p, q)
 pub by-test : {A : Type 0} (P : A → Type 0) (t : Bool) (x y : A) → (t ≡ true → P x) → (t ≡ false → P y) → P (cond t x y)
 by-test P true x y p q = p refl
 by-test P false x y p q = q refl
+
+-- two ways through a choice agree if they agree on each of the two
+pub through : {A B C : Type 0} (f : A → C) (g : B → C) (t : Bool) {a b : A} {x y : B} → f a ≡ g x → f b ≡ g y → f (cond t a b) ≡ g (cond t x y)
+through f g true p q = p
+through f g false p q = q

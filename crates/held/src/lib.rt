@@ -10,7 +10,7 @@ ghost use Rattle.offsets.specs.Offsets.{bodySize};
 ghost use Rattle.held.specs.Ranges.{inRange, held};
 
 // Whether the key and every value of the body is in its range.
-pub fn in_range(key: u32, p: &[u8]) -> bool
+fn in_range(key: u32, p: &[u8]) -> bool
     requires { ⌜ length (now p) ≡ bodySize ⌝ }
     ensures { λ r. ⌜ r ≡ inRange key (now (p .entry)) ⌝ }
 {

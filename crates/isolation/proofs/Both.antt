@@ -64,15 +64,15 @@ begun-is : (site : Site) (s : List ℕ) → rules.setUp bytes s site ≡ begun s
 begun-is site s = begun-by site s (site .known) refl
 
 -- of as many places, whatever they held
-pub set-up-agrees : (s : List ℕ) (ps : List Place) (site : Site) → East site → wholePlaces (length s) ≡ placesFit (length ps) → placesIn s ≡ length ps
-    → AlikeSet bytes slice (begun site s) (tracks.setUp ps site)
-set-up-agrees s ps site east size count =
-    subst (λ (b : table.After SetUp). AlikeSet bytes slice b (tracks.setUp ps site)) (begun-is site s)
-    (any.set-up-agrees bytes slice bytes-lawful slice-lawful s _ site east size count)
+pub set-up-agrees : (s : List ℕ) (head : Head) (ps : List Place) (site : Site) → East site → wholePlaces (length s) ≡ placesFit (length ps) → placesIn s ≡ length ps
+    → AlikeSet bytes slice (begun site s) (tracks.setUp ps head site)
+set-up-agrees s head ps site east size count =
+    subst (λ (b : table.After SetUp). AlikeSet bytes slice b (tracks.setUp ps head site)) (begun-is site s)
+    (any.set-up-agrees bytes slice bytes-lawful slice-lawful s (sliceOf head ps) site east size count)
 
 -- ---- a table in bytes of as many places, and all calls after the set-ups of both
 
-module _ (ps : List Place) (f : placesFit (length ps) ≡ true) where
+module _ (head : Head) (ps : List Place) (f : placesFit (length ps) ≡ true) where
   fitting : (1 ≤ length ps) × (length ps ≤ mostPlaces)
   unfolding placesFit
   fitting = let e = each (leb 1 (length ps)) (leb (length ps) mostPlaces) f in (leb-true 1 (length ps) (e .0), leb-true (length ps) mostPlaces (e .1))
@@ -86,5 +86,5 @@ module _ (ps : List Place) (f : placesFit (length ps) ≡ true) where
   twin-count : placesIn (twinOf ps) ≡ length ps
   twin-count = count-of (length ps) (twinOf ps) long
 
-  pub set-up-runs : (site : Site) → East site → tracks.setUp ps site .answer ≡ Done → (cs : List Call) → AlikeRuns bytes slice (begun site (twinOf ps) .table) (tracks.setUp ps site .table) cs
-  set-up-runs site east d cs = any.runs-agree bytes slice bytes-lawful slice-lawful _ _ (set-up-agrees (twinOf ps) ps site east twin-size twin-count .left d) cs
+  pub set-up-runs : (site : Site) → East site → tracks.setUp ps head site .answer ≡ Done → (cs : List Call) → AlikeRuns bytes slice (begun site (twinOf ps) .table) (tracks.setUp ps head site .table) cs
+  set-up-runs site east d cs = any.runs-agree bytes slice bytes-lawful slice-lawful _ _ (set-up-agrees (twinOf ps) head ps site east twin-size twin-count .left d) cs

@@ -20,11 +20,10 @@ use Rattle.located.specs.declared.Site.{Site}
 use Rattle.answers.specs.declared.SetUp.{SetUp}
 use Rattle.answers.specs.declared.SetUp.the-variants.{Done}
 use Rattle.rules.specs.Form.{East}
-use Rattle.rules.specs.Rules.{received}
-use Rattle.slots.specs.declared.Place.{Place}
+use Rattle.rules.specs.Rules.{setUp, received}
 use Rattle.tracks.specs.Slice.{Slice, sliceOf, slice}
-use Rattle.tracks.specs.Tracks.{After, after, setUp}
-use Rattle.tracks.proofs.Clauses.{so-too, both-say}
+use Rattle.tracks.specs.Tracks.{After, after}
+use Rattle.refusals.proofs.Clauses.{so-too, both-say}
 use Rattle.tracks.proofs.Lawful.{slice-lawful}
 use Rattle.tracks.proofs.set_up as set-up
 use Rattle.tracks.proofs.receive as receive
@@ -35,15 +34,15 @@ use Rattle.isolation.proofs.Played.{played-isolated}
 module _ {M : Type 1} (𝓤 : URA M) (H : Heap 𝓤) (A : Atoms 𝓤) (mem : Memory → SProp 𝓤) (run : Routine → Fun 𝓤) where
   -- ---- calls, and their clauses
 
-  -- `set_up` was lent the places and given the site; what it answered, with the head, and the places that it left are r
-  pub record Begun (site : Site) (ps : List Place) (r : After SetUp) : Type 0 where
+  -- `set_up` was lent the places, and was given the head and the site; what it answered, with the head, and the places that it left are r
+  pub record Begun (site : Site) (s : Slice) (r : After SetUp) : Type 0 where
     pub κs : Lfts (set-up.ended .signature .lifetimes)
     pub args : Args (set-up.ended .signature) κs
     pub ghost : set-up.clauses 𝓤 H A mem run κs args .ghost
     pub result : Res (set-up.ended .signature) κs
     pub left : AtExit set-up.ended κs
-    pub lent : now (args .0) ≡ ps
-    pub given : args .1 .0 ≡ site
+    pub lent : sliceOf (args .1 .0) (now (args .0)) ≡ s
+    pub given : args .1 .1 .0 ≡ site
     pub leaves : after (result .answer) (result .head) (now (left .0)) ≡ r
 
   -- `receive` was lent the places and the call's bytes, and was given the head and the time
@@ -64,7 +63,7 @@ module _ {M : Type 1} (𝓤 : URA M) (H : Heap 𝓤) (A : Atoms 𝓤) (mem : Mem
     then : {s : Slice} {c : Call} {r : After Decoded} {cs : List Call} {rs : List (After Decoded)} → Received s c r → Ran (r .table) cs rs → Ran s (c ∷ cs) (r ∷ rs)
 
   -- what their contracts promise, as clauses of the logic
-  abbrev pub begun : {site : Site} {ps : List Place} {r : After SetUp} → Begun site ps r → SProp 𝓤
+  abbrev pub begun : {site : Site} {s : Slice} {r : After SetUp} → Begun site s r → SProp 𝓤
   begun b = set-up.clauses 𝓤 H A mem run (b .κs) (b .args) .ensures (b .ghost) (b .result) (b .left)
 
   abbrev pub ran : {s : Slice} {cs : List Call} {rs : List (After Decoded)} → Ran s cs rs → SProp 𝓤
@@ -73,8 +72,8 @@ module _ {M : Type 1} (𝓤 : URA M) (H : Heap 𝓤) (A : Atoms 𝓤) (mem : Mem
 
   -- ---- they did what the rules say
 
-  begun-is : {site : Site} {ps : List Place} {r : After SetUp} (b : Begun site ps r) → ent 𝓤 (begun b) (fact 𝓤 (r ≡ setUp ps site))
-  begun-is b = so-too 𝓤 _ _ (λ p. sym (b .leaves) ∙ p ∙ ap₂ setUp (b .lent) (b .given))
+  begun-is : {site : Site} {s : Slice} {r : After SetUp} (b : Begun site s r) → ent 𝓤 (begun b) (fact 𝓤 (r ≡ setUp slice s site))
+  begun-is b = so-too 𝓤 _ _ (λ p. sym (b .leaves) ∙ p ∙ ap₂ (setUp slice) (b .lent) (b .given))
 
   ran-played : {s : Slice} {cs : List Call} {rs : List (After Decoded)} (w : Ran s cs rs) → ent 𝓤 (ran w) (fact 𝓤 (Played slice s cs rs))
   ran-played (stopped s) = factI 𝓤 _ (emp 𝓤) tt
@@ -85,11 +84,11 @@ module _ {M : Type 1} (𝓤 : URA M) (H : Heap 𝓤) (A : Atoms 𝓤) (mem : Mem
       (ran-played more) (λ p q. (p, q))
 
   -- two runs of the code from a set-up each, alike for an aircraft, show it the same
-  pub slice-code-isolated : (key : ℕ) (site : Site) → East site → (ps qs : List Place) (a b : After SetUp) (u : Begun site ps a) (v : Begun site qs b) → a .answer ≡ Done → b .answer ≡ Done
+  pub slice-code-isolated : (key : ℕ) (site : Site) → East site → (s t : Slice) (a b : After SetUp) (u : Begun site s a) (v : Begun site t b) → a .answer ≡ Done → b .answer ≡ Done
       → {xs ys : List Call} → Alike key xs ys → {rs zs : List (After Decoded)} (x : Ran (a .table) xs rs) (y : Ran (b .table) ys zs) → NotFull key xs rs → NotFull key ys zs
       → ent 𝓤 (sep 𝓤 (sep 𝓤 (begun u) (ran x)) (sep 𝓤 (begun v) (ran y))) (fact 𝓤 (shown slice key xs rs ≡ shown slice key ys zs))
-  slice-code-isolated key site east ps qs a b u v d e {xs} {ys} alike {rs} {zs} x y f g =
-      both-say 𝓤 (sep 𝓤 (begun u) (ran x)) (sep 𝓤 (begun v) (ran y)) ((a ≡ setUp ps site) × Played slice (a .table) xs rs) ((b ≡ setUp qs site) × Played slice (b .table) ys zs) _
+  slice-code-isolated key site east s t a b u v d e {xs} {ys} alike {rs} {zs} x y f g =
+      both-say 𝓤 (sep 𝓤 (begun u) (ran x)) (sep 𝓤 (begun v) (ran y)) ((a ≡ setUp slice s site) × Played slice (a .table) xs rs) ((b ≡ setUp slice t site) × Played slice (b .table) ys zs) _
       (both-say 𝓤 (begun u) (ran x) _ _ _ (begun-is u) (ran-played x) (λ p q. (p, q)))
       (both-say 𝓤 (begun v) (ran y) _ _ _ (begun-is v) (ran-played y) (λ p q. (p, q)))
-      (λ p q. played-isolated slice slice slice-lawful slice-lawful key site east _ _ a b (p .0) (q .0) d e xs ys alike rs zs (p .1) (q .1) f g)
+      (λ p q. played-isolated slice slice slice-lawful slice-lawful key site east s t a b (p .0) (q .0) d e xs ys alike rs zs (p .1) (q .1) f g)

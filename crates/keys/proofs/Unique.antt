@@ -6,8 +6,6 @@ use Rattle.keys.proofs.letter_in.Kinds as letter-in-kinds
 use Rattle.keys.proofs.letter_in.Reads as letter-in
 use Rattle.keys.proofs.key_for.Kinds as key-for-kinds
 use Rattle.keys.proofs.key_for.Reads as key-for
-use Rattle.keys.proofs.kind_in.Kinds as kind-in-kinds
-use Rattle.keys.proofs.kind_in.Reads as kind-in
 use Rattle.keys.proofs.address_in.Kinds as address-in-kinds
 use Rattle.keys.proofs.address_in.Reads as address-in
 use Rattle.keys.proofs.is_key.Kinds as is-key-kinds
@@ -18,9 +16,6 @@ letter-in-once κs args x y left left′ p q = p ∙ sym q
 
 pub key-for-once : OneAnswer 0 key-for-kinds.ps key-for-kinds.r key-for.Post
 key-for-once κs args x y left left′ p q = p ∙ sym q
-
-pub kind-in-once : OneAnswer 0 kind-in-kinds.ps kind-in-kinds.r kind-in.Post
-kind-in-once κs args x y left left′ p q = p ∙ sym q
 
 pub address-in-once : OneAnswer 0 address-in-kinds.ps address-in-kinds.r address-in.Post
 address-in-once κs args x y left left′ p q = p ∙ sym q

@@ -38,7 +38,7 @@ pub fn key_for(kind: Kind, address: u32) -> u32
 }
 
 // A key's kind; of a number that is no key the kind of the nearest.
-pub fn kind_in(key: u32) -> Kind
+fn kind_in(key: u32) -> Kind
     ensures { λ r. ⌜ r ≡ kindIn key ⌝ }
 {
     if key < 0x200_0000 { Kind::I } else { Kind::O }

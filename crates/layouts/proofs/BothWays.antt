@@ -16,7 +16,7 @@ use Rattle.fields.proofs.Bools.{and-left, and-right, both, by-test}
 use Rattle.fields.proofs.Fits.{fits-fit, unpack-fits}
 use Rattle.fields.proofs.Packing.{pack-unpack, pack-lt}
 use Rattle.layouts.specs.Layouts.{isIdentification, isSurface, isAirborne, identificationWidths, surfaceWidths, airborneWidths}
-use Rattle.velocity.specs.Velocity.{isGround, isAir, velocityWidths}
+use Rattle.layouts.specs.Velocity.{isGround, isAir, velocityWidths}
 use Rattle.layouts.specs.Bodies.{layoutAt, takenAs, taken, bodyFields, bodyWidths, typeAgrees, bodyMe, bodyFits, written}
 use Rattle.layouts.specs.declared.bodies.Body.{Body}
 use Rattle.layouts.specs.declared.bodies.Body.the-variants as body

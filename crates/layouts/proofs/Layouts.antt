@@ -7,13 +7,13 @@ use lib.ListN.{getD}
 use Rattle.fields.specs.Packing.{pack, unpack, Fit}
 use Rattle.fields.proofs.Packing.{unpack-pack}
 use Rattle.layouts.specs.Layouts.{identificationFields, surfaceFields, airborneFields, identificationWidths, surfaceWidths, airborneWidths}
-use Rattle.velocity.specs.Velocity.{groundFields, airFields, velocityWidths}
+use Rattle.layouts.specs.Velocity.{groundFields, airFields, velocityWidths}
 use Rattle.layouts.specs.declared.identification.Identification.{Identification}
 use Rattle.layouts.specs.declared.surface.Surface.{Surface}
 use Rattle.layouts.specs.declared.airborne.Airborne.{Airborne}
-use Rattle.velocity.specs.declared.Vertical.{Vertical}
-use Rattle.velocity.specs.declared.Ground.{Ground}
-use Rattle.velocity.specs.declared.Air.{Air}
+use Rattle.layouts.specs.declared.velocity.Vertical.{Vertical}
+use Rattle.layouts.specs.declared.velocity.Ground.{Ground}
+use Rattle.layouts.specs.declared.velocity.Air.{Air}
 
 -- a layout: a struct with its widths, its fields, and the struct that a list of fields makes
 pub record Layout (B : Type 0) : Type 0 where

@@ -14,6 +14,16 @@ use Rattle.layouts.proofs.bodies.me_of.Kinds as me-of-kinds
 use Rattle.layouts.proofs.bodies.me_of.Reads as me-of
 use Rattle.layouts.proofs.surface.surface_of.Kinds as surface-of-kinds
 use Rattle.layouts.proofs.surface.surface_of.Reads as surface-of
+use Rattle.layouts.proofs.airborne.airborne_fits.Kinds as airborne-fits-kinds
+use Rattle.layouts.proofs.airborne.airborne_fits.Reads as airborne-fits
+use Rattle.layouts.proofs.identification.identification_fits.Kinds as identification-fits-kinds
+use Rattle.layouts.proofs.identification.identification_fits.Reads as identification-fits
+use Rattle.layouts.proofs.surface.surface_fits.Kinds as surface-fits-kinds
+use Rattle.layouts.proofs.surface.surface_fits.Reads as surface-fits
+use Rattle.layouts.proofs.velocity.ground_fits.Kinds as ground-fits-kinds
+use Rattle.layouts.proofs.velocity.ground_fits.Reads as ground-fits
+use Rattle.layouts.proofs.velocity.air_fits.Kinds as air-fits-kinds
+use Rattle.layouts.proofs.velocity.air_fits.Reads as air-fits
 
 pub body-of-once : OneAnswer 0 body-of-kinds.ps body-of-kinds.r body-of.Post
 body-of-once κs args x y left left′ p q = p ∙ sym q
@@ -32,3 +42,18 @@ surface-of-once κs args x y left left′ p q = p ∙ sym q
 
 pub airborne-of-once : OneAnswer 0 airborne-of-kinds.ps airborne-of-kinds.r airborne-of.Post
 airborne-of-once κs args x y left left′ p q = p ∙ sym q
+
+pub airborne-fits-once : OneAnswer 0 airborne-fits-kinds.ps airborne-fits-kinds.r airborne-fits.Post
+airborne-fits-once κs args x y left left′ p q = p ∙ sym q
+
+pub identification-fits-once : OneAnswer 0 identification-fits-kinds.ps identification-fits-kinds.r identification-fits.Post
+identification-fits-once κs args x y left left′ p q = p ∙ sym q
+
+pub surface-fits-once : OneAnswer 0 surface-fits-kinds.ps surface-fits-kinds.r surface-fits.Post
+surface-fits-once κs args x y left left′ p q = p ∙ sym q
+
+pub ground-fits-once : OneAnswer 0 ground-fits-kinds.ps ground-fits-kinds.r ground-fits.Post
+ground-fits-once κs args x y left left′ p q = p ∙ sym q
+
+pub air-fits-once : OneAnswer 0 air-fits-kinds.ps air-fits-kinds.r air-fits.Post
+air-fits-once κs args x y left left′ p q = p ∙ sym q

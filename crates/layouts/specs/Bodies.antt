@@ -1,6 +1,6 @@
 -- ME as a whole: its layout by TYPE and subtype, or the refusal.
 use Prim.Native.Nat.{ℕ}
-use mathlib.Core.List.{List}
+use mathlib.Core.List.{List, []}
 use mathlib.Core.Bool.{Bool, true, false, cond, _&&_}
 use Rattle.refusals.specs.declared.Refusal.the-variants.{TypeCode, Field}
 use Rattle.fields.specs.Packing.{pack, fits, me}
@@ -13,7 +13,7 @@ use Rattle.layouts.specs.declared.bodies.Taken.the-variants as read
 use Rattle.layouts.specs.declared.bodies.Written.{Written}
 use Rattle.layouts.specs.declared.bodies.Written.the-variants as write
 use Rattle.layouts.specs.Layouts.{isIdentification, isSurface, isAirborne, identificationOf, surfaceOf, airborneOf, identificationFields, surfaceFields, airborneFields, identificationWidths, surfaceWidths, airborneWidths}
-use Rattle.velocity.specs.Velocity.{isGround, isAir, groundOf, airOf, groundFields, airFields, velocityWidths}
+use Rattle.layouts.specs.Velocity.{isGround, isAir, groundOf, airOf, groundFields, airFields, velocityWidths}
 
 -- by TYPE and subtype; any other is not taken
 abbrev pub layoutAt : ℕ → ℕ → Layout
@@ -49,7 +49,23 @@ takenAs layout.NotTaken n = read.Refused TypeCode
 abbrev pub taken : ℕ → Taken
 taken n = takenAs (layoutOf n) n
 
--- the fields in the order of their bits, how many bits each has, and whether TYPE and subtype are those of the layout
+-- how many bits each field of a layout has, in the order of their bits
+abbrev pub layoutWidths : Layout → List ℕ
+layoutWidths layout.Identification = identificationWidths
+layoutWidths layout.Surface = surfaceWidths
+layoutWidths layout.Airborne = airborneWidths
+layoutWidths layout.Ground = velocityWidths
+layoutWidths layout.Air = velocityWidths
+layoutWidths layout.NotTaken = []
+
+-- a body's layout, its fields in the order of their bits, how many bits each has, and whether TYPE and subtype are those of the layout
+abbrev pub bodyLayout : Body → Layout
+bodyLayout (body.Identification b) = layout.Identification
+bodyLayout (body.Surface b) = layout.Surface
+bodyLayout (body.Airborne b) = layout.Airborne
+bodyLayout (body.Ground b) = layout.Ground
+bodyLayout (body.Air b) = layout.Air
+
 abbrev pub bodyFields : Body → List ℕ
 bodyFields (body.Identification b) = identificationFields b
 bodyFields (body.Surface b) = surfaceFields b
@@ -58,11 +74,7 @@ bodyFields (body.Ground b) = groundFields b
 bodyFields (body.Air b) = airFields b
 
 abbrev pub bodyWidths : Body → List ℕ
-bodyWidths (body.Identification b) = identificationWidths
-bodyWidths (body.Surface b) = surfaceWidths
-bodyWidths (body.Airborne b) = airborneWidths
-bodyWidths (body.Ground b) = velocityWidths
-bodyWidths (body.Air b) = velocityWidths
+bodyWidths b = layoutWidths (bodyLayout b)
 
 abbrev pub typeAgrees : Body → Bool
 typeAgrees (body.Identification b) = isIdentification (b .typecode)

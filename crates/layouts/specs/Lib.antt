@@ -1,2 +1,4 @@
 pub mod Bodies
 pub mod Layouts
+pub mod Said
+pub mod Velocity

@@ -46,7 +46,8 @@ pub(crate) fn airborne_me(b: Airborne) -> u64
         + (b.longitude.0 as u64)
 }
 
-pub(crate) fn airborne_fits(b: Airborne) -> bool
+// Whether each field fits its bits, and TYPE is of this layout.
+pub fn airborne_fits(b: Airborne) -> bool
     ensures { λ r. ⌜ r ≡ (fits airborneWidths (airborneFields b) && isAirborne (b .typecode)) ⌝ }
 {
     let t = b.typecode;

@@ -31,7 +31,8 @@ pub(crate) fn identification_me(b: Identification) -> u64
         + b.characters
 }
 
-pub(crate) fn identification_fits(b: Identification) -> bool
+// Whether each field fits its bits, and TYPE is of this layout.
+pub fn identification_fits(b: Identification) -> bool
     ensures { λ r. ⌜ r ≡ (fits identificationWidths (identificationFields b) && isIdentification (b .typecode)) ⌝ }
 {
     (b.typecode < 32)

@@ -47,7 +47,8 @@ pub(crate) fn surface_me(b: Surface) -> u64
         + (b.longitude.0 as u64)
 }
 
-pub(crate) fn surface_fits(b: Surface) -> bool
+// Whether each field fits its bits, and TYPE is of this layout.
+pub fn surface_fits(b: Surface) -> bool
     ensures { λ r. ⌜ r ≡ (fits surfaceWidths (surfaceFields b) && isSurface (b .typecode)) ⌝ }
 {
     (b.typecode < 32)

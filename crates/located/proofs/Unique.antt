@@ -6,8 +6,6 @@ use Rattle.located.proofs.no_position.Kinds as no-position-kinds
 use Rattle.located.proofs.no_position.Reads as no-position
 use Rattle.located.proofs.no_site.Kinds as no-site-kinds
 use Rattle.located.proofs.no_site.Reads as no-site
-use Rattle.located.proofs.format_of.Kinds as format-of-kinds
-use Rattle.located.proofs.format_of.Reads as format-of
 use Rattle.located.proofs.airborne_position.Kinds as airborne-position-kinds
 use Rattle.located.proofs.airborne_position.Reads as airborne-position
 use Rattle.located.proofs.surface_position.Kinds as surface-position-kinds
@@ -18,9 +16,6 @@ no-position-once κs args x y left left′ p q = p ∙ sym q
 
 pub no-site-once : OneAnswer 0 no-site-kinds.ps no-site-kinds.r no-site.Post
 no-site-once κs args x y left left′ p q = p ∙ sym q
-
-pub format-of-once : OneAnswer 0 format-of-kinds.ps format-of-kinds.r format-of.Post
-format-of-once κs args x y left left′ p q = p ∙ sym q
 
 pub airborne-position-once : OneAnswer 0 airborne-position-kinds.ps airborne-position-kinds.r airborne-position.Post
 airborne-position-once κs args x y left left′ p q = p ∙ sym q

@@ -1,11 +1,12 @@
-// Where a message puts its aircraft: by its partner, or by one reference, or nowhere new.
+// Where a message puts its aircraft: by its partner, or by one reference, or nowhere new. What is read and is out of its range earns 8, which is passed on.
 use positions::Counts;
 use positions::Format;
 use positions::Found;
 use positions::Spot;
 use positions::Turn;
+use refusals::Refusal;
 ghost use mathlib.Core.Path.{_≡_};
-ghost use Rattle.located.specs.Located.{noPosition, noSite, formatOf, isWithin, isFresh, foundAt, settled, readNear, readSingly, afterPair, pairedWith, airbornePosition, surfacePosition};
+ghost use Rattle.located.specs.Located.{noPosition, noSite, isWithin, isFresh, foundAt, passedOn, settled, readNear, readSingly, afterPair, pairedWith, airbornePosition, surfacePosition};
 
 // An encoded position, airborne, with its time.
 pub struct Saved {
@@ -24,6 +25,12 @@ pub struct Position {
 pub struct Site {
     pub known: bool,
     pub spot: Spot,
+}
+
+// The position after a message, or 8.
+pub enum Placed {
+    At(Position),
+    Refused(Refusal),
 }
 
 pub fn no_position() -> Position
@@ -49,12 +56,6 @@ pub fn no_site() -> Site
             longitude: 0,
         },
     }
-}
-
-pub fn format_of(f: u8) -> Format
-    ensures { λ r. ⌜ r ≡ formatOf f ⌝ }
-{
-    if f == 0 { Format::Even } else { Format::Odd }
 }
 
 fn is_within(most: u64, clock: u64, time: u64) -> bool
@@ -84,12 +85,23 @@ fn found_at(spot: Spot, time: u64) -> Position
     }
 }
 
-fn settle(found: Found, p: Position, time: u64) -> Position
+// 8 is passed on; of 9 and 10 something else comes.
+fn pass_on(r: Refusal, other: Placed) -> Placed
+    ensures { λ x. ⌜ x ≡ passedOn r other ⌝ }
+{
+    if refusals::number(r) == 8 {
+        Placed::Refused(r)
+    } else {
+        other
+    }
+}
+
+fn settle(found: Found, p: Position, time: u64) -> Placed
     ensures { λ r. ⌜ r ≡ settled found p time ⌝ }
 {
     match found {
-        Found::At(spot) => found_at(spot, time),
-        Found::Refused(_) => p,
+        Found::At(spot) => Placed::At(found_at(spot, time)),
+        Found::Refused(r) => pass_on(r, Placed::At(p)),
     }
 }
 
@@ -100,21 +112,21 @@ fn read_near(
     turn: Turn,
     format: Format,
     time: u64,
-) -> Position
+) -> Placed
     ensures { λ r. ⌜ r ≡ readNear reference p counts turn format time ⌝ }
 {
     settle(positions::single(reference, counts, turn, format), p, time)
 }
 
 // An airborne message without its partner.
-fn read_singly(p: Position, counts: Counts, format: Format, time: u64) -> Position
+fn read_singly(p: Position, counts: Counts, format: Format, time: u64) -> Placed
     ensures { λ r. ⌜ r ≡ readSingly p counts format time ⌝ }
 {
     if is_fresh(p, time) {
         let spot = p.spot;
         read_near(spot, p, counts, Turn::Airborne, format, time)
     } else {
-        p
+        Placed::At(p)
     }
 }
 
@@ -127,12 +139,12 @@ fn paired_with(partner: Counts, counts: Counts, format: Format) -> Found
     }
 }
 
-fn after_pair(found: Found, p: Position, counts: Counts, format: Format, time: u64) -> Position
+fn after_pair(found: Found, p: Position, counts: Counts, format: Format, time: u64) -> Placed
     ensures { λ r. ⌜ r ≡ afterPair found p counts format time ⌝ }
 {
     match found {
-        Found::At(spot) => found_at(spot, time),
-        Found::Refused(_) => read_singly(p, counts, format, time),
+        Found::At(spot) => Placed::At(found_at(spot, time)),
+        Found::Refused(r) => pass_on(r, read_singly(p, counts, format, time)),
     }
 }
 
@@ -142,7 +154,7 @@ pub fn airborne_position(
     counts: Counts,
     format: Format,
     time: u64,
-) -> Position
+) -> Placed
     ensures { λ r. ⌜ r ≡ airbornePosition p partner counts format time ⌝ }
 {
     if partner.known & is_within(10000, time, partner.time) {
@@ -159,7 +171,7 @@ pub fn surface_position(
     counts: Counts,
     format: Format,
     time: u64,
-) -> Position
+) -> Placed
     ensures { λ r. ⌜ r ≡ surfacePosition p site counts format time ⌝ }
 {
     if is_fresh(p, time) {
@@ -170,5 +182,5 @@ pub fn surface_position(
         let spot = site.spot;
         return read_near(spot, p, counts, Turn::Surface, format, time);
     }
-    p
+    Placed::At(p)
 }

@@ -1,4 +1,4 @@
--- The answers to document 01's marked questions are its answers: both lists are computed.
+-- Each of document 01's marked questions has the answer beside it: both sides are computed, example by example.
 -- Assumes nothing.
 use mathlib.Core.Path.{_≡_, refl}
 use mathlib.Core.List.{map}
@@ -10,10 +10,10 @@ use Rattle.positions.specs.Positions.{allRound, whole, count, spotZones, counts
 use Rattle.division.specs.Division.{reduce, remainderFrom}
 use Rattle.parity.specs.Parity.{remainder}
 use Rattle.messages.specs.Message.{opened}
-use Rattle.marked.specs.Marked.{answer, questions, answers}
+use Rattle.marked.specs.Marked.{answer, answerTo, due, examples}
 
-pub marked : map answer questions ≡ answers
-unfolding answer questions answers
+pub marked : map answerTo examples ≡ map due examples
+unfolding answer examples
     altitudeOf byHundreds sixLess straight fiveHundreds hundreds grayStep speedOf rateOf amount signed times
     floor modulo nearest latitudes first zoneCount allRound whole count spotZones countsOf rounded roundedTurn inside
     pairZone inZone less360 pairLatitude pairLongitude pairNL pairSpot pairFound nearZone near nearSpot nearFound

@@ -1,37 +1,29 @@
--- Document 01's examples marked *, under 'Examples and edges': one list of questions and one of answers.
-use Prim.Native.Nat.{ℕ, suc, _*_}
+-- Document 01's examples marked *, under 'Examples and edges': one list, each line a question and its answer.
+use Prim.Native.Nat.{ℕ, suc, _*_, _/_}
 use mathlib.Core.List.{List, [], _∷_}
-use lib.IntN.{ℤ, pos, negsuc}
-use Rattle.refusals.specs.Numbers.{numberOf}
+use lib.IntN.{ℤ, pos, negℤ}
+use Rattle.refusals.specs.Said.{Said}
+use Rattle.refusals.specs.Said as said
 use Rattle.readings.specs.Altitude.{altitudeOf}
 use Rattle.readings.specs.Amounts.{speedOf, rateOf}
-use Rattle.readings.specs.declared.altitude.Altitude.{Altitude}
-use Rattle.readings.specs.declared.altitude.Altitude.the-variants as altitude
-use Rattle.readings.specs.declared.amounts.Speed.{Speed}
-use Rattle.readings.specs.declared.amounts.Speed.the-variants as speed
-use Rattle.readings.specs.declared.amounts.Rate.{Rate}
-use Rattle.readings.specs.declared.amounts.Rate.the-variants as rate
+use Rattle.readings.specs.Said.{Amount, unknown, figure, altitudeSaid, speedSaid, rateSaid}
 use Rattle.positions.specs.declared.Counts.{Counts}
 use Rattle.positions.specs.declared.Spot.{Spot}
 use Rattle.positions.specs.declared.Turn.the-variants.{Airborne, Surface}
 use Rattle.positions.specs.declared.Format.{Format}
 use Rattle.positions.specs.declared.Format.the-variants.{Even, Odd}
-use Rattle.positions.specs.declared.Encoded.{Encoded}
-use Rattle.positions.specs.declared.Encoded.the-variants as encode
-use Rattle.positions.specs.declared.Found.{Found}
-use Rattle.positions.specs.declared.Found.the-variants as find
 use Rattle.positions.specs.Positions.{encoded, paired, singly}
+use Rattle.positions.specs.Said.{encodedSaid, foundSaid}
 use Rattle.positions.specs.Zones.{zoneCount}
 use Rattle.parity.specs.Parity.{remainder}
-use Rattle.messages.specs.declared.Decoded.{Decoded}
-use Rattle.messages.specs.declared.Decoded.the-variants as decode
 use Rattle.messages.specs.Message.{decoded}
+use Rattle.messages.specs.Table as table
 
 -- ---- what is asked, and how it is answered
 
 pub data Question : Type 0 where
   -- the altitude of a code
-  feet? : ℕ → Question
+  altitude? : ℕ → Question
   -- the spot of an even and an odd pair of counts, by the one of this format
   pair? : (even odd : Counts) → Format → Question
   -- the counts of an airborne spot
@@ -46,66 +38,61 @@ pub data Question : Type 0 where
   knots? rate? : ℕ → ℕ → Question
 
 pub data Answer : Type 0 where
-  unknown over taken : Answer
-  figure : ℤ → Answer
+  taken : Answer
+  amount : Amount → Answer
   located : Spot → Answer
   two : Counts → Answer
   many : ℕ → Answer
   -- the paper's number of a refusal
   number : ℕ → Answer
 
-abbrev pub altitudeSaid : Altitude → Answer
-altitudeSaid altitude.Unknown = unknown
-altitudeSaid (altitude.Feet z) = figure z
-altitudeSaid (altitude.Refused r) = number (numberOf r)
-
-abbrev pub speedSaid : Speed → Answer
-speedSaid speed.Unknown = unknown
-speedSaid (speed.Knots z) = figure z
-speedSaid speed.Over = over
-speedSaid (speed.Refused r) = number (numberOf r)
-
-abbrev pub rateSaid : Rate → Answer
-rateSaid rate.Unknown = unknown
-rateSaid (rate.FeetPerMinute z) = figure z
-rateSaid rate.Over = over
-rateSaid (rate.Refused r) = number (numberOf r)
-
-abbrev pub foundSaid : Found → Answer
-foundSaid (find.At s) = located s
-foundSaid (find.Refused r) = number (numberOf r)
-
-abbrev pub encodedSaid : Encoded → Answer
-encodedSaid (encode.As c) = two c
-encodedSaid (encode.Refused r) = number (numberOf r)
-
-abbrev pub decodedSaid : Decoded → Answer
-decodedSaid (decode.Message m) = taken
-decodedSaid (decode.Refused r) = number (numberOf r)
+-- a number of the table, or what is given instead
+abbrev pub answered : {A : Type 0} → (A → Answer) → Said A → Answer
+answered f (said.number n) = number n
+answered f (said.gives x) = f x
 
 -- the answer that the definitions give
 unfoldable pub answer : Question → Answer
-answer (feet? code) = altitudeSaid (altitudeOf code)
-answer (pair? even odd later) = foundSaid (paired 131072 even odd later)
-answer (counts? spot format) = encodedSaid (encoded 131072 spot Airborne format)
+answer (altitude? code) = answered amount (altitudeSaid (altitudeOf code))
+answer (pair? even odd later) = answered located (foundSaid (paired 131072 even odd later))
+answer (counts? spot format) = answered two (encodedSaid (encoded 131072 spot Airborne format))
 answer (zones? n) = many (zoneCount (60 * 131072) (pos n))
-answer (near? counts site format) = foundSaid (singly 131072 site counts Surface format)
+answer (near? counts site format) = answered located (foundSaid (singly 131072 site counts Surface format))
 answer (rest? bytes) = many (remainder bytes)
-answer (message? bytes) = decodedSaid (decoded bytes)
-answer (knots? direction code) = speedSaid (speedOf 1 direction code)
-answer (rate? sign code) = rateSaid (rateOf sign code)
+answer (message? bytes) = answered (λ _. taken) (table.said (decoded bytes))
+answer (knots? direction code) = answered amount (speedSaid (speedOf 1 direction code))
+answer (rate? sign code) = answered amount (rateSaid (rateOf sign code))
+
+-- ---- an example: a question and the paper's answer to it
+
+infix 70 _is_
+pub data Example : Type 0 where
+  _is_ : Question → Answer → Example
+
+abbrev pub answerTo : Example → Answer
+answerTo (q is a) = answer q
+
+abbrev pub due : Example → Answer
+due (q is a) = a
 
 -- ---- the examples
 
+-- a figure under zero
+abbrev pub minus : ℕ → ℤ
+minus n = negℤ (pos n)
+
+-- degrees in 2^-32 of 360, and in even counts
+abbrev pub degrees : ℕ → ℕ
+degrees d = d * 4294967296 / 360
+
+abbrev pub evenCounts : ℕ → ℕ
+evenCounts d = d * (60 * 131072) / 360
+
+abbrev pub spot : ℤ → ℕ → Spot
+spot latitude longitude = record { latitude = latitude; longitude = longitude }
+
 abbrev pub at : ℕ → ℕ → Counts
 at latitude longitude = record { latitude = record { 0 = latitude }; longitude = record { 0 = longitude } }
-
--- 45 N 90 E and 45 S 90 E
-abbrev pub north : Spot
-north = record { latitude = pos 536870912; longitude = 1073741824 }
-
-abbrev pub south : Spot
-south = record { latitude = negsuc 536870911; longitude = 1073741824 }
 
 -- 14 bytes, and the same with bit 88 set
 abbrev pub zeros : List ℕ
@@ -114,30 +101,40 @@ zeros = 0 ∷ 0 ∷ 0 ∷ 0 ∷ 0 ∷ 0 ∷ 0 ∷ 0 ∷ 0 ∷ 0 ∷ 0 ∷ 0 ∷ 
 abbrev pub bit88 : List ℕ
 bit88 = 0 ∷ 0 ∷ 0 ∷ 0 ∷ 0 ∷ 0 ∷ 0 ∷ 0 ∷ 0 ∷ 0 ∷ 1 ∷ 0 ∷ 0 ∷ 0 ∷ []
 
--- 87 degrees exactly, in even counts
-abbrev pub degrees87 : ℕ
-degrees87 = 1900544
+-- direction 1 is west, sign 0 up
+abbrev pub west : ℕ
+west = 1
 
-unfoldable pub questions : List Question
-questions =
-    feet? 128 ∷ feet? 2050 ∷ feet? 16 ∷ feet? 888 ∷ feet? 2688
-    ∷ pair? (at 65536 65536) (at 49152 32768) Even ∷ pair? (at 65536 65536) (at 49152 32768) Odd
-    ∷ counts? south Even ∷ counts? south Odd
-    ∷ pair? (at 0 0) (at 65536 0) Even ∷ pair? (at 0 0) (at 65536 0) Odd
-    ∷ zones? degrees87 ∷ zones? (suc degrees87)
-    ∷ near? (at 0 0) north Even
-    ∷ message? zeros ∷ rest? bit88 ∷ message? bit88
-    ∷ knots? 1 1 ∷ rate? 0 510
-    ∷ []
+abbrev pub up : ℕ
+up = 0
 
-unfoldable pub answers : List Answer
-answers =
-    figure (negsuc 1199) ∷ figure (negsuc 699) ∷ figure (negsuc 999) ∷ figure (pos 10000) ∷ unknown
-    ∷ located north ∷ located north
-    ∷ two (at 65536 65536) ∷ two (at 81920 32768)
-    ∷ number 9 ∷ number 9
-    ∷ many 2 ∷ many 1
-    ∷ located north
-    ∷ number 4 ∷ many 0xFFF409 ∷ number 3
-    ∷ figure (pos 0) ∷ figure (pos 32576)
+unfoldable pub examples : List Example
+examples =
+    -- Altitude 128 is -1,200; 2050 is -700; 16 is -1,000; 888 is 10,000; 2688 is unknown.
+    altitude? 128 is amount (figure (minus 1200))
+    ∷ altitude? 2050 is amount (figure (minus 700))
+    ∷ altitude? 16 is amount (figure (minus 1000))
+    ∷ altitude? 888 is amount (figure (pos 10000))
+    ∷ altitude? 2688 is amount unknown
+    -- Counts 65536 even, 49152 odd, longitudes 65536, 32768: 45 N, 90 E.
+    ∷ pair? (at 65536 65536) (at 49152 32768) Even is located (spot (pos (degrees 45)) (degrees 90))
+    ∷ pair? (at 65536 65536) (at 49152 32768) Odd is located (spot (pos (degrees 45)) (degrees 90))
+    -- -45 gives latitude counts 65536 and 81920.
+    ∷ counts? (spot (minus (degrees 45)) (degrees 90)) Even is two (at 65536 65536)
+    ∷ counts? (spot (minus (degrees 45)) (degrees 90)) Odd is two (at 81920 32768)
+    -- Latitudes 0 even, 65536 odd: 9.
+    ∷ pair? (at 0 0) (at 65536 0) Even is number 9
+    ∷ pair? (at 0 0) (at 65536 0) Odd is number 9
+    -- 87 degrees exactly: NL 2; one even count more: 1.
+    ∷ zones? (evenCounts 87) is many 2
+    ∷ zones? (suc (evenCounts 87)) is many 1
+    -- Surface even, counts 0 and 0, site 45 N 90 E: the site.
+    ∷ near? (at 0 0) (spot (pos (degrees 45)) (degrees 90)) Even is located (spot (pos (degrees 45)) (degrees 90))
+    -- 14 zero bytes: 4. Only bit 88 set: remainder FFF409, so 3.
+    ∷ message? zeros is number 4
+    ∷ rest? bit88 is many 0xFFF409
+    ∷ message? bit88 is number 3
+    -- West, code 1: 0. Rate 510: 32,576.
+    ∷ knots? west 1 is amount (figure (pos 0))
+    ∷ rate? up 510 is amount (figure (pos 32576))
     ∷ []

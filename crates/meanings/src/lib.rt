@@ -1,4 +1,4 @@
-// A reading as two numbers: what it is (0 unknown, 1 known, 2 over, 3 none, 4 stopped), and its value.
+// A reading as two numbers: what it is (0 unknown, 1 known, 2 over, 3 reserved, 4 stopped, 5 refused), and its value.
 use characters::CategorySet;
 use characters::Text;
 use readings::Altitude;
@@ -47,7 +47,7 @@ pub fn altitude_reading(a: Altitude) -> Reading
     match a {
         Altitude::Unknown => only(0),
         Altitude::Feet(z) => known(arrays::twos_of(z)),
-        Altitude::Refused(_) => only(3),
+        Altitude::Refused(_) => only(5),
     }
 }
 
@@ -58,7 +58,7 @@ pub fn speed_reading(a: Speed) -> Reading
         Speed::Unknown => only(0),
         Speed::Knots(z) => known(arrays::twos_of(z)),
         Speed::Over => only(2),
-        Speed::Refused(_) => only(3),
+        Speed::Refused(_) => only(5),
     }
 }
 
@@ -69,7 +69,7 @@ pub fn rate_reading(a: Rate) -> Reading
         Rate::Unknown => only(0),
         Rate::FeetPerMinute(z) => known(arrays::twos_of(z)),
         Rate::Over => only(2),
-        Rate::Refused(_) => only(3),
+        Rate::Refused(_) => only(5),
     }
 }
 
@@ -80,7 +80,7 @@ pub fn difference_reading(a: Difference) -> Reading
         Difference::Unknown => only(0),
         Difference::Feet(z) => known(arrays::twos_of(z)),
         Difference::Over => only(2),
-        Difference::Refused(_) => only(3),
+        Difference::Refused(_) => only(5),
     }
 }
 
@@ -89,7 +89,7 @@ pub fn heading_reading(a: Heading) -> Reading
 {
     match a {
         Heading::Turn(n) => known(n as u64),
-        Heading::Refused(_) => only(3),
+        Heading::Refused(_) => only(5),
     }
 }
 
@@ -105,7 +105,7 @@ pub fn movement_reading(a: Movement) -> Reading
             value: n as u64,
         },
         Movement::Reserved => only(3),
-        Movement::Refused(_) => only(3),
+        Movement::Refused(_) => only(5),
     }
 }
 
@@ -118,7 +118,7 @@ pub fn set_reading(a: CategorySet) -> Reading
         CategorySet::C => known(67),
         CategorySet::D => known(68),
         CategorySet::NoSet => only(0),
-        CategorySet::Refused(_) => only(3),
+        CategorySet::Refused(_) => only(5),
     }
 }
 
@@ -127,6 +127,6 @@ pub fn text_reading(a: Text) -> Reading
 {
     match a {
         Text::Shown(n) => known(n),
-        Text::Refused(_) => only(3),
+        Text::Refused(_) => only(5),
     }
 }

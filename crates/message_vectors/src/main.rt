@@ -1,18 +1,18 @@
 // Decodes each byte string of standard input, a byte of length and then the bytes, and writes its fields in the order of their
 // bits with the message encoded again, or the number that it earns.
 use encoder::Encoded;
+use layouts::Air;
 use layouts::Airborne;
 use layouts::Body;
+use layouts::Ground;
 use layouts::Identification;
 use layouts::Surface;
+use layouts::Vertical;
 use libc::STDIN_FILENO;
 use libc::STDOUT_FILENO;
 use messages::Decoded;
 use messages::Message;
 use refusals::Refusal;
-use velocity::Air;
-use velocity::Ground;
-use velocity::Vertical;
 
 fn write(text: &[u8]) {
     io::write_all(STDOUT_FILENO, text);

@@ -1,8 +1,8 @@
 -- An acceptable message is one that is decoded: both go by the same tests, and TYPE and subtype choose a layout or none. What its ME is unpacked to is packed to the same ME.
 -- Assumes nothing.
 use Prim.Native.Nat.{ℕ, _/_, _^_}
-use mathlib.Core.Path.{_≡_, refl, ap, ap₂, subst, _∙_}
-use mathlib.Core.Bool.{Bool, true, false, cond, not, _||_}
+use mathlib.Core.Path.{_≡_, refl, ap, subst, _∙_}
+use mathlib.Core.Bool.{Bool, true, false, cond, not}
 use mathlib.Core.List.{List}
 use native.Mathlib.Omega.{arith}
 use native.Mathlib.Nat.{mod-lt}
@@ -10,11 +10,9 @@ use lib.Dec.{eqb, lit<}
 use lib.ListN.{length}
 use Rattle.refusals.specs.declared.Refusal.{Refusal}
 use Rattle.refusals.specs.declared.Refusal.the-variants.{Length, Parity, Format, TypeCode}
-use Rattle.fields.specs.Packing.{me}
+use Rattle.refusals.specs.Said.{number}
 use Rattle.fields.specs.Bytes.{number as numeral}
 use Rattle.parity.specs.Parity.{remainder}
-use Rattle.layouts.specs.Layouts.{isIdentification, isSurface, isAirborne}
-use Rattle.velocity.specs.Velocity.{isGround, isAir}
 use Rattle.layouts.specs.Bodies.{layoutOf, isTaken, takenAs, taken, bodyMe, bodyFits}
 use Rattle.layouts.specs.declared.bodies.Body.{Body}
 use Rattle.layouts.specs.declared.bodies.Layout.{Layout}
@@ -24,12 +22,13 @@ use Rattle.layouts.specs.declared.bodies.Taken.the-variants as read
 use Rattle.layouts.proofs.BothWays.{read-good}
 use Rattle.messages.specs.Message.{bits, formatTaken, opened, decoded}
 use Rattle.messages.specs.Accepted.{frameOf, framed, accepted, openedAs, IsAccepted}
-use Rattle.messages.specs.Table.{number, acceptedSaid, earns1, earns3, earns4, typeTaken, acceptTable}
+use Rattle.messages.specs.Table.{acceptedSaid, earns1, earns3, earns4, acceptTable}
 use Rattle.messages.specs.declared.Frame.{Frame}
 use Rattle.messages.specs.declared.Message.{Message}
 use Rattle.messages.specs.declared.Accepted.{Accepted}
 use Rattle.messages.specs.declared.Accepted.the-variants as accept
 use Rattle.messages.specs.declared.Decoded.the-variants as decode
+use Rattle.messages.proofs.Exactly.{layout-in}
 
 -- ---- a layout, or none
 
@@ -116,23 +115,6 @@ frame-opens f a =
 
 -- ---- document 01's table
 
-taken-as : (i s a o r : Bool) → isTaken (cond i layout.Identification (cond s layout.Surface (cond a layout.Airborne (cond o layout.Ground (cond r layout.Air layout.NotTaken))))) ≡ (i || s || a || o || r)
-taken-as true s a o r = refl
-taken-as false true a o r = refl
-taken-as false false true o r = refl
-taken-as false false false true r = refl
-taken-as false false false false true = refl
-taken-as false false false false false = refl
-
--- TYPE and subtype by the bits of the message
-type-taken : (s : List ℕ) → isTaken (layoutOf (bits 33 88 s)) ≡ typeTaken (bits 33 37 s) (bits 38 40 s)
-type-taken s =
-    let n : ℕ = numeral s in
-    let t : me 1 5 (bits 33 88 s) ≡ bits 33 37 s = omega arith in
-    let u : me 6 8 (bits 33 88 s) ≡ bits 38 40 s = omega arith in
-    taken-as (isIdentification (me 1 5 (bits 33 88 s))) (isSurface (me 1 5 (bits 33 88 s))) (isAirborne (me 1 5 (bits 33 88 s))) (isGround (me 1 5 (bits 33 88 s)) (me 6 8 (bits 33 88 s))) (isAir (me 1 5 (bits 33 88 s)) (me 6 8 (bits 33 88 s)))
-    ∙ ap₂ typeTaken t u
-
 says : (t : Bool) (x y : Accepted) → acceptedSaid (cond t x y) ≡ cond t (acceptedSaid x) (acceptedSaid y)
 says true x y = refl
 says false x y = refl
@@ -145,4 +127,4 @@ accept-says-the-table s =
     ∙ ap (cond (earns1 s) (number 1)) (says (earns3 s) _ _
     ∙ ap (cond (earns3 s) (number 3)) (says (earns4 s) _ _
     ∙ ap (cond (earns4 s) (number 4)) (says (not (isTaken (layoutOf (bits 33 88 s)))) _ _
-    ∙ ap (λ (b : Bool). cond (not b) (number 5) (acceptedSaid (accept.Frame (frameOf s)))) (type-taken s))))
+    ∙ ap (λ (l : Layout). cond (not (isTaken l)) (number 5) (acceptedSaid (accept.Frame (frameOf s)))) (layout-in s))))

@@ -4,10 +4,13 @@ use Prim.Native.Nat.{ℕ}
 use mathlib.Core.Path.{_≡_, refl, sym, ap, _∙_}
 use mathlib.Core.List.{List, [], _∷_}
 use native.Mathlib.Omega.{arith}
+use Rattle.refusals.specs.Said.{Said, number, gives}
 use Rattle.division.specs.Division.{remainderFrom, reduce}
 use Rattle.parity.specs.Parity.{remainder}
+use Rattle.layouts.specs.Said.{Values, values}
+use Rattle.layouts.specs.declared.bodies.Layout.the-variants as layout
 use Rattle.messages.specs.Message.{decoded, opened}
-use Rattle.messages.specs.Table.{number, values, said}
+use Rattle.messages.specs.Table.{said}
 
 -- 8D4840D6202CC371C32CE0576098
 abbrev identification : List ℕ
@@ -33,10 +36,10 @@ zeros = 0 ∷ 0 ∷ 0 ∷ 0 ∷ 0 ∷ 0 ∷ 0 ∷ 0 ∷ 0 ∷ 0 ∷ 0 ∷ 0 ∷ 
 abbrev bit-88 : List ℕ
 bit-88 = 0 ∷ 0 ∷ 0 ∷ 0 ∷ 0 ∷ 0 ∷ 0 ∷ 0 ∷ 0 ∷ 0 ∷ 1 ∷ 0 ∷ 0 ∷ 0 ∷ []
 
-pub examples : (said (decoded identification) ≡ values (17 ∷ 5 ∷ 0x4840D6 ∷ 4 ∷ 0 ∷ 49217938861280 ∷ []))
-    × (said (decoded airborne) ≡ values (17 ∷ 5 ∷ 0x40621D ∷ 11 ∷ 0 ∷ 0 ∷ 3128 ∷ 0 ∷ 0 ∷ 93000 ∷ 51372 ∷ []))
-    × (said (decoded ground) ≡ values (17 ∷ 5 ∷ 0x485020 ∷ 19 ∷ 1 ∷ 0 ∷ 1 ∷ 0 ∷ 1 ∷ 9 ∷ 1 ∷ 160 ∷ 0 ∷ 1 ∷ 14 ∷ 0 ∷ 0 ∷ 23 ∷ []))
-    × (said (decoded air) ≡ values (17 ∷ 5 ∷ 0xA05F21 ∷ 19 ∷ 3 ∷ 0 ∷ 0 ∷ 0 ∷ 1 ∷ 694 ∷ 1 ∷ 376 ∷ 1 ∷ 1 ∷ 37 ∷ 0 ∷ 0 ∷ 0 ∷ []))
+pub examples : (said (decoded identification) ≡ gives (values layout.Identification (17 ∷ 5 ∷ 0x4840D6 ∷ 4 ∷ 0 ∷ 49217938861280 ∷ [])))
+    × (said (decoded airborne) ≡ gives (values layout.Airborne (17 ∷ 5 ∷ 0x40621D ∷ 11 ∷ 0 ∷ 0 ∷ 3128 ∷ 0 ∷ 0 ∷ 93000 ∷ 51372 ∷ [])))
+    × (said (decoded ground) ≡ gives (values layout.Ground (17 ∷ 5 ∷ 0x485020 ∷ 19 ∷ 1 ∷ 0 ∷ 1 ∷ 0 ∷ 1 ∷ 9 ∷ 1 ∷ 160 ∷ 0 ∷ 1 ∷ 14 ∷ 0 ∷ 0 ∷ 23 ∷ [])))
+    × (said (decoded air) ≡ gives (values layout.Air (17 ∷ 5 ∷ 0xA05F21 ∷ 19 ∷ 3 ∷ 0 ∷ 0 ∷ 0 ∷ 1 ∷ 694 ∷ 1 ∷ 376 ∷ 1 ∷ 1 ∷ 37 ∷ 0 ∷ 0 ∷ 0 ∷ [])))
     × (said (decoded zeros) ≡ number 4)
     × (said (decoded bit-88) ≡ number 3)
     × (said (decoded []) ≡ number 1)
@@ -44,9 +47,13 @@ unfolding remainder remainderFrom reduce opened
 examples = (refl, refl, refl, refl, refl, refl, refl)
 
 -- so two accepted messages are told apart
+abbrev fieldsIn : Said Values → List ℕ
+fieldsIn (number n) = []
+fieldsIn (gives v) = v .fields
+
 pub told-apart : decoded identification ≡ decoded airborne → ⊥
 told-apart e =
-    let p : values (17 ∷ 5 ∷ 0x4840D6 ∷ 4 ∷ 0 ∷ 49217938861280 ∷ []) ≡ values (17 ∷ 5 ∷ 0x40621D ∷ 11 ∷ 0 ∷ 0 ∷ 3128 ∷ 0 ∷ 0 ∷ 93000 ∷ 51372 ∷ []) =
-    sym (examples .0) ∙ ap said e ∙ examples .1 in
+    let p : _≡_ {A = List ℕ} (17 ∷ 5 ∷ 0x4840D6 ∷ 4 ∷ 0 ∷ 49217938861280 ∷ []) (17 ∷ 5 ∷ 0x40621D ∷ 11 ∷ 0 ∷ 0 ∷ 3128 ∷ 0 ∷ 0 ∷ 93000 ∷ 51372 ∷ []) =
+    ap fieldsIn (sym (examples .0) ∙ ap said e ∙ examples .1) in
     let z : _≡_ {A = ℕ} 4 11 = cc in
     omega arith

@@ -10,7 +10,9 @@ use lib.Dec.{leb, eqb}
 use lib.IntN.{ℤ, natAbs, subℕ}
 use lib.ListN.{length, getD, set}
 use borrow.Author.Tests.{le-leb, leb-true}
+use Rattle.refusals.specs.declared.Refusal.{Refusal}
 use Rattle.refusals.specs.declared.Refusal.the-variants.{Field, Latitude, Zones}
+use Rattle.refusals.specs.Numbers.{numberOf}
 use Rattle.fields.proofs.Bools.{each, by-test}
 use Rattle.positions.specs.declared.Counts.{Counts}
 use Rattle.positions.specs.declared.Spot.{Spot}
@@ -53,6 +55,8 @@ use Rattle.layouts.proofs.BothWays.{fitting, me-lt}
 use Rattle.messages.specs.declared.Decoded.{Decoded}
 use Rattle.messages.specs.declared.Decoded.the-variants as decode
 use Rattle.track.specs.declared.Groups.{Groups}
+use Rattle.located.specs.declared.Placed.{Placed}
+use Rattle.located.specs.declared.Placed.the-variants as placed
 use Rattle.located.specs.declared.Position.{Position}
 use Rattle.located.specs.declared.Saved.{Saved}
 use Rattle.located.specs.declared.Site.{Site}
@@ -60,10 +64,10 @@ use Rattle.track.specs.declared.Stepped.{Stepped}
 use Rattle.track.specs.declared.Track.{Track}
 use Rattle.track.specs.Groups.{high, atPressure, atHeight}
 use Rattle.located.specs.Located.{
-  formatOf,
   isWithin,
   isFresh,
   foundAt,
+  passedOn,
   settled,
   readNear,
   readSingly,
@@ -72,7 +76,7 @@ use Rattle.located.specs.Located.{
   airbornePosition,
   surfacePosition,
 }
-use Rattle.track.specs.Track.{noSaved, newTrack, countsIn, groupTrack, airborneTrack, surfaceTrack, stepBody, stepped}
+use Rattle.track.specs.Track.{noSaved, newTrack, formatOf, placedOr, countsIn, groupTrack, airborneTrack, surfaceTrack, stepBody, stepped}
 use Rattle.track.specs.Meaning.{givesSurface, meantGroups, meantPosition, meantSaved}
 use Rattle.track.proofs.Meanings.{gives-identification, gives-surface, gives-ground, gives-air, identified-meant, moving-meant, surface-meant, pressure-meant, height-meant}
 use Rattle.place.specs.Place.{FitsSaved, FitsGroups, FitsPosition, Fits}
@@ -161,46 +165,63 @@ singly-fits s c k f =
 
 -- ---- the position
 
+abbrev FitsPlaced : Placed → Type 0
+FitsPlaced (placed.At p) = FitsPosition p
+FitsPlaced (placed.Refused r) = Unit
+
+placed-or-fits : (x : Placed) (p : Position) → FitsPlaced x → FitsPosition p → FitsPosition (placedOr x p)
+placed-or-fits (placed.At found) p e f = e
+placed-or-fits (placed.Refused r) p e f = f
+
+passed-on-fits : (r : Refusal) (other : Placed) → FitsPlaced other → FitsPlaced (passedOn r other)
+passed-on-fits r other e = by-test FitsPlaced (eqb (numberOf r) 8) (placed.Refused r) other (λ _. tt) (λ _. e)
+
 module _ (p : Position) (fits : FitsPosition p) (time : ℕ) (h : time < 2 ^ 64) where
   found-fits : (s : Spot) → FitsSpot s → FitsPosition (foundAt s time)
   unfolding meantPosition
   found-fits s e = record { latitude = e .latitude; longitude = e .longitude; time = h; meant = refl }
 
-  settled-fits : (found : Found) → FitsFound found → FitsPosition (settled found p time)
+  settled-fits : (found : Found) → FitsFound found → FitsPlaced (settled found p time)
   settled-fits (At s) e = found-fits s e
-  settled-fits (Refused r) e = fits
+  settled-fits (Refused r) e = passed-on-fits r (placed.At p) fits
 
   module _ (counts : Counts) (format : Format) where
-    read-near-fits : (reference : Spot) (k : Turn) → FitsPosition (readNear reference p counts k format time)
+    read-near-fits : (reference : Spot) (k : Turn) → FitsPlaced (readNear reference p counts k format time)
     unfolding readNear
     read-near-fits reference k = settled-fits (singly 131072 reference counts k format) (singly-fits reference counts k format)
 
-    read-singly-fits : FitsPosition (readSingly p counts format time)
+    read-singly-fits : FitsPlaced (readSingly p counts format time)
     unfolding readSingly
-    read-singly-fits = by-test FitsPosition (isFresh p time) _ p (λ _. read-near-fits (p .spot) turn.Airborne) (λ _. fits)
+    read-singly-fits = by-test FitsPlaced (isFresh p time) _ (placed.At p) (λ _. read-near-fits (p .spot) turn.Airborne) (λ _. fits)
 
-    after-pair-fits : (found : Found) → FitsFound found → FitsPosition (afterPair found p counts format time)
+    after-pair-fits : (found : Found) → FitsFound found → FitsPlaced (afterPair found p counts format time)
     after-pair-fits (At s) e = found-fits s e
-    after-pair-fits (Refused r) e = read-singly-fits
+    after-pair-fits (Refused r) e = passed-on-fits r (readSingly p counts format time) read-singly-fits
 
   paired-with-fits : (partner counts : Counts) (format : Format) → FitsFound (pairedWith partner counts format)
   unfolding pairedWith
   paired-with-fits partner counts Even = paired-fits counts partner Even
   paired-with-fits partner counts Odd = paired-fits partner counts Odd
 
-  airborne-fits : (partner : Saved) (counts : Counts) (format : Format) → FitsPosition (airbornePosition p partner counts format time)
+  airborne-placed : (partner : Saved) (counts : Counts) (format : Format) → FitsPlaced (airbornePosition p partner counts format time)
   unfolding airbornePosition
-  airborne-fits partner counts format =
-      by-test FitsPosition (partner .known && isWithin 10000 time (partner .time)) _ _
+  airborne-placed partner counts format =
+      by-test FitsPlaced (partner .known && isWithin 10000 time (partner .time)) _ _
       (λ _. after-pair-fits counts format (pairedWith (partner .counts) counts format) (paired-with-fits (partner .counts) counts format))
       (λ _. read-singly-fits counts format)
 
-  surface-fits : (site : Site) (counts : Counts) (format : Format) → FitsPosition (surfacePosition p site counts format time)
+  surface-placed : (site : Site) (counts : Counts) (format : Format) → FitsPlaced (surfacePosition p site counts format time)
   unfolding surfacePosition
-  surface-fits site counts format =
-      by-test FitsPosition (isFresh p time) _ _
+  surface-placed site counts format =
+      by-test FitsPlaced (isFresh p time) _ _
       (λ _. read-near-fits counts format (p .spot) turn.Surface)
-      (λ _. by-test FitsPosition (site .known) _ p (λ _. read-near-fits counts format (site .spot) turn.Surface) (λ _. fits))
+      (λ _. by-test FitsPlaced (site .known) _ (placed.At p) (λ _. read-near-fits counts format (site .spot) turn.Surface) (λ _. fits))
+
+  airborne-fits : (partner : Saved) (counts : Counts) (format : Format) → FitsPosition (placedOr (airbornePosition p partner counts format time) p)
+  airborne-fits partner counts format = placed-or-fits (airbornePosition p partner counts format time) p (airborne-placed partner counts format) fits
+
+  surface-fits : (site : Site) (counts : Counts) (format : Format) → FitsPosition (placedOr (surfacePosition p site counts format time) p)
+  surface-fits site counts format = placed-or-fits (surfacePosition p site counts format time) p (surface-placed site counts format) fits
 
 -- ---- the two saved ones
 

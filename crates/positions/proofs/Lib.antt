@@ -12,3 +12,5 @@ pub mod Nearby
 pub mod Unique
 pub mod Worked
 pub mod Order
+pub mod Promised
+pub mod OfCode

@@ -1,7 +1,7 @@
 -- Encoding one place both ways and pairing gives the rounded place of the later message exactly, or 10 just when the two rounded
 -- latitudes differ in NL, and never 9: both latitudes come back exactly (Trip.antt), so their tests and NLs are those of the rounded ones.
 -- Assumes nothing.
-use mathlib.Core.Path.{_≡_, refl, sym, ap, _∙_}
+use mathlib.Core.Path.{_≡_, refl, sym, ap}
 use mathlib.Core.Bool.{Bool, true, false, cond}
 use Prim.Native.Nat.{ℕ, _*_, _≤_, _<_}
 use native.Mathlib.Nat.{mod-lt}
@@ -14,16 +14,12 @@ use Rattle.positions.specs.declared.Turn.the-variants.{Airborne}
 use Rattle.positions.specs.declared.Format.{Format}
 use Rattle.positions.specs.declared.Format.the-variants.{Even, Odd}
 use Rattle.positions.specs.declared.Counts.{Counts}
-use Rattle.positions.specs.declared.Encoded.the-variants.{As}
-use Rattle.positions.specs.declared.Found.{Found}
 use Rattle.positions.specs.declared.Found.the-variants.{At}
 use Rattle.positions.specs.Whole.{modulo}
 use Rattle.positions.specs.Zones.{zoneCount}
-use Rattle.positions.specs.Positions.{latitudeZones, longitudeZones, allRound, whole, count, spotZones, countsOf, poleToPole, encoded, inside, pairLatitude, pairLongitude, pairNL, pairSpot, pairFound, fit, paired}
+use Rattle.positions.specs.Positions.{latitudeZones, longitudeZones, allRound, whole, count, spotZones, countsOf, poleToPole, inside, pairLatitude, pairLongitude, pairNL, pairSpot, pairFound, fit, paired}
 use Rattle.positions.specs.Rounded.{roundedNL, roundedSpot, roundTrip}
 use Rattle.positions.proofs.Table.{count-range}
-use Rattle.positions.proofs.encode.Reads as encode
-use Rattle.positions.proofs.pair.Reads as pair
 use Rattle.positions.proofs.Trip.{latitude-again, longitude-again, whole-inside}
 
 -- an airborne turn is all round
@@ -121,24 +117,3 @@ module _ (q : ℕ) (large : 118 < 4 * q) (s : Spot) (t : T (poleToPole (s .latit
   -- nothing is refused with 8
   pub round-trip : (later : Format) → paired (4 * q) even odd later ≡ roundTrip (4 * q) s later
   round-trip later = rw (fit-of Even, fit-of Odd) (found-again later)
-
--- at counts of 2^17, over the contracts of the functions: e and o are what `encode` may answer for one spot, r what `pair` may answer for them
-true-of : (b : Bool) → T b → b ≡ true
-true-of true t = refl
-true-of false t = absurd t
-
-module _ (s : Spot) (t : T (poleToPole (s .latitude))) where
-  encoded-as : (f : Format) (c : Counts) → As c ≡ encoded 131072 s Airborne f → c ≡ countsOf 131072 s Airborne f
-  encoded-as f c e =
-      let g : As c ≡ As (countsOf 131072 s Airborne f) = rw (true-of (poleToPole (s .latitude)) t) at e in
-      cc
-
-  pub encode-both-and-pair : (e o : Counts) (later : Format) (r : Found) →
-      encode.Post tt (s, (Airborne, (Even, tt))) (As e) (s, (Airborne, (Even, tt))) →
-      encode.Post tt (s, (Airborne, (Odd, tt))) (As o) (s, (Airborne, (Odd, tt))) →
-      pair.Post tt (e, (o, (later, tt))) r (e, (o, (later, tt))) →
-      r ≡ roundTrip 131072 s later
-  encode-both-and-pair e o later r pe po pr =
-      pr ∙ ap (λ (c : Counts). paired 131072 c o later) (encoded-as Even e pe)
-      ∙ ap (λ (c : Counts). paired 131072 (countsOf 131072 s Airborne Even) c later) (encoded-as Odd o po)
-      ∙ round-trip 32768 (lit< tt) s t later

@@ -1,9 +1,9 @@
--- Document 01's worked positions, and beside them the wrong answers that its slips would give: each computed, so each holds by `refl`.
+-- Worked positions at the edges of 8, 10 and 270 degrees, and beside the right answers the wrong ones that document 01's slips would give: each computed, so each holds by `refl`.
 -- Assumes nothing.
 use mathlib.Core.Path.{_≡_, refl}
 use Prim.Native.Nat.{ℕ, suc, _*_, _/_}
 use lib.IntN.{ℤ, pos, negsuc, negℤ, _+ℤ_, _*ℤ_}
-use Rattle.refusals.specs.declared.Refusal.the-variants.{Field, Latitude, Zones}
+use Rattle.refusals.specs.declared.Refusal.the-variants.{Field, Zones}
 use Rattle.positions.specs.declared.Spot.{Spot}
 use Rattle.positions.specs.declared.Turn.the-variants.{Airborne, Surface}
 use Rattle.positions.specs.declared.Format.the-variants.{Even, Odd}
@@ -19,20 +19,6 @@ spot y x = record { latitude = y; longitude = x }
 
 abbrev counts : ℕ → ℕ → Counts
 counts y x = record { latitude = record { 0 = y }; longitude = record { 0 = x } }
-
--- 45 N 90 E from counts 65536 even and 49152 odd, longitudes 65536 and 32768, either later; -45 gives latitude counts 65536 and 81920;
--- latitudes 0 even and 65536 odd are 9; 87 degrees exactly is NL 2 and one even count more 1; a surface message of counts 0 and 0 is at its site
-pub worked :
-    (paired 131072 (counts 65536 65536) (counts 49152 32768) Odd ≡ At (spot (pos 536870912) 1073741824))
-    × (paired 131072 (counts 65536 65536) (counts 49152 32768) Even ≡ At (spot (pos 536870912) 1073741824))
-    × (encoded 131072 (spot (negsuc 536870911) 1073741824) Airborne Even ≡ As (counts 65536 65536))
-    × (encoded 131072 (spot (negsuc 536870911) 1073741824) Airborne Odd ≡ As (counts 81920 32768))
-    × (paired 131072 (counts 0 0) (counts 65536 0) Odd ≡ Refused Latitude)
-    × (zoneCount (60 * 131072) (pos 1900544) ≡ 2)
-    × (zoneCount (60 * 131072) (pos 1900545) ≡ 1)
-    × (singly 131072 (spot (pos 536870912) 1073741824) (counts 0 0) Surface Even ≡ At (spot (pos 536870912) 1073741824))
-unfolding floor modulo nearest latitudes first zoneCount allRound whole count spotZones countsOf rounded roundedTurn inside pairZone inZone less360 pairLatitude pairLongitude pairNL pairSpot pairFound nearZone near nearSpot nearFound
-worked = (refl, refl, refl, refl, refl, refl, refl, refl)
 
 -- a count of 131,072 and a latitude past the pole are 8, and at an edge of NL a pair is 10
 pub refused :
@@ -78,3 +64,13 @@ pub from-270 :
     × (paired 131072 (counts 0 0) (counts 32768 0) Odd ≡ At (spot (negsuc 1073741823) 0))
 unfolding floor modulo nearest latitudes first zoneCount allRound whole count spotZones countsOf rounded roundedTurn inside pairZone inZone less360 pairLatitude pairLongitude pairNL pairSpot pairFound
 from-270 = (refl, refl, refl, refl)
+
+-- the north pole is a latitude too: a reference there finds it
+pub pole-itself : singly 131072 (spot (pos 1073741824) 0) (counts 0 0) Airborne Even ≡ At (spot (pos 1073741824) 0)
+unfolding floor modulo nearest latitudes first zoneCount allRound whole count rounded roundedTurn inside nearZone near nearSpot nearFound
+pole-itself = refl
+
+-- the first entry above for the first not below: 87 degrees exactly is an entry, and has 2 zones; one even count more has 1
+pub not-first-above : (zoneCount (60 * 131072) (pos 1900544) ≡ 2) × (zoneCount (60 * 131072) (pos 1900545) ≡ 1)
+unfolding latitudes first zoneCount
+not-first-above = (refl, refl)

@@ -3,3 +3,4 @@ pub mod Zones
 pub mod Positions
 pub mod Rounded
 pub mod Code
+pub mod Said

@@ -45,3 +45,13 @@ pub record Nearby (P N : ℕ) (reference : ℤ) (c : ℕ) (z : ℤ) : Type 0 whe
   pub counted : modulo z P ≡ c
   pub within : 2 * natAbs (beyond P N reference z) ≤ units * P
   pub upper : pos 2 *ℤ beyond P N reference z +ℤ pos (units * P) ≡ pos 0 → ⊥
+
+-- s was encoded and r came back: r is an exact place rounded to 2^-32, and that place is within half a count of s on each axis, longitude around the circle.
+-- Its latitude is a whole number over N * P of 360 degrees and its longitude one over n * P, so in these differences a count is `units`
+pub record HalfACount (P N n : ℕ) (s r : Spot) : Type 0 where
+  pub exactLatitude : ℤ
+  pub exactLongitude : ℕ
+  pub outLatitude : r .latitude ≡ rounded (N * P) exactLatitude
+  pub outLongitude : r .longitude ≡ roundedTurn (n * P) exactLongitude
+  pub halfLatitude : 2 * natAbs (beyond P N (s .latitude) exactLatitude) ≤ units
+  pub halfLongitude : 2 * around (n * P * units) (exactLongitude * units) (s .longitude * (n * P)) ≤ units

@@ -1,13 +1,15 @@
 -- Answers at which a likely slip would show: each is computed from the definitions.
 -- Assumes nothing.
-use Prim.Native.Nat.{_*_, _^_}
+use Prim.Native.Nat.{ℕ, _*_, _^_}
 use mathlib.Core.Path.{_≡_, refl}
 use mathlib.Core.Bool.{true, false}
 use lib.IntN.{pos, negsuc}
 use Rattle.refusals.specs.declared.Refusal.the-variants.{Field}
 use Rattle.layouts.specs.Layouts.{identificationOf, surfaceOf, airborneOf}
-use Rattle.velocity.specs.Velocity.{groundOf, airOf}
-use Rattle.readings.specs.Bodies.{identificationMeans, surfaceMeans, airborneMeans, groundMeans, airMeans}
+use Rattle.layouts.specs.Velocity.{groundOf, airOf}
+use Rattle.layouts.specs.declared.bodies.Body.{Body}
+use Rattle.layouts.specs.declared.bodies.Body.the-variants as body
+use Rattle.readings.specs.Bodies.{readingsOf}
 use Rattle.readings.specs.Altitude.{altitudeOf, byHundreds, sixLess, straight, fiveHundreds, hundreds, grayStep}
 use Rattle.readings.specs.Amounts.{speedOf, rateOf, differenceOf, amount, signed, times}
 use Rattle.readings.specs.Headings.{headingOf}
@@ -19,6 +21,7 @@ use Rattle.readings.specs.declared.amounts.Rate.the-variants as rate
 use Rattle.readings.specs.declared.amounts.Difference.the-variants as difference
 use Rattle.readings.specs.declared.headings.Heading.the-variants as heading
 use Rattle.readings.specs.declared.movement.Movement.the-variants as movement
+use Rattle.readings.specs.declared.bodies.Readings.the-variants as readings
 use Rattle.characters.specs.declared.CategorySet.the-variants as set
 use Rattle.characters.specs.declared.Text.the-variants as text
 
@@ -42,6 +45,11 @@ pub below-two : (differenceOf 1 2 ≡ difference.Feet (negsuc 24)) × (differenc
 unfolding differenceOf amount signed
 below-two = (refl, refl)
 
+-- the top code is over, and the one below it is not
+pub over-at-127 : (differenceOf 0 127 ≡ difference.Over) × (differenceOf 0 126 ≡ difference.Feet (pos 3125))
+unfolding differenceOf amount signed
+over-at-127 = (refl, refl)
+
 -- a code wider than its bits is refused, and does not wrap; half the codes are half a turn
 pub half-turn : (headingOf 10 512 ≡ heading.Turn 0x8000_0000) × (headingOf 10 1024 ≡ heading.Refused Field)
 half-turn = (refl, refl)
@@ -54,41 +62,70 @@ pub past-the-top : (movementOf 124 ≡ movement.AndUp 8400) × (movementOf 125 �
 unfolding movementOf
 past-the-top = (refl, refl)
 
--- ---- whole layouts, of published messages
+-- ---- whole bodies, of published messages
 
 -- 8D4840D6202CC371C32CE0576098: set A, "KLM1023 ", the first character the highest byte
-pub published-identification : identificationMeans (identificationOf 0x202CC371C32CE0) ≡ record { set = set.A; text = text.Shown 0x4B4C4D3130323320 }
-unfolding categorySetOf textOf shown
+pub published-identification : readingsOf (body.Identification (identificationOf 0x202CC371C32CE0)) ≡ readings.Identification (record { set = set.A; text = text.Shown 0x4B4C4D3130323320 })
+unfolding readingsOf categorySetOf textOf shown
 published-identification = refl
 
 -- 8C4841753AAB238733C8CD4020B1: 18 knots, 50/128 of a turn
-pub published-surface : surfaceMeans (surfaceOf 0x3AAB238733C8CD) ≡ record { movement = movement.LowerEdge 864; heading = heading.Turn 1677721600 }
-unfolding movementOf lowerEdge
+pub published-surface : readingsOf (body.Surface (surfaceOf 0x3AAB238733C8CD)) ≡ readings.Surface (record { movement = movement.LowerEdge 864; heading = heading.Turn 1677721600 })
+unfolding readingsOf movementOf lowerEdge
 published-surface = refl
 
 -- 8D40621D58C382D690C8AC2863A7: 38,000 feet of pressure altitude; TYPE 18 has that too, and TYPE 20 a GNSS height
-pub published-airborne : (airborneMeans (airborneOf 0x58C382D690C8AC) ≡ record { altitude = altitude.Feet (pos 38000); gnss = false })
-    × (airborneMeans (airborneOf (18 * 2 ^ 51)) .gnss ≡ false)
-    × (airborneMeans (airborneOf (20 * 2 ^ 51)) .gnss ≡ true)
-unfolding altitudeOf
+pub published-airborne : (readingsOf (body.Airborne (airborneOf 0x58C382D690C8AC)) ≡ readings.Airborne (record { altitude = altitude.Feet (pos 38000); gnss = false }))
+    × (readingsOf (body.Airborne (airborneOf (18 * 2 ^ 51))) ≡ readings.Airborne (record { altitude = altitude.Unknown; gnss = false }))
+    × (readingsOf (body.Airborne (airborneOf (20 * 2 ^ 51))) ≡ readings.Airborne (record { altitude = altitude.Unknown; gnss = true }))
+unfolding readingsOf altitudeOf
 published-airborne = (refl, refl, refl)
 
 -- 8D485020994409940838175B284F: west 8, south 159 knots, 832 feet per minute down, 550 feet above
-pub published-ground : groundMeans (groundOf 0x99440994083817) ≡ record {
+pub published-ground : readingsOf (body.Ground (groundOf 0x99440994083817)) ≡ readings.Ground (record {
   east = speed.Knots (negsuc 7);
   north = speed.Knots (negsuc 158);
   rate = rate.FeetPerMinute (negsuc 831);
   difference = difference.Feet (pos 550);
-}
-unfolding speedOf rateOf differenceOf amount signed times
+})
+unfolding readingsOf speedOf rateOf differenceOf amount signed times
 published-ground = refl
 
 -- 8DA05F219B06B6AF189400CBC33F: 694/1024 of a turn, 375 knots, which have no direction, 2,304 feet per minute down, difference unknown
-pub published-air : airMeans (airOf 0x9B06B6AF189400) ≡ record {
+pub published-air : readingsOf (body.Air (airOf 0x9B06B6AF189400)) ≡ readings.Air (record {
   heading = heading.Turn 2910846976;
   airspeed = speed.Knots (pos 375);
   rate = rate.FeetPerMinute (negsuc 2303);
   difference = difference.Unknown;
-}
-unfolding speedOf rateOf differenceOf amount signed times
+})
+unfolding readingsOf speedOf rateOf differenceOf amount signed times
 published-air = refl
+
+-- ---- whole bodies that are refused
+
+-- the published airborne body with this TYPE, the published velocity with this subtype and NACv
+abbrev airborneAs : ℕ → Body
+airborneAs type = body.Airborne (record { typecode = type; surveillance = 0; bit8 = 0; altitude = 3128; t = 0; f = 0; latitude = record { 0 = 93000 }; longitude = record { 0 = 51372 } })
+
+abbrev groundAs : ℕ → ℕ → Body
+groundAs subtype nacv = body.Ground (record {
+  typecode = 19;
+  subtype = subtype;
+  bit9 = 0;
+  bit10 = 1;
+  nacv = nacv;
+  west = 1;
+  eastward = 9;
+  south = 1;
+  northward = 160;
+  vertical = record { source = 0; down = 1; rate = 14; reserved = 0; below = 0; difference = 23 };
+})
+
+-- TYPE 200 is no GNSS height, nor is TYPE 19; subtype 9 is refused once, with no value beside it, and subtype 3, which is through air, too; so is a field that is not read
+pub refused-whole : (readingsOf (airborneAs 200) ≡ readings.Refused Field)
+    × (readingsOf (airborneAs 19) ≡ readings.Refused Field)
+    × (readingsOf (groundAs 9 0) ≡ readings.Refused Field)
+    × (readingsOf (groundAs 3 0) ≡ readings.Refused Field)
+    × (readingsOf (groundAs 1 8) ≡ readings.Refused Field)
+unfolding readingsOf
+refused-whole = (refl, refl, refl, refl, refl)

@@ -16,16 +16,8 @@ use Rattle.readings.proofs.headings.surface_heading_of.Kinds as surface
 use Rattle.readings.proofs.headings.surface_heading_of.Reads as surface-heading-of
 use Rattle.readings.proofs.movement.movement_of.Kinds as movement-of-kinds
 use Rattle.readings.proofs.movement.movement_of.Reads as movement-of
-use Rattle.readings.proofs.bodies.identification_readings.Kinds as identification-readings-kinds
-use Rattle.readings.proofs.bodies.identification_readings.Reads as identification-readings
-use Rattle.readings.proofs.bodies.surface_readings.Kinds as surface-readings-kinds
-use Rattle.readings.proofs.bodies.surface_readings.Reads as surface-readings
-use Rattle.readings.proofs.bodies.airborne_readings.Kinds as airborne-readings-kinds
-use Rattle.readings.proofs.bodies.airborne_readings.Reads as airborne-readings
-use Rattle.readings.proofs.bodies.ground_readings.Kinds as ground-readings-kinds
-use Rattle.readings.proofs.bodies.ground_readings.Reads as ground-readings
-use Rattle.readings.proofs.bodies.air_readings.Kinds as air-readings-kinds
-use Rattle.readings.proofs.bodies.air_readings.Reads as air-readings
+use Rattle.readings.proofs.bodies.readings_of.Kinds as readings-of-kinds
+use Rattle.readings.proofs.bodies.readings_of.Reads as readings-of
 
 pub altitude-of-once : OneAnswer 0 altitude-of-kinds.ps altitude-of-kinds.r altitude-of.Post
 altitude-of-once κs args x y left left′ p q = p ∙ sym q
@@ -48,17 +40,5 @@ surface-heading-of-once κs args x y left left′ p q = p ∙ sym q
 pub movement-of-once : OneAnswer 0 movement-of-kinds.ps movement-of-kinds.r movement-of.Post
 movement-of-once κs args x y left left′ p q = p ∙ sym q
 
-pub identification-readings-once : OneAnswer 0 identification-readings-kinds.ps identification-readings-kinds.r identification-readings.Post
-identification-readings-once κs args x y left left′ p q = p ∙ sym q
-
-pub surface-readings-once : OneAnswer 0 surface-readings-kinds.ps surface-readings-kinds.r surface-readings.Post
-surface-readings-once κs args x y left left′ p q = p ∙ sym q
-
-pub airborne-readings-once : OneAnswer 0 airborne-readings-kinds.ps airborne-readings-kinds.r airborne-readings.Post
-airborne-readings-once κs args x y left left′ p q = p ∙ sym q
-
-pub ground-readings-once : OneAnswer 0 ground-readings-kinds.ps ground-readings-kinds.r ground-readings.Post
-ground-readings-once κs args x y left left′ p q = p ∙ sym q
-
-pub air-readings-once : OneAnswer 0 air-readings-kinds.ps air-readings-kinds.r air-readings.Post
-air-readings-once κs args x y left left′ p q = p ∙ sym q
+pub readings-of-once : OneAnswer 0 readings-of-kinds.ps readings-of-kinds.r readings-of.Post
+readings-of-once κs args x y left left′ p q = p ∙ sym q

@@ -3,7 +3,7 @@ use Prim.Native.Nat.{ℕ, _+_, _-_, _*_, _%_, _^_}
 use mathlib.Core.List.{List, [], _∷_}
 use mathlib.Core.Bool.{cond, _||_}
 use lib.Dec.{eqb}
-use lib.IntN.{pos, _-ℤ_}
+use lib.IntN.{ℤ, pos, _-ℤ_}
 use Rattle.refusals.specs.declared.Refusal.the-variants.{Field}
 use Rattle.fields.specs.Packing.{field, wider}
 use Rattle.readings.specs.declared.altitude.Altitude.{Altitude}
@@ -42,13 +42,18 @@ unfoldable pub sixLess : ℕ → ℕ → ℕ
 sixLess f h = cond (eqb (f % 2) 1) (6 - h) h
 
 -- H of 0, 5 or 6 is unknown; else the altitude is 500 F + 100 H - 1,300
+abbrev pub hundredsBy : {A : Type 0} → (unknown : A) (feet : ℤ → A) (f h : ℕ) → A
+hundredsBy unknown feet f h = cond (eqb h 0 || eqb h 5 || eqb h 6) unknown (feet (pos (500 * f + 100 * sixLess f (straight h)) -ℤ pos 1300))
+
 unfoldable pub byHundreds : ℕ → ℕ → Altitude
-byHundreds f h = cond (eqb h 0 || eqb h 5 || eqb h 6) Unknown (Feet (pos (500 * f + 100 * sixLess f (straight h)) -ℤ pos 1300))
+byHundreds f h = hundredsBy Unknown Feet f h
 
 -- all zeros is unknown; with Q 1 the altitude is 25 N - 1,000 feet; with Q 0 it goes by hundreds
+abbrev pub altitudeBy : {A : Type 0} → (unknown : A) (feet : ℤ → A) (code : ℕ) → A
+altitudeBy unknown feet code =
+    cond (eqb code 0) unknown
+    (cond (eqb (bit 8 code) 1) (feet (pos (25 * eleven code) -ℤ pos 1000))
+    (hundredsBy unknown feet (fiveHundreds code) (hundreds code)))
+
 unfoldable pub altitudeOf : ℕ → Altitude
-altitudeOf code =
-    cond (wider 12 code) (Refused Field)
-    (cond (eqb code 0) Unknown
-    (cond (eqb (bit 8 code) 1) (Feet (pos (25 * eleven code) -ℤ pos 1000))
-    (byHundreds (fiveHundreds code) (hundreds code))))
+altitudeOf code = cond (wider 12 code) (Refused Field) (altitudeBy Unknown Feet code)

@@ -7,5 +7,8 @@ use Rattle.readings.specs.declared.headings.Heading.{Heading}
 use Rattle.readings.specs.declared.headings.Heading.the-variants.{Turn, Refused}
 
 -- n of b bits is n / 2^b of a turn: n/1024 in TYPE 19, n/128 on the surface
+abbrev pub turnOf : ℕ → ℕ → ℕ
+turnOf bits code = code * 2 ^ (32 - bits)
+
 abbrev pub headingOf : ℕ → ℕ → Heading
-headingOf bits code = cond (wider bits code) (Refused Field) (Turn (code * 2 ^ (32 - bits)))
+headingOf bits code = cond (wider bits code) (Refused Field) (Turn (turnOf bits code))

@@ -3,3 +3,4 @@ pub mod Amounts
 pub mod Bodies
 pub mod Headings
 pub mod Movement
+pub mod Said

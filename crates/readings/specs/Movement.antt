@@ -19,11 +19,13 @@ lowerEdge c =
     (4800 + 240 * (c - 109)))))))
 
 -- 0 unknown, 1 stopped, 2-123 a lower edge, 124: 8,400 and up, 125-127 reserved
+abbrev pub movementBy : {A : Type 0} → (unknown stopped : A) (edge andUp : ℕ → A) (reserved : A) (c : ℕ) → A
+movementBy unknown stopped edge andUp reserved c =
+    cond (eqb c 0) unknown
+    (cond (eqb c 1) stopped
+    (cond (leb c 123) (edge (lowerEdge c))
+    (cond (eqb c 124) (andUp 8400)
+    reserved)))
+
 unfoldable pub movementOf : ℕ → Movement
-movementOf c =
-    cond (wider 7 c) (Refused Field)
-    (cond (eqb c 0) Unknown
-    (cond (eqb c 1) Stopped
-    (cond (leb c 123) (LowerEdge (lowerEdge c))
-    (cond (eqb c 124) (AndUp 8400)
-    Reserved))))
+movementOf c = cond (wider 7 c) (Refused Field) (movementBy Unknown Stopped LowerEdge AndUp Reserved c)

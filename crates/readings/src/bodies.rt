@@ -1,4 +1,4 @@
-// What the fields of a message's body mean, by name, for each layout.
+// What a message's body means, layout by layout: its readings by name, or one refusal for the whole of it.
 use crate::altitude::Altitude;
 use crate::altitude::altitude_of;
 use crate::amounts::Difference;
@@ -16,13 +16,15 @@ use characters::CategorySet;
 use characters::Text;
 use characters::category_set_of;
 use characters::text_of;
+use layouts::Air;
 use layouts::Airborne;
+use layouts::Body;
+use layouts::Ground;
 use layouts::Identification;
 use layouts::Surface;
-use velocity::Air;
-use velocity::Ground;
+use refusals::Refusal;
 ghost use mathlib.Core.Path.{_≡_};
-ghost use Rattle.readings.specs.Bodies.{identificationMeans, surfaceMeans, airborneMeans, groundMeans, airMeans};
+ghost use Rattle.readings.specs.Bodies.{readingsOf};
 
 pub struct IdentificationReadings {
     pub set: CategorySet,
@@ -54,58 +56,97 @@ pub struct AirReadings {
     pub difference: Difference,
 }
 
+pub enum Readings {
+    Identification(IdentificationReadings),
+    Surface(SurfaceReadings),
+    Airborne(AirborneReadings),
+    // velocity over ground
+    Ground(GroundReadings),
+    // velocity through air
+    Air(AirReadings),
+    Refused(Refusal),
+}
+
 // The category set, by TYPE, and the eight characters.
-pub fn identification_readings(b: Identification) -> IdentificationReadings
-    ensures { λ r. ⌜ r ≡ identificationMeans b ⌝ }
+fn identification_readings(b: Identification) -> Readings
+    ensures { λ r. ⌜ r ≡ readingsOf (Body.Identification b) ⌝ }
 {
-    IdentificationReadings {
+    if !layouts::identification_fits(b) {
+        return Readings::Refused(Refusal::Field);
+    }
+    Readings::Identification(IdentificationReadings {
         set: category_set_of(b.typecode),
         text: text_of(b.characters),
-    }
+    })
 }
 
 // The movement, and the heading whatever its status bit says.
-pub fn surface_readings(b: Surface) -> SurfaceReadings
-    ensures { λ r. ⌜ r ≡ surfaceMeans b ⌝ }
+fn surface_readings(b: Surface) -> Readings
+    ensures { λ r. ⌜ r ≡ readingsOf (Body.Surface b) ⌝ }
 {
-    SurfaceReadings {
+    if !layouts::surface_fits(b) {
+        return Readings::Refused(Refusal::Field);
+    }
+    Readings::Surface(SurfaceReadings {
         movement: movement_of(b.movement),
         heading: surface_heading_of(b.heading),
-    }
+    })
 }
 
 // The altitude, and which of the two it is.
-pub fn airborne_readings(b: Airborne) -> AirborneReadings
-    ensures { λ r. ⌜ r ≡ airborneMeans b ⌝ }
+fn airborne_readings(b: Airborne) -> Readings
+    ensures { λ r. ⌜ r ≡ readingsOf (Body.Airborne b) ⌝ }
 {
-    AirborneReadings {
+    if !layouts::airborne_fits(b) {
+        return Readings::Refused(Refusal::Field);
+    }
+    Readings::Airborne(AirborneReadings {
         altitude: altitude_of(b.altitude),
         gnss: 20 <= b.typecode,
-    }
+    })
 }
 
 // The speeds to the east and to the north, the vertical rate and the height difference.
-pub fn ground_readings(b: Ground) -> GroundReadings
-    ensures { λ r. ⌜ r ≡ groundMeans b ⌝ }
+fn ground_readings(b: Ground) -> Readings
+    ensures { λ r. ⌜ r ≡ readingsOf (Body.Ground b) ⌝ }
 {
+    if !layouts::ground_fits(b) {
+        return Readings::Refused(Refusal::Field);
+    }
     let v = b.vertical;
-    GroundReadings {
+    Readings::Ground(GroundReadings {
         east: speed_of(b.subtype, b.west, b.eastward),
         north: speed_of(b.subtype, b.south, b.northward),
         rate: rate_of(v.down, v.rate),
         difference: difference_of(v.below, v.difference),
-    }
+    })
 }
 
 // An airspeed has no direction bit: it is never below zero.
-pub fn air_readings(b: Air) -> AirReadings
-    ensures { λ r. ⌜ r ≡ airMeans b ⌝ }
+fn air_readings(b: Air) -> Readings
+    ensures { λ r. ⌜ r ≡ readingsOf (Body.Air b) ⌝ }
 {
+    if !layouts::air_fits(b) {
+        return Readings::Refused(Refusal::Field);
+    }
     let v = b.vertical;
-    AirReadings {
+    Readings::Air(AirReadings {
         heading: heading_of(b.heading),
         airspeed: speed_of(b.subtype, 0, b.airspeed),
         rate: rate_of(v.down, v.rate),
         difference: difference_of(v.below, v.difference),
+    })
+}
+
+// What the fields of a body mean. One with a field wider than its bits, or a TYPE or subtype of another layout, is refused.
+pub fn readings_of(b: Body) -> Readings
+    ensures { λ r. ⌜ r ≡ readingsOf b ⌝ }
+{
+    match b {
+        Body::Identification(x) => identification_readings(x),
+        Body::Surface(x) => surface_readings(x),
+        Body::Airborne(x) => airborne_readings(x),
+        Body::Ground(x) => ground_readings(x),
+        Body::Air(x) => air_readings(x),
     }
 }

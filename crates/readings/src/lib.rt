@@ -1,4 +1,4 @@
-// What codes mean: each reading takes a code as the message has it and answers a value, or refuses a code wider than its bits.
+// What codes mean: each reading takes a code as the message has it and answers a value, or refuses what is wider than its bits; and so of a whole body.
 mod altitude;
 mod amounts;
 mod bodies;
@@ -18,12 +18,9 @@ pub use bodies::AirReadings;
 pub use bodies::AirborneReadings;
 pub use bodies::GroundReadings;
 pub use bodies::IdentificationReadings;
+pub use bodies::Readings;
 pub use bodies::SurfaceReadings;
-pub use bodies::air_readings;
-pub use bodies::airborne_readings;
-pub use bodies::ground_readings;
-pub use bodies::identification_readings;
-pub use bodies::surface_readings;
+pub use bodies::readings_of;
 pub use headings::Heading;
 pub use headings::heading_of;
 pub use headings::surface_heading_of;

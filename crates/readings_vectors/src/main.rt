@@ -1,14 +1,30 @@
-// Runs `readings` on each question of standard input, five bytes each, and writes the answers, a line each.
+// Runs `readings` on each question of standard input, five bytes each, and writes the answers, a line each. Behind a question of a whole body stand its fields, eight bytes each.
 use characters::CategorySet;
 use characters::Character;
+use characters::Text;
+use counts::LatitudeCount;
+use counts::LongitudeCount;
+use layouts::Air;
+use layouts::Airborne;
+use layouts::Body;
+use layouts::Ground;
+use layouts::Identification;
+use layouts::Surface;
+use layouts::Vertical;
 use libc::STDIN_FILENO;
 use libc::STDOUT_FILENO;
+use readings::AirReadings;
+use readings::AirborneReadings;
 use readings::Altitude;
 use readings::Difference;
+use readings::GroundReadings;
 use readings::Heading;
+use readings::IdentificationReadings;
 use readings::Movement;
 use readings::Rate;
+use readings::Readings;
 use readings::Speed;
+use readings::SurfaceReadings;
 use refusals::Refusal;
 
 fn write(text: &[u8]) {
@@ -109,6 +125,208 @@ fn say_character(c: Character) {
     }
 }
 
+fn say_text(t: Text) {
+    match t {
+        Text::Shown(n) => {
+            io::print_decimal(STDOUT_FILENO, n);
+        }
+        Text::Refused(r) => say_refused(r),
+    }
+}
+
+fn say_identification(m: IdentificationReadings) {
+    let set = m.set;
+    let text = m.text;
+    write(b"identification ");
+    say_category_set(set);
+    write(b", ");
+    say_text(text);
+}
+
+fn say_surface(m: SurfaceReadings) {
+    let movement = m.movement;
+    let heading = m.heading;
+    write(b"surface ");
+    say_movement(movement);
+    write(b", ");
+    say_heading(heading);
+}
+
+fn say_airborne(m: AirborneReadings) {
+    let altitude = m.altitude;
+    write(b"airborne ");
+    say_altitude(altitude);
+    if m.gnss {
+        write(b", GNSS");
+    } else {
+        write(b", pressure");
+    }
+}
+
+fn say_vertical(rate: Rate, difference: Difference) {
+    write(b", ");
+    say_rate(rate);
+    write(b", ");
+    say_difference(difference);
+}
+
+fn say_ground(m: GroundReadings) {
+    let east = m.east;
+    let north = m.north;
+    let rate = m.rate;
+    let difference = m.difference;
+    write(b"ground ");
+    say_speed(east);
+    write(b", ");
+    say_speed(north);
+    say_vertical(rate, difference);
+}
+
+fn say_air(m: AirReadings) {
+    let heading = m.heading;
+    let airspeed = m.airspeed;
+    let rate = m.rate;
+    let difference = m.difference;
+    write(b"air ");
+    say_heading(heading);
+    write(b", ");
+    say_speed(airspeed);
+    say_vertical(rate, difference);
+}
+
+fn say_readings(r: Readings) {
+    match r {
+        Readings::Identification(m) => say_identification(m),
+        Readings::Surface(m) => say_surface(m),
+        Readings::Airborne(m) => say_airborne(m),
+        Readings::Ground(m) => say_ground(m),
+        Readings::Air(m) => say_air(m),
+        Readings::Refused(n) => say_refused(n),
+    }
+}
+
+// The field i of the 15 that stand behind a question.
+fn field(q: &[u8], i: usize) -> u64 {
+    if 15 <= i {
+        return 0;
+    }
+    let from = 8 * i;
+    let to = from + 8;
+    if q.len() < to {
+        return 0;
+    }
+    fields::number_of(&q[from..to])
+}
+
+fn byte(q: &[u8], i: usize) -> u8 {
+    (field(q, i) % 256) as u8
+}
+
+fn short(q: &[u8], i: usize) -> u16 {
+    (field(q, i) % 65536) as u16
+}
+
+fn word(q: &[u8], i: usize) -> u32 {
+    (field(q, i) % 4294967296) as u32
+}
+
+fn identification(q: &[u8]) -> Body {
+    Body::Identification(Identification {
+        typecode: byte(q, 0),
+        category: byte(q, 1),
+        characters: field(q, 2),
+    })
+}
+
+fn surface(q: &[u8]) -> Body {
+    Body::Surface(Surface {
+        typecode: byte(q, 0),
+        movement: byte(q, 1),
+        status: byte(q, 2),
+        heading: byte(q, 3),
+        t: byte(q, 4),
+        f: byte(q, 5),
+        latitude: LatitudeCount(word(q, 6)),
+        longitude: LongitudeCount(word(q, 7)),
+    })
+}
+
+fn airborne(q: &[u8]) -> Body {
+    Body::Airborne(Airborne {
+        typecode: byte(q, 0),
+        surveillance: byte(q, 1),
+        bit8: byte(q, 2),
+        altitude: short(q, 3),
+        t: byte(q, 4),
+        f: byte(q, 5),
+        latitude: LatitudeCount(word(q, 6)),
+        longitude: LongitudeCount(word(q, 7)),
+    })
+}
+
+fn vertical(q: &[u8]) -> Vertical {
+    Vertical {
+        source: byte(q, 9),
+        down: byte(q, 10),
+        rate: short(q, 11),
+        reserved: byte(q, 12),
+        below: byte(q, 13),
+        difference: byte(q, 14),
+    }
+}
+
+fn ground(q: &[u8]) -> Body {
+    Body::Ground(Ground {
+        typecode: byte(q, 0),
+        subtype: byte(q, 1),
+        bit9: byte(q, 2),
+        bit10: byte(q, 3),
+        nacv: byte(q, 4),
+        west: byte(q, 5),
+        eastward: short(q, 6),
+        south: byte(q, 7),
+        northward: short(q, 8),
+        vertical: vertical(q),
+    })
+}
+
+fn air(q: &[u8]) -> Body {
+    Body::Air(Air {
+        typecode: byte(q, 0),
+        subtype: byte(q, 1),
+        bit9: byte(q, 2),
+        bit10: byte(q, 3),
+        nacv: byte(q, 4),
+        status: byte(q, 5),
+        heading: short(q, 6),
+        airspeedkind: byte(q, 7),
+        airspeed: short(q, 8),
+        vertical: vertical(q),
+    })
+}
+
+// What a body means, by the number of its layout.
+fn say_body(layout: u8, q: &[u8]) {
+    match layout {
+        0 => say_readings(readings::readings_of(identification(q))),
+        1 => say_readings(readings::readings_of(surface(q))),
+        2 => say_readings(readings::readings_of(airborne(q))),
+        3 => say_readings(readings::readings_of(ground(q))),
+        4 => say_readings(readings::readings_of(air(q))),
+        _ => write(b"no such layout"),
+    }
+}
+
+// Reads the fields of a body.
+fn answer_body(layout: u8) {
+    let mut q = [0u8; 120];
+    if io::read_full(STDIN_FILENO, &mut q) != 120 {
+        write(b"too short");
+        return;
+    }
+    say_body(layout, &q);
+}
+
 fn answer(question: u8, a: u8, b: u8, code: u16) {
     let byte = (code % 256) as u8;
     match question {
@@ -121,6 +339,7 @@ fn answer(question: u8, a: u8, b: u8, code: u16) {
         6 => say_heading(readings::surface_heading_of(byte)),
         7 => say_movement(readings::movement_of(byte)),
         8 => say_character(characters::character_of(byte)),
+        9 => answer_body(a),
         _ => write(b"no such question"),
     }
     write(b"\n");

@@ -3,6 +3,7 @@ use Prim.Native.Nat.{ℕ}
 use mathlib.Core.List.{List}
 use mathlib.Core.Option.{Option, some, none}
 use Rattle.refusals.specs.Numbers.{numberOf}
+use Rattle.refusals.specs.Said.{Said, number, gives}
 use Rattle.track.specs.declared.Track.{Track}
 use Rattle.text.specs.declared.Line.{Line}
 use Rattle.text.specs.Lines.{rowText, textIn}
@@ -11,21 +12,16 @@ use Rattle.report.specs.declared.Printed.the-variants.{Text, Nothing, Re
 use Rattle.report.specs.declared.Report.{Report}
 use Rattle.report.specs.Listing.{rowOf}
 
-pub data Said : Type 0 where
-  number : ℕ → Said
-  text : List ℕ → Said
-  nothing : Said
-
 -- the answer, with the line beside it
-abbrev pub printedSaid : Printed → Line → Said
-printedSaid Text l = text (textIn l)
-printedSaid Nothing l = nothing
+abbrev pub printedSaid : Printed → Line → Said (Option (List ℕ))
+printedSaid Text l = gives (some (textIn l))
+printedSaid Nothing l = gives none
 printedSaid (Refused r) l = number (numberOf r)
 
-abbrev pub reportSaid : Report → Said
+abbrev pub reportSaid : Report → Said (Option (List ℕ))
 reportSaid x = printedSaid (x .answer) (x .line)
 
 -- what is due for a key, by its track: its line, or nothing where it is not held
-abbrev pub lineDue : ℕ → Option Track → Said
-lineDue key none = nothing
-lineDue key (some t) = text (rowText (rowOf key t))
+abbrev pub lineDue : ℕ → Option Track → Option (List ℕ)
+lineDue key none = none
+lineDue key (some t) = some (rowText (rowOf key t))

@@ -5,17 +5,18 @@ use Prim.Native.Nat.{ℕ}
 use mathlib.Core.Bool.{Bool, true, false, cond, not, _&&_}
 use mathlib.Core.Logic.{_↔_}
 use mathlib.Core.Path.{_≡_, refl, ap, _∙_}
-use mathlib.Core.List.{List, _++_}
+use mathlib.Core.List.{List}
 use lib.Dec.{ltb}
 use borrow.Author.Tests.{ltb-true, not-true, not-false}
 use Rattle.refusals.specs.declared.Refusal.the-variants.{Length, Late, Full, Places}
-use Rattle.fields.specs.Packing.{unpack}
+use Rattle.refusals.specs.Said.{Said, number, gives}
 use Rattle.fields.proofs.Bools.{and-left, and-right}
+use Rattle.layouts.specs.Said.{Values}
 use Rattle.messages.specs.declared.Message.{Message}
 use Rattle.messages.specs.declared.Decoded.{Decoded}
 use Rattle.messages.specs.declared.Decoded.the-variants as decode
-use Rattle.messages.specs.Message.{bits, headWidths, decoded, keyOf}
-use Rattle.messages.specs.Table.{Said, number, values, said, earns1, earns3, earns4, earns5, layoutWidths, table}
+use Rattle.messages.specs.Message.{decoded, keyOf}
+use Rattle.messages.specs.Table.{said, earns1, earns3, earns4, earns5, valuesIn, table}
 use Rattle.messages.proofs.Exactly as decoder
 use Rattle.messages.proofs.Keys.{decoded-key}
 use Rattle.located.specs.declared.Site.{Site}
@@ -67,13 +68,13 @@ module _ {S : Type 0} (F : Form S) (L : Lawful F) (s : S) (message : List ℕ) (
 
 -- ---- what is delivered
 
-abbrev saidAfter : {S : Type 0} → After S Decoded → Said
+abbrev saidAfter : {S : Type 0} → After S Decoded → Said Values
 saidAfter x = said (x .answer)
 
 -- 6 in the place of a message's values
-abbrev unless : Bool → Said → Said
+abbrev unless : Bool → Said Values → Said Values
 unless six (number n) = number n
-unless six (values v) = cond six (number 6) (values v)
+unless six (gives v) = cond six (number 6) (gives v)
 
 module _ (message : List ℕ) (m : Message) (d : decoded message ≡ decode.Message m) where
   stepped-answer : (x : Track) (site : Site) (t : ℕ) → stepped x (decode.Message m) site t .answer ≡ decode.Message m
@@ -106,11 +107,11 @@ said-first false true c s x = refl
 said-first false false true s x = refl
 said-first false false false s x = refl
 
-in-order : (one seven two three four five six : Bool) (v : List ℕ)
+in-order : (one seven two three four five six : Bool) (v : Values)
     → cond one (number 1) (cond seven (number 7) (cond two (number 2)
-    (unless six (cond one (number 1) (cond three (number 3) (cond four (number 4) (cond five (number 5) (values v))))))))
+    (unless six (cond one (number 1) (cond three (number 3) (cond four (number 4) (cond five (number 5) (gives v))))))))
     ≡ cond one (number 1) (cond seven (number 7) (cond two (number 2)
-    (cond three (number 3) (cond four (number 4) (cond five (number 5) (cond six (number 6) (values v)))))))
+    (cond three (number 3) (cond four (number 4) (cond five (number 5) (cond six (number 6) (gives v)))))))
 in-order true seven two three four five six v = refl
 in-order false true two three four five six v = refl
 in-order false false true three four five six v = refl
@@ -128,6 +129,5 @@ says-the-table F L s message t =
     ∙ ap (λ (six : Bool). unless six (said (decoded message))) (six-moved F L s message t)
     ∙ ap (unless (earns6 F s message t)) (decoder.says-the-table message) in
     said-first (earns1 message) (earns7 F s) (earns2 F s t) s (delivered F (F .moved s t) (decoded message) t)
-    ∙ ap (λ (x : Said). cond (earns1 message) (number 1) (cond (earns7 F s) (number 7) (cond (earns2 F s t) (number 2) x))) rest
-    ∙ in-order (earns1 message) (earns7 F s) (earns2 F s t) (earns3 message) (earns4 message) (earns5 message) (earns6 F s message t)
-    (unpack (headWidths ++ layoutWidths (bits 33 37 message)) (bits 1 88 message))
+    ∙ ap (λ (x : Said Values). cond (earns1 message) (number 1) (cond (earns7 F s) (number 7) (cond (earns2 F s t) (number 2) x))) rest
+    ∙ in-order (earns1 message) (earns7 F s) (earns2 F s t) (earns3 message) (earns4 message) (earns5 message) (earns6 F s message t) (valuesIn message)

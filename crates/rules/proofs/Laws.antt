@@ -341,6 +341,17 @@ site-fits o east p k = (pole (o .known) (poleToPole (o .spot .latitude)) k p, ea
     pole true false e p = absurd (true≢false p)
     pole false b e p = absurd (false≢true e)
 
+-- a set-up that is refused leaves the table as it was
+pub set-up-unchanged : {S : Type 0} (F : Form S) (s : S) (o : Site) (r : Refusal) → setUp F s o .answer ≡ setting.Refused r → setUp F s o .table ≡ s
+unfolding setUp
+set-up-unchanged {S} F s o r =
+    let P : After S SetUp → Type 0 = λ (x : After S SetUp). x .answer ≡ setting.Refused r → x .table ≡ s in
+    by-test P (not (F .whole s)) _ _
+    (λ _ _. refl)
+    (λ _. by-test P (o .known && not (poleToPole (o .spot .latitude))) _ _
+    (λ _ _. refl)
+    (λ _ a. absurd (not-done (sym a))))
+
 module _ {S : Type 0} (F : Form S) (L : Lawful F) (s : S) (o : Site) where
   unkept : (c k i : ℕ) → holds c k (F .cell (F .emptied s o) i) ≡ false
   unfolding holds isHeld

@@ -6,6 +6,7 @@ use mathlib.Core.Option.{Option, some, none}
 use mathlib.Core.Path.{_≡_, refl, ap, _∙_}
 use lib.Dec.{eqb, ltb}
 use Rattle.refusals.specs.declared.Refusal.the-variants.{Places, Field}
+use Rattle.refusals.specs.Said.{number, gives}
 use Rattle.located.specs.declared.Site.{Site}
 use Rattle.track.specs.declared.Track.{Track}
 use Rattle.track.specs.Track.{newTrack}
@@ -17,7 +18,7 @@ use Rattle.answers.specs.declared.NextKey.the-variants as following
 use Rattle.rules.specs.Form.{Form}
 use Rattle.rules.specs.Rules.{after, setUp, placeOf, lookedUp, leastAbove, nextAbove}
 use Rattle.rules.specs.View.{view, lookedAs}
-use Rattle.rules.specs.Said.{number, done, track, next-key, setUpSaid, lookedSaid, nextSaid, keyAbove, earns7, earns8, setUpTable}
+use Rattle.rules.specs.Said.{done, setUpSaid, lookedSaid, nextSaid, keyAbove, earns7, earns8, setUpTable}
 use Rattle.rules.proofs.Laws.{looked-up}
 
 module _ {S : Type 0} (F : Form S) (s : S) where
@@ -31,7 +32,7 @@ module _ {S : Type 0} (F : Form S) (s : S) where
       by-tests false true z = refl
       by-tests false false z = refl
 
-  viewed : (v : Option Track) → lookedSaid (lookedAs v) ≡ track v
+  viewed : (v : Option Track) → lookedSaid (lookedAs v) ≡ gives v
   viewed none = refl
   viewed (some t) = refl
 
@@ -39,18 +40,18 @@ module _ {S : Type 0} (F : Form S) (s : S) where
   unfolding lookedUp
   look-refused key e = rw e
 
-  pub look-says : (key : ℕ) → lookedSaid (lookedUp F s key) ≡ cond (earns7 F s) (number 7) (track (view F s key))
+  pub look-says : (key : ℕ) → lookedSaid (lookedUp F s key) ≡ cond (earns7 F s) (number 7) (gives (view F s key))
   look-says key = by-whole (F .whole s) refl
     where
-      by-whole : (w : Bool) → F .whole s ≡ w → lookedSaid (lookedUp F s key) ≡ cond (not w) (number 7) (track (view F s key))
+      by-whole : (w : Bool) → F .whole s ≡ w → lookedSaid (lookedUp F s key) ≡ cond (not w) (number 7) (gives (view F s key))
       by-whole true e = ap lookedSaid (looked-up F s key e) ∙ viewed (view F s key)
       by-whole false e = look-refused key e
 
-  pub next-says : (above : ℕ) → nextSaid (nextAbove F s above) ≡ cond (earns7 F s) (number 7) (next-key (keyAbove F s above))
+  pub next-says : (above : ℕ) → nextSaid (nextAbove F s above) ≡ cond (earns7 F s) (number 7) (gives (keyAbove F s above))
   unfolding nextAbove
   next-says above = by-tests (earns7 F s) (eqb (leastAbove F s above) 0) (leastAbove F s above)
     where
-      by-tests : (a b : Bool) (k : ℕ) → nextSaid (cond a (following.Refused Places) (cond b following.End (following.Key k))) ≡ cond a (number 7) (next-key (cond b none (some k)))
+      by-tests : (a b : Bool) (k : ℕ) → nextSaid (cond a (following.Refused Places) (cond b following.End (following.Key k))) ≡ cond a (number 7) (gives (cond b none (some k)))
       by-tests true b k = refl
       by-tests false true k = refl
       by-tests false false k = refl

@@ -1,17 +1,17 @@
 -- What the answers say in document 01's terms, of any form: a number of its table, or what the lent table holds; and for a received message the paper's whole table, in its order.
 use Prim.Native.Nat.{ℕ}
 use mathlib.Core.Bool.{Bool, cond, not, _&&_}
-use mathlib.Core.List.{List, _++_}
+use mathlib.Core.List.{List}
 use mathlib.Core.Option.{Option, some, none}
 use lib.Dec.{eqb, ltb}
 use Rattle.refusals.specs.Numbers.{numberOf}
-use Rattle.fields.specs.Packing.{unpack}
+use Rattle.refusals.specs.Said.{Said, number, gives}
 use Rattle.keys.specs.Keys.{keyFor}
 use Rattle.positions.specs.declared.Spot.{Spot}
 use Rattle.positions.specs.Positions.{poleToPole}
-use Rattle.messages.specs.Message.{bits, headWidths, kindOf}
-use Rattle.messages.specs.Table.{earns1, earns3, earns4, earns5, layoutWidths}
-use Rattle.messages.specs.Table as messages
+use Rattle.layouts.specs.Said.{Values}
+use Rattle.messages.specs.Message.{bits, kindOf}
+use Rattle.messages.specs.Table.{earns1, earns3, earns4, earns5, valuesIn}
 use Rattle.located.specs.declared.Site.{Site}
 use Rattle.track.specs.declared.Track.{Track}
 use Rattle.answers.specs.declared.Heard.{Heard}
@@ -30,56 +30,51 @@ use Rattle.answers.specs.declared.Sited.the-variants as sited
 use Rattle.rules.specs.Form.{Form}
 use Rattle.rules.specs.Rules.{placeOf, freePlace, leastAbove}
 
--- a number; that a call is done; the track of a key, or that it is not held; the next key, or that there is none; the clock; the site, or that there is none
-pub data Said : Type 0 where
-  number : ℕ → Said
-  done : Said
-  track : Option Track → Said
-  next-key : Option ℕ → Said
-  clock : ℕ → Said
-  site : Option Spot → Said
+-- that a call is done: it gives no values
+abbrev pub done : Said Unit
+done = gives tt
 
 -- the answer of a set-up
-abbrev pub setUpSaid : SetUp → Said
+abbrev pub setUpSaid : SetUp → Said Unit
 setUpSaid setting.Done = done
 setUpSaid (setting.Refused r) = number (numberOf r)
 
--- of `hear`, and what it makes of the decoder's answer: that it is done, where that has fields
-abbrev pub heardSaid : Heard → Said
+-- of `hear`, and what it makes of the decoder's answer: that it is done, where that has values
+abbrev pub heardSaid : Heard → Said Unit
 heardSaid hear.Done = done
 heardSaid (hear.Refused r) = number (numberOf r)
 
-abbrev pub doneOr : messages.Said → Said
-doneOr (messages.number n) = number n
-doneOr (messages.values v) = done
+abbrev pub doneOr : Said Values → Said Unit
+doneOr (number n) = number n
+doneOr (gives v) = done
 
--- of `look_up`: the track beside the answer counts where the key is held
-abbrev pub holdingSaid : Holding → Track → Said
-holdingSaid holding.Held t = track (some t)
-holdingSaid holding.Unheld t = track none
+-- of `look_up`: the track of a key, or that it is not held; the track beside the answer counts where the key is held
+abbrev pub holdingSaid : Holding → Track → Said (Option Track)
+holdingSaid holding.Held t = gives (some t)
+holdingSaid holding.Unheld t = gives none
 holdingSaid (holding.Refused r) t = number (numberOf r)
 
-abbrev pub lookedSaid : Looked → Said
+abbrev pub lookedSaid : Looked → Said (Option Track)
 lookedSaid x = holdingSaid (x .answer) (x .track)
 
--- of `next`
-abbrev pub nextSaid : NextKey → Said
-nextSaid (next.Key k) = next-key (some k)
-nextSaid next.End = next-key none
+-- of `next`: the next key, or that there is none
+abbrev pub nextSaid : NextKey → Said (Option ℕ)
+nextSaid (next.Key k) = gives (some k)
+nextSaid next.End = gives none
 nextSaid (next.Refused r) = number (numberOf r)
 
 -- of `clock_of`
-abbrev pub clockSaid : Clock → Said
-clockSaid (clocked.At t) = clock t
+abbrev pub clockSaid : Clock → Said ℕ
+clockSaid (clocked.At t) = gives t
 clockSaid (clocked.Refused r) = number (numberOf r)
 
 -- where a site is, if it is known
 abbrev pub spotIn : Site → Option Spot
 spotIn x = cond (x .known) (some (x .spot)) none
 
--- of `site_of`
-abbrev pub sitedSaid : Sited → Said
-sitedSaid (sited.Site x) = site (spotIn x)
+-- of `site_of`: the site, or that there is none
+abbrev pub sitedSaid : Sited → Said (Option Spot)
+sitedSaid (sited.Site x) = gives (spotIn x)
 sitedSaid (sited.Refused r) = number (numberOf r)
 
 -- a key, if it is one: none is 0
@@ -121,17 +116,17 @@ abbrev pub earns8 : Site → Bool
 earns8 o = o .known && not (poleToPole (o .spot .latitude))
 
 -- for a set-up 7 precedes 8
-abbrev pub setUpTable : {S : Type 0} → Form S → S → Site → Said
+abbrev pub setUpTable : {S : Type 0} → Form S → S → Site → Said Unit
 setUpTable F s o = cond (earns7 F s) (number 7) (cond (earns8 o) (number 8) done)
 
--- for a received message the order is 1, 7, 2, 3, 4, 5, 6; else all fields of the bits before PI. `receive` answers with the decoder's type, so what it says is `said` of messages
-abbrev pub receiveTable : {S : Type 0} → Form S → S → List ℕ → ℕ → messages.Said
+-- for a received message the order is 1, 7, 2, 3, 4, 5, 6; else the values. `receive` answers with the decoder's type, so what it says is `said` of messages
+abbrev pub receiveTable : {S : Type 0} → Form S → S → List ℕ → ℕ → Said Values
 receiveTable F s m time =
-    cond (earns1 m) (messages.number 1)
-    (cond (earns7 F s) (messages.number 7)
-    (cond (earns2 F s time) (messages.number 2)
-    (cond (earns3 m) (messages.number 3)
-    (cond (earns4 m) (messages.number 4)
-    (cond (earns5 m) (messages.number 5)
-    (cond (earns6 F s m time) (messages.number 6)
-    (messages.values (unpack (headWidths ++ layoutWidths (bits 33 37 m)) (bits 1 88 m)))))))))
+    cond (earns1 m) (number 1)
+    (cond (earns7 F s) (number 7)
+    (cond (earns2 F s time) (number 2)
+    (cond (earns3 m) (number 3)
+    (cond (earns4 m) (number 4)
+    (cond (earns5 m) (number 5)
+    (cond (earns6 F s m time) (number 6)
+    (gives (valuesIn m))))))))

@@ -10,9 +10,9 @@ use Rattle.answers.specs.declared.SetUp.{SetUp}
 use Rattle.answers.specs.declared.SetUp.the-variants as setting
 use Rattle.answers.specs.declared.Holding.{Holding}
 use Rattle.answers.specs.declared.Looked.{Looked}
-use Rattle.located.specs.Located.{noSite}
 use Rattle.rules.specs.Search as search
 use Rattle.slots.specs.declared.Place.{Place}
+use Rattle.slots.specs.declared.Head.{Head}
 use Rattle.slots.specs.declared.Started.{Started}
 use Rattle.slots.specs.declared.Sought.{Sought}
 use Rattle.slots.specs.Ranges.{isHeld}
@@ -24,13 +24,14 @@ sought clock key = record { clock = clock; key = key }
 
 -- ---- set-up
 
-abbrev pub notStarted : Refusal → Started
-notStarted r = record { answer = setting.Refused r; head = headOf 0 noSite }
+-- a refusal leaves the head as it was
+abbrev pub notStarted : Refusal → Head → Started
+notStarted r head = record { answer = setting.Refused r; head = head }
 
-unfoldable pub started : ℕ → Site → Started
-started n site =
-    cond (not (placesFit n)) (notStarted Places)
-    (cond (site .known && not (poleToPole (site .spot .latitude))) (notStarted Field)
+unfoldable pub started : ℕ → Head → Site → Started
+started n head site =
+    cond (not (placesFit n)) (notStarted Places head)
+    (cond (site .known && not (poleToPole (site .spot .latitude))) (notStarted Field head)
     (record { answer = setting.Done; head = headOf 0 site }))
 
 abbrev pub isDone : SetUp → Bool

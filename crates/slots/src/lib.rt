@@ -96,28 +96,25 @@ pub fn seek(head: Head, key: u32) -> Sought
     }
 }
 
-fn not_started(refusal: Refusal) -> Started
-    ensures { λ r. ⌜ r ≡ notStarted refusal ⌝ }
+fn not_started(refusal: Refusal, head: Head) -> Started
+    ensures { λ r. ⌜ r ≡ notStarted refusal head ⌝ }
 {
     Started {
         answer: SetUp::Refused(refusal),
-        head: Head {
-            clock: 0,
-            site: located::no_site(),
-        },
+        head: head,
     }
 }
 
-// What is known of a set-up before the slice is touched: 7, then 8.
-pub fn start(n: usize, site: Site) -> Started
-    ensures { λ r. ⌜ r ≡ started n site ⌝ }
+// What is known of a set-up before the slice is touched: 7, then 8, each with the head as it was.
+pub fn start(n: usize, head: Head, site: Site) -> Started
+    ensures { λ r. ⌜ r ≡ started n head site ⌝ }
 {
     if !places_fit(n) {
-        return not_started(Refusal::Places);
+        return not_started(Refusal::Places, head);
     }
     let spot = site.spot;
     if site.known & !ranges::pole_to_pole(spot) {
-        return not_started(Refusal::Field);
+        return not_started(Refusal::Field, head);
     }
     Started {
         answer: SetUp::Done,

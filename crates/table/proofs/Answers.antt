@@ -21,10 +21,8 @@ use Rattle.track.specs.declared.Track.{Track}
 use Rattle.track.specs.declared.Stepped.{Stepped}
 use Rattle.track.specs.Track.{newTrack, stepped}
 use Rattle.words.specs.Bytes.{lowBytes, put}
-use Rattle.track.specs.Meaning.{meant}
-use Rattle.place.specs.Place.{raised, writtenIn, trackOf}
+use Rattle.place.specs.Place.{raised, trackOf}
 use Rattle.held.specs.Ranges.{held}
-use Rattle.rules.specs.Form as form
 use Rattle.rules.specs.Rules as rules
 use Rattle.lent.specs.declared.scan.Target.{Target}
 use Rattle.offsets.specs.Offsets.{siteLatitudeAt, wholePlaces, placesIn}

@@ -10,6 +10,7 @@ use contract.Lifetimes.{Lfts}
 use denote.Triple.Clauses.{AtExit}
 use borrow.Fn.Kinds.{Dens, resT, endedOf}
 use Rattle.refusals.specs.declared.Refusal.the-variants.{Places}
+use Rattle.refusals.specs.Said.{number, gives}
 use Rattle.messages.specs.declared.Decoded.{Decoded}
 use Rattle.messages.specs.declared.Decoded.the-variants as decode
 use Rattle.messages.specs.Table.{said}
@@ -19,7 +20,7 @@ use Rattle.answers.specs.declared.Heard.{Heard}
 use Rattle.answers.specs.declared.SetUp.{SetUp}
 use Rattle.answers.specs.declared.Clock.the-variants as clocked
 use Rattle.answers.specs.declared.Sited.the-variants as sited
-use Rattle.rules.specs.Said.{number, track, next-key, clock, site, setUpSaid, heardSaid, doneOr, lookedSaid, nextSaid, clockSaid, spotIn, sitedSaid, keyAbove, earns7, setUpTable, receiveTable}
+use Rattle.rules.specs.Said.{setUpSaid, heardSaid, doneOr, lookedSaid, nextSaid, clockSaid, spotIn, sitedSaid, keyAbove, earns7, setUpTable, receiveTable}
 use Rattle.rules.proofs.Exactly.{says-the-table}
 use Rattle.rules.proofs.Says.{set-up-says, look-says, next-says}
 use Rattle.offsets.specs.Offsets.{wholePlaces}
@@ -82,36 +83,36 @@ hear-promised κs args x left p =
 
 pub look-up-promised : (κs : Lfts 1) (args : Dens κs look-up-kinds.ps) (x : resT look-up-kinds.r κs .Denot)
     (left : AtExit (endedOf 1 look-up-kinds.ps look-up-kinds.r) κs) → look-up.Post κs args x left
-    → lookedSaid x ≡ cond (earns7 bytes (args .0 .now)) (number 7) (track (view (args .0 .now) (args .1 .0)))
+    → lookedSaid x ≡ cond (earns7 bytes (args .0 .now)) (number 7) (gives (view (args .0 .now) (args .1 .0)))
 look-up-promised κs args x left p = ap lookedSaid p ∙ look-says bytes (args .0 .now) (args .1 .0)
 
 pub next-promised : (κs : Lfts 1) (args : Dens κs next-kinds.ps) (x : resT next-kinds.r κs .Denot)
     (left : AtExit (endedOf 1 next-kinds.ps next-kinds.r) κs) → next.Post κs args x left
-    → nextSaid x ≡ cond (earns7 bytes (args .0 .now)) (number 7) (next-key (keyAbove bytes (args .0 .now) (args .1 .0)))
+    → nextSaid x ≡ cond (earns7 bytes (args .0 .now)) (number 7) (gives (keyAbove bytes (args .0 .now) (args .1 .0)))
 next-promised κs args x left p = ap nextSaid p ∙ next-says bytes (args .0 .now) (args .1 .0)
 
-clock-says : (s : List ℕ) → clockSaid (clockIn s) ≡ cond (earns7 bytes s) (number 7) (clock (clockOf s))
+clock-says : (s : List ℕ) → clockSaid (clockIn s) ≡ cond (earns7 bytes s) (number 7) (gives (clockOf s))
 unfolding clockIn
 clock-says s = by-whole (wholePlaces (length s)) (clockOf s)
   where
-    by-whole : (w : Bool) (t : ℕ) → clockSaid (cond w (clocked.At t) (clocked.Refused Places)) ≡ cond (not w) (number 7) (clock t)
+    by-whole : (w : Bool) (t : ℕ) → clockSaid (cond w (clocked.At t) (clocked.Refused Places)) ≡ cond (not w) (number 7) (gives t)
     by-whole true t = refl
     by-whole false t = refl
 
 pub clock-of-promised : (κs : Lfts 1) (args : Dens κs clock-of-kinds.ps) (x : resT clock-of-kinds.r κs .Denot)
     (left : AtExit (endedOf 1 clock-of-kinds.ps clock-of-kinds.r) κs) → clock-of.Post κs args x left
-    → clockSaid x ≡ cond (earns7 bytes (args .0 .now)) (number 7) (clock (clockOf (args .0 .now)))
+    → clockSaid x ≡ cond (earns7 bytes (args .0 .now)) (number 7) (gives (clockOf (args .0 .now)))
 clock-of-promised κs args x left p = ap clockSaid p ∙ clock-says (args .0 .now)
 
-site-says : (s : List ℕ) → sitedSaid (siteIn s) ≡ cond (earns7 bytes s) (number 7) (site (spotIn (siteOf s)))
+site-says : (s : List ℕ) → sitedSaid (siteIn s) ≡ cond (earns7 bytes s) (number 7) (gives (spotIn (siteOf s)))
 unfolding siteIn
 site-says s = by-whole (wholePlaces (length s)) (siteOf s)
   where
-    by-whole : (w : Bool) (x : Site) → sitedSaid (cond w (sited.Site x) (sited.Refused Places)) ≡ cond (not w) (number 7) (site (spotIn x))
+    by-whole : (w : Bool) (x : Site) → sitedSaid (cond w (sited.Site x) (sited.Refused Places)) ≡ cond (not w) (number 7) (gives (spotIn x))
     by-whole true x = refl
     by-whole false x = refl
 
 pub site-of-promised : (κs : Lfts 1) (args : Dens κs site-of-kinds.ps) (x : resT site-of-kinds.r κs .Denot)
     (left : AtExit (endedOf 1 site-of-kinds.ps site-of-kinds.r) κs) → site-of.Post κs args x left
-    → sitedSaid x ≡ cond (earns7 bytes (args .0 .now)) (number 7) (site (spotIn (siteOf (args .0 .now))))
+    → sitedSaid x ≡ cond (earns7 bytes (args .0 .now)) (number 7) (gives (spotIn (siteOf (args .0 .now))))
 site-of-promised κs args x left p = ap sitedSaid p ∙ site-says (args .0 .now)

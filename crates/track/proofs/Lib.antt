@@ -1,4 +1,5 @@
 pub mod Mes
 pub mod Rules
 pub mod Meanings
+pub mod Promised
 pub mod Unique

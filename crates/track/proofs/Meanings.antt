@@ -7,11 +7,11 @@ use mathlib.Core.Bool.{Bool, true, false, cond, _||_}
 use mathlib.Core.List.{List}
 use lib.ListN.{getD}
 use Rattle.layouts.specs.Layouts.{isIdentification, isSurface}
-use Rattle.velocity.specs.Velocity.{isGround, isAir}
+use Rattle.layouts.specs.Velocity.{isGround, isAir}
 use Rattle.layouts.specs.declared.identification.Identification.{Identification}
 use Rattle.layouts.specs.declared.surface.Surface.{Surface}
-use Rattle.velocity.specs.declared.Ground.{Ground}
-use Rattle.velocity.specs.declared.Air.{Air}
+use Rattle.layouts.specs.declared.velocity.Ground.{Ground}
+use Rattle.layouts.specs.declared.velocity.Air.{Air}
 use Rattle.layouts.specs.declared.bodies.Body.the-variants as body
 use Rattle.layouts.specs.Bodies.{bodyMe, bodyFits}
 use Rattle.layouts.proofs.Layouts as layout

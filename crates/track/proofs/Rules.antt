@@ -5,11 +5,11 @@ use mathlib.Core.Path.{_≡_, refl, ap, _∙_}
 use mathlib.Core.Bool.{Bool, true, false, _&&_}
 use mathlib.Core.List.{List, [], _∷_}
 use lib.Dec.{leb}
-use lib.ListN.{length, getD, length-set}
+use lib.ListN.{length, getD}
 use lib.Seq.{getD-set-same, getD-set-other}
 use borrow.Author.Tests.{le-leb, lt-leb}
 use Rattle.refusals.specs.declared.Refusal.{Refusal}
-use Rattle.refusals.specs.declared.Refusal.the-variants.{Field}
+use Rattle.refusals.specs.declared.Refusal.the-variants.{Field, Latitude, Zones}
 use Rattle.fields.specs.Bytes.{Bytes}
 use Rattle.fields.specs.Packing.{fits}
 use Rattle.fields.proofs.Bools.{and-right, both}
@@ -24,8 +24,8 @@ use Rattle.positions.specs.Positions.{singly}
 use Rattle.layouts.specs.declared.identification.Identification.{Identification}
 use Rattle.layouts.specs.declared.surface.Surface.{Surface}
 use Rattle.layouts.specs.declared.airborne.Airborne.{Airborne}
-use Rattle.velocity.specs.declared.Ground.{Ground}
-use Rattle.velocity.specs.declared.Air.{Air}
+use Rattle.layouts.specs.declared.velocity.Ground.{Ground}
+use Rattle.layouts.specs.declared.velocity.Air.{Air}
 use Rattle.layouts.specs.declared.bodies.Body.{Body}
 use Rattle.layouts.specs.declared.bodies.Body.the-variants as body
 use Rattle.layouts.specs.Bodies.{bodyMe, bodyFits}
@@ -35,14 +35,15 @@ use Rattle.messages.specs.declared.Decoded.{Decoded}
 use Rattle.messages.specs.declared.Decoded.the-variants as decode
 use Rattle.messages.proofs.BothWays.{decoded-good}
 use Rattle.located.specs.declared.Saved.{Saved}
+use Rattle.located.specs.declared.Placed.the-variants as placed
 use Rattle.located.specs.declared.Position.{Position}
 use Rattle.located.specs.declared.Site.{Site}
 use Rattle.track.specs.declared.Track.{Track}
 use Rattle.track.specs.declared.Stepped.{Stepped}
 use Rattle.track.specs.Groups.{identified, moving, onSurface, atPressure, atHeight}
 use Rattle.located.specs.Located.{
-  formatOf,
   isFresh,
+  passedOn,
   settled,
   readNear,
   readSingly,
@@ -51,7 +52,7 @@ use Rattle.located.specs.Located.{
   airbornePosition,
   surfacePosition,
 }
-use Rattle.track.specs.Track.{countsIn, newTrack, noSaved, groupTrack, airborneTrack, surfaceTrack, stepBody, stepped}
+use Rattle.track.specs.Track.{formatOf, placedOr, countsIn, newTrack, noSaved, groupTrack, airborneTrack, surfaceTrack, stepBody, stepped}
 
 -- ---- a new track
 
@@ -156,23 +157,15 @@ module _ (t : Track) (me : ℕ) (site : Site) (time : ℕ) where
   -- the partner is the one of the other F, as it was saved before
   pub airborne-located : (b : Airborne)
       → stepBody t (body.Airborne b) me site time .position
-      ≡ airbornePosition (t .position) (getD (t .saved) (1 - b .f) noSaved) (countsIn b) (formatOf (b .f)) time
+      ≡ placedOr (airbornePosition (t .position) (getD (t .saved) (1 - b .f) noSaved) (countsIn b) (formatOf (b .f)) time) (t .position)
   unfolding airborneTrack
   airborne-located b = refl
 
   pub surface-located : (b : Surface)
       → stepBody t (body.Surface b) me site time .position
-      ≡ surfacePosition (t .position) site (record { latitude = b .latitude; longitude = b .longitude }) (formatOf (b .f)) time
+      ≡ placedOr (surfacePosition (t .position) site (record { latitude = b .latitude; longitude = b .longitude }) (formatOf (b .f)) time) (t .position)
   unfolding surfaceTrack
   surface-located b = refl
-
-  pub two-saved : (b : Body) → length (t .saved) ≡ 2 → length (stepBody t b me site time .saved) ≡ 2
-  unfolding groupTrack airborneTrack surfaceTrack
-  two-saved (body.Identification b) h = h
-  two-saved (body.Surface b) h = refl
-  two-saved (body.Airborne b) h = length-set (t .saved) (b .f) _ ∙ h
-  two-saved (body.Ground b) h = h
-  two-saved (body.Air b) h = h
 
 -- ---- the ages: 10,000 of a partner, 120,000 of a position; a time after the clock has age 0
 
@@ -204,11 +197,11 @@ module _ (p : Position) (counts : Counts) (format : Format) (time : ℕ) where
   unfolding readSingly
   read-within k h = rw (within (p .known) (time - p .time) 120000 k h)
 
-  pub stays-beyond : 120000 < time - p .time → readSingly p counts format time ≡ p
+  pub stays-beyond : 120000 < time - p .time → readSingly p counts format time ≡ placed.At p
   unfolding readSingly
   stays-beyond h = rw (beyond (p .known) (time - p .time) 120000 h)
 
-  pub stays-unknown : p .known ≡ false → readSingly p counts format time ≡ p
+  pub stays-unknown : p .known ≡ false → readSingly p counts format time ≡ placed.At p
   unfolding readSingly
   stays-unknown k = rw k
 
@@ -222,7 +215,7 @@ module _ (p : Position) (counts : Counts) (format : Format) (time : ℕ) where
   unfolding surfacePosition
   surface-by-site site e k = rw (e, k)
 
-  pub surface-by-none : (site : Site) → isFresh p time ≡ false → site .known ≡ false → surfacePosition p site counts format time ≡ p
+  pub surface-by-none : (site : Site) → isFresh p time ≡ false → site .known ≡ false → surfacePosition p site counts format time ≡ placed.At p
   unfolding surfacePosition
   surface-by-none site e k = rw (e, k)
 
@@ -230,21 +223,27 @@ module _ (p : Position) (counts : Counts) (format : Format) (time : ℕ) where
   pub stale-beyond : 120000 < time - p .time → isFresh p time ≡ false
   stale-beyond h = beyond (p .known) (time - p .time) 120000 h
 
-  -- ---- a position found takes the message's time; on a refusal a pair is read singly, and what is read singly stays
+  -- ---- a position found takes the message's time; on 9 or 10 a pair is read singly, and what is read singly stays; 8 is passed on
 
   pub pair-found : (found : Found) (spot : Spot) → found ≡ find.At spot
-      → afterPair found p counts format time ≡ record { known = true; spot = spot; time = time }
+      → afterPair found p counts format time ≡ placed.At (record { known = true; spot = spot; time = time })
   pair-found found spot e = rw e
 
-  pub pair-refused : (found : Found) (r : Refusal) → found ≡ find.Refused r → afterPair found p counts format time ≡ readSingly p counts format time
+  pub pair-refused : (found : Found) (r : Refusal) → found ≡ find.Refused r → afterPair found p counts format time ≡ passedOn r (readSingly p counts format time)
   pair-refused found r e = rw e
 
+  pub pair-nine : (found : Found) → found ≡ find.Refused Latitude → afterPair found p counts format time ≡ readSingly p counts format time
+  pair-nine found e = pair-refused found Latitude e
+
+  pub pair-ten : (found : Found) → found ≡ find.Refused Zones → afterPair found p counts format time ≡ readSingly p counts format time
+  pair-ten found e = pair-refused found Zones e
+
   pub near-found : (reference : Spot) (turn : Turn) (spot : Spot) → singly 131072 reference counts turn format ≡ find.At spot
-      → readNear reference p counts turn format time ≡ record { known = true; spot = spot; time = time }
+      → readNear reference p counts turn format time ≡ placed.At (record { known = true; spot = spot; time = time })
   unfolding readNear
   near-found reference turn spot e = ap (λ (x : Found). settled x p time) e
 
   pub near-refused : (reference : Spot) (turn : Turn) (r : Refusal) → singly 131072 reference counts turn format ≡ find.Refused r
-      → readNear reference p counts turn format time ≡ p
+      → readNear reference p counts turn format time ≡ passedOn r (placed.At p)
   unfolding readNear
   near-refused reference turn r e = ap (λ (x : Found). settled x p time) e

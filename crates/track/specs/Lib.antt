@@ -1,3 +1,4 @@
 pub mod Groups
 pub mod Track
 pub mod Meaning
+pub mod Said

@@ -6,7 +6,7 @@ use mathlib.Core.Bool.{Bool, false, cond, _||_}
 use lib.ListN.{getD}
 use Rattle.fields.specs.Packing.{me}
 use Rattle.layouts.specs.Layouts.{isIdentification, isSurface}
-use Rattle.velocity.specs.Velocity.{isGround, isAir}
+use Rattle.layouts.specs.Velocity.{isGround, isAir}
 use Rattle.located.specs.declared.Saved.{Saved}
 use Rattle.located.specs.declared.Position.{Position}
 use Rattle.located.specs.Located.{noPosition}

@@ -2,9 +2,12 @@
 use Prim.Native.Nat.{ℕ, _-_, _%_, _^_}
 use mathlib.Core.List.{[], _∷_}
 use mathlib.Core.Bool.{true, false, cond}
+use lib.Dec.{eqb}
 use lib.ListN.{getD, set}
 use Rattle.refusals.specs.declared.Refusal.the-variants.{Field}
 use Rattle.positions.specs.declared.Counts.{Counts}
+use Rattle.positions.specs.declared.Format.{Format}
+use Rattle.positions.specs.declared.Format.the-variants.{Even, Odd}
 use Rattle.layouts.specs.declared.surface.Surface.{Surface}
 use Rattle.layouts.specs.declared.airborne.Airborne.{Airborne}
 use Rattle.layouts.specs.declared.bodies.Body.{Body}
@@ -14,13 +17,16 @@ use Rattle.layouts.specs.declared.bodies.Taken.the-variants as read
 use Rattle.layouts.specs.Bodies.{taken, bodyMe, bodyFits}
 use Rattle.messages.specs.declared.Decoded.{Decoded}
 use Rattle.messages.specs.declared.Decoded.the-variants as decode
+use Rattle.located.specs.declared.Placed.{Placed}
+use Rattle.located.specs.declared.Placed.the-variants as placed
+use Rattle.located.specs.declared.Position.{Position}
 use Rattle.located.specs.declared.Saved.{Saved}
 use Rattle.located.specs.declared.Site.{Site}
 use Rattle.track.specs.declared.Groups.{Groups}
 use Rattle.track.specs.declared.Track.{Track}
 use Rattle.track.specs.declared.Stepped.{Stepped}
 use Rattle.track.specs.Groups.{noGroups, identified, moving, onSurface, high}
-use Rattle.located.specs.Located.{noPosition, formatOf, airbornePosition, surfacePosition}
+use Rattle.located.specs.Located.{noPosition, airbornePosition, surfacePosition}
 
 abbrev pub noSaved : Saved
 noSaved = record { known = false; counts = record { latitude = record { 0 = 0 }; longitude = record { 0 = 0 } }; time = 0 }
@@ -33,6 +39,15 @@ newTrack = record { heard = 0; groups = noGroups; position = noPosition; saved =
 unfoldable pub groupTrack : Track → Groups → ℕ → Track
 groupTrack t g time = record { heard = time; groups = g; position = t .position; saved = t .saved }
 
+-- F is 0 for even, 1 for odd
+abbrev pub formatOf : ℕ → Format
+formatOf f = cond (eqb f 0) Even Odd
+
+-- the position after a message; on 8, which only a track or a site with values out of their range earns, it stays
+abbrev pub placedOr : Placed → Position → Position
+placedOr (placed.At found) p = found
+placedOr (placed.Refused r) p = p
+
 -- the encoded position of an airborne message
 abbrev pub countsIn : Airborne → Counts
 countsIn b = record { latitude = b .latitude; longitude = b .longitude }
@@ -43,7 +58,7 @@ airborneTrack t b time =
     record {
       heard = time;
       groups = high (t .groups) (b .typecode) (b .altitude);
-      position = airbornePosition (t .position) (getD (t .saved) (1 - b .f) noSaved) (countsIn b) (formatOf (b .f)) time;
+      position = placedOr (airbornePosition (t .position) (getD (t .saved) (1 - b .f) noSaved) (countsIn b) (formatOf (b .f)) time) (t .position);
       saved = set (t .saved) (b .f) (record { known = true; counts = countsIn b; time = time });
     }
 
@@ -53,7 +68,7 @@ surfaceTrack t b me site time =
     record {
       heard = time;
       groups = onSurface (t .groups) me;
-      position = surfacePosition (t .position) site (record { latitude = b .latitude; longitude = b .longitude }) (formatOf (b .f)) time;
+      position = placedOr (surfacePosition (t .position) site (record { latitude = b .latitude; longitude = b .longitude }) (formatOf (b .f)) time) (t .position);
       saved = noSaved ∷ noSaved ∷ [];
     }
 

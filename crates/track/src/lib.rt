@@ -8,16 +8,18 @@ use layouts::Airborne;
 use layouts::Layout;
 use layouts::Surface;
 use layouts::Written;
+use located::Placed;
 use located::Position;
 use located::Saved;
 use located::Site;
 pub use meaning::meant;
 use messages::Decoded;
 use positions::Counts;
+use positions::Format;
 use refusals::Refusal;
 ghost use mathlib.Core.Path.{_≡_};
 ghost use Prim.Native.Nat.{_<_};
-ghost use Rattle.track.specs.Track.{airborneTrack, surfaceTrack, groupTrack, stepMe, stepped, newTrack, noSaved};
+ghost use Rattle.track.specs.Track.{formatOf, placedOr, airborneTrack, surfaceTrack, groupTrack, stepMe, stepped, newTrack, noSaved};
 
 // What was last heard of each group: of three the ME that gave it, 0 where none did; of two the code of 12 bits, 0 where it is unknown.
 pub struct Groups {
@@ -68,6 +70,23 @@ pub fn new_track() -> Track
     }
 }
 
+fn format_of(f: u8) -> Format
+    requires { ⌜ f < 2 ⌝ }
+    ensures { λ r. ⌜ r ≡ formatOf f ⌝ }
+{
+    if f == 0 { Format::Even } else { Format::Odd }
+}
+
+// Where the message is placed; where it is not, since values are out of their range, the position stays.
+fn placed_or(placed: Placed, p: Position) -> Position
+    ensures { λ r. ⌜ r ≡ placedOr placed p ⌝ }
+{
+    match placed {
+        Placed::At(found) => found,
+        Placed::Refused(_) => p,
+    }
+}
+
 // An airborne message is saved by its F, and paired with the other one.
 fn airborne_track(t: Track, b: Airborne, time: u64) -> Track
     requires { ⌜ b .f < 2 ⌝ }
@@ -93,13 +112,17 @@ fn airborne_track(t: Track, b: Airborne, time: u64) -> Track
     Track {
         heard: time,
         groups: replaced::with_altitude(g, b.typecode, b.altitude),
-        position: located::airborne_position(p, partner, counts, located::format_of(b.f), time),
+        position: placed_or(
+            located::airborne_position(p, partner, counts, format_of(b.f), time),
+            p,
+        ),
         saved: saved,
     }
 }
 
 // A surface message clears the two saved ones.
 fn surface_track(t: Track, b: Surface, me: u64, site: Site, time: u64) -> Track
+    requires { ⌜ b .f < 2 ⌝ }
     ensures { λ r. ⌜ r ≡ surfaceTrack t b me site time ⌝ }
 {
     let cleared = no_saved();
@@ -115,7 +138,10 @@ fn surface_track(t: Track, b: Surface, me: u64, site: Site, time: u64) -> Track
     Track {
         heard: time,
         groups: replaced::with_surface(g, me),
-        position: located::surface_position(p, site, counts, located::format_of(b.f), time),
+        position: placed_or(
+            located::surface_position(p, site, counts, format_of(b.f), time),
+            p,
+        ),
         saved: saved,
     }
 }

@@ -4,7 +4,6 @@ pub mod Scanned
 pub mod Again
 pub mod Walk
 pub mod Delivered
-pub mod Clauses
 pub mod Unique
 pub mod Lawful
 pub mod Promised

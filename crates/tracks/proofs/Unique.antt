@@ -12,12 +12,12 @@ use contract.Monad.{Fun, fact}
 use denote.Ref.{now}
 use denote.Triple.Entry.{Args, Res}
 use denote.Triple.Clauses.{Ended, Clauses, AtExit}
+use Rattle.refusals.proofs.Clauses.{both-say}
 use Rattle.messages.specs.declared.Decoded.{Decoded}
 use Rattle.answers.specs.declared.SetUp.{SetUp}
 use Rattle.answers.specs.declared.Looked.{Looked}
 use Rattle.answers.specs.declared.NextKey.{NextKey}
 use Rattle.tracks.specs.Tracks.{After, after}
-use Rattle.tracks.proofs.Clauses.{both-say}
 use Rattle.tracks.proofs.set_up as set-up
 use Rattle.tracks.proofs.receive as receive
 use Rattle.tracks.proofs.look_up as look-up

@@ -15,7 +15,6 @@ use Rattle.answers.specs.declared.SetUp.{SetUp}
 use Rattle.answers.specs.declared.SetUp.the-variants as setting
 use Rattle.answers.specs.declared.Holding.the-variants as holding
 use Rattle.answers.specs.declared.NextKey.the-variants as key-after
-use Rattle.located.specs.Located.{noSite}
 use Rattle.answers.specs.Keys.{keyOrEnd}
 use Rattle.slots.specs.declared.Place.{Place}
 use Rattle.slots.specs.declared.Head.{Head}
@@ -40,33 +39,34 @@ failed false h = refl
 
 -- ---- set-up
 
-abbrev startedBy : Bool → Bool → Site → Started
-startedBy a b site = cond a (notStarted Places) (cond b (notStarted Field) (record { answer = setting.Done; head = headOf 0 site }))
+module _ (ps : List Place) (head : Head) (site : Site) where
+  abbrev startedBy : Bool → Bool → Started
+  startedBy a b = cond a (notStarted Places head) (cond b (notStarted Field head) (record { answer = setting.Done; head = headOf 0 site }))
 
-abbrev setBy : Bool → Bool → List Place → List Place → Site → After SetUp
-setBy a b ps zs site = cond a (after (setting.Refused Places) (headOf 0 noSite) ps) (cond b (after (setting.Refused Field) (headOf 0 noSite) ps) (after setting.Done (headOf 0 site) zs))
+  abbrev setBy : Bool → Bool → After SetUp
+  setBy a b = cond a (after (setting.Refused Places) head ps) (cond b (after (setting.Refused Field) head ps) (after setting.Done (headOf 0 site) (emptied ps)))
 
-on-of : (a b : Bool) (ps zs : List Place) (site : Site) → isDone (startedBy a b site .answer) ≡ true → after (startedBy a b site .answer) (startedBy a b site .head) zs ≡ setBy a b ps zs site
-on-of true b ps zs site h = absurd (false≢true h)
-on-of false true ps zs site h = absurd (false≢true h)
-on-of false false ps zs site h = refl
+  on-of : (a b : Bool) → isDone (startedBy a b .answer) ≡ true → after (startedBy a b .answer) (startedBy a b .head) (emptied ps) ≡ setBy a b
+  on-of true b h = absurd (false≢true h)
+  on-of false true h = absurd (false≢true h)
+  on-of false false h = refl
 
-off-of : (a b : Bool) (ps zs : List Place) (site : Site) → isDone (startedBy a b site .answer) ≡ false → after (startedBy a b site .answer) (startedBy a b site .head) ps ≡ setBy a b ps zs site
-off-of true b ps zs site h = refl
-off-of false true ps zs site h = refl
-off-of false false ps zs site h = absurd (true≢false h)
+  off-of : (a b : Bool) → isDone (startedBy a b .answer) ≡ false → after (startedBy a b .answer) (startedBy a b .head) ps ≡ setBy a b
+  off-of true b h = refl
+  off-of false true h = refl
+  off-of false false h = absurd (true≢false h)
 
-pub set-on : (ps : List Place) (site : Site) {r : Started} → r ≡ started (length ps) site → isDone (r .answer) ≡ true → after (r .answer) (r .head) (emptied ps) ≡ setUp ps site
-unfolding started rules.setUp
-set-on ps site e h =
-    ap (λ (x : Started). after (x .answer) (x .head) (emptied ps)) e
-    ∙ on-of (not (placesFit (length ps))) (site .known && not (poleToPole (site .spot .latitude))) ps (emptied ps) site (ap (λ (x : Started). isDone (x .answer)) (sym e) ∙ h)
+  pub set-on : {r : Started} → r ≡ started (length ps) head site → isDone (r .answer) ≡ true → after (r .answer) (r .head) (emptied ps) ≡ setUp ps head site
+  unfolding started rules.setUp
+  set-on e h =
+      ap (λ (x : Started). after (x .answer) (x .head) (emptied ps)) e
+      ∙ on-of (not (placesFit (length ps))) (site .known && not (poleToPole (site .spot .latitude))) (ap (λ (x : Started). isDone (x .answer)) (sym e) ∙ h)
 
-pub set-off : (ps : List Place) (site : Site) {r : Started} → r ≡ started (length ps) site → isDone (r .answer) ≡ false → after (r .answer) (r .head) ps ≡ setUp ps site
-unfolding started rules.setUp
-set-off ps site e h =
-    ap (λ (x : Started). after (x .answer) (x .head) ps) e
-    ∙ off-of (not (placesFit (length ps))) (site .known && not (poleToPole (site .spot .latitude))) ps (emptied ps) site (ap (λ (x : Started). isDone (x .answer)) (sym e) ∙ h)
+  pub set-off : {r : Started} → r ≡ started (length ps) head site → isDone (r .answer) ≡ false → after (r .answer) (r .head) ps ≡ setUp ps head site
+  unfolding started rules.setUp
+  set-off e h =
+      ap (λ (x : Started). after (x .answer) (x .head) ps) e
+      ∙ off-of (not (placesFit (length ps))) (site .known && not (poleToPole (site .spot .latitude))) (ap (λ (x : Started). isDone (x .answer)) (sym e) ∙ h)
 
 -- ---- a look
 

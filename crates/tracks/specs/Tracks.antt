@@ -4,7 +4,6 @@ use mathlib.Core.List.{List}
 use lib.ListN.{getD}
 use Rattle.messages.specs.declared.Decoded.{Decoded}
 use Rattle.located.specs.declared.Site.{Site}
-use Rattle.located.specs.Located.{noSite}
 use Rattle.answers.specs.declared.SetUp.{SetUp}
 use Rattle.answers.specs.declared.Looked.{Looked}
 use Rattle.answers.specs.declared.NextKey.{NextKey}
@@ -13,7 +12,6 @@ use Rattle.rules.specs.Search as search
 use Rattle.slots.specs.declared.Place.{Place}
 use Rattle.slots.specs.declared.Head.{Head}
 use Rattle.slots.specs.Ranges.{noPlace, isHeld}
-use Rattle.slots.specs.Head.{headOf}
 use Rattle.tracks.specs.Slice.{Slice, sliceOf, slice}
 pub use Rattle.tracks.specs.Slice.{emptied}
 
@@ -24,9 +22,8 @@ After A = rules.After Slice A
 abbrev pub after : {A : Type 0} → A → Head → List Place → After A
 after a head ps = rules.after a (sliceOf head ps)
 
--- the caller gets a head and has none yet: one that is refused says clock 0 and no site
-abbrev pub setUp : List Place → Site → After SetUp
-setUp ps site = rules.setUp slice (sliceOf (headOf 0 noSite) ps) site
+abbrev pub setUp : List Place → Head → Site → After SetUp
+setUp ps head site = rules.setUp slice (sliceOf head ps) site
 
 abbrev pub delivered : List Place → Head → Decoded → After Decoded
 delivered ps head d = rules.delivered slice (sliceOf head ps) d (head .clock)

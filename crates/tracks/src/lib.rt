@@ -47,11 +47,11 @@ fn clear(places: &mut [Place])
     }
 }
 
-// Empties the places, and takes the site if it is known.
-pub fn set_up(places: &mut [Place], site: Site) -> Started
-    ensures { λ r. ⌜ after (r .answer) (r .head) (now (places .exit)) ≡ setUp (now (places .entry)) site ⌝ }
+// Empties the places, and takes the site if it is known. A refusal leaves the places and the head as they were.
+pub fn set_up(places: &mut [Place], head: Head, site: Site) -> Started
+    ensures { λ r. ⌜ after (r .answer) (r .head) (now (places .exit)) ≡ setUp (now (places .entry)) head site ⌝ }
 {
-    let s = slots::start(places.len(), site);
+    let s = slots::start(places.len(), head, site);
     if slots::is_done(s) {
         clear(places);
         return s;

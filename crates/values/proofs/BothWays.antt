@@ -11,17 +11,19 @@ use Rattle.fields.proofs.Fits.{fits-fit}
 use Rattle.layouts.specs.declared.bodies.Body.{Body}
 use Rattle.layouts.specs.declared.bodies.Body.the-variants as body
 use Rattle.layouts.specs.Bodies.{bodyFields, bodyWidths, bodyFits, typeAgrees}
+use Rattle.readings.specs.Bodies.{readingsOf}
 use Rattle.messages.specs.declared.Message.{Message}
 use Rattle.messages.specs.declared.Decoded.the-variants as decode
 use Rattle.messages.specs.Message.{headWidths, headFields, formatTaken, messageFits}
 use Rattle.values.specs.From.{byteAt, shortAt, wordAt, messageFrom}
-use Rattle.values.specs.Rows.{rowOf, bodyRow, messageRow}
+use Rattle.values.specs.Rows.{rowOf, bodyRow, fourOf, messageRow}
+use Rattle.values.specs.declared.rows.Four.{Four}
 
 whole : (d m : ℕ) → d < m → min d m ≡ d
 whole d m h = min-eq-left (omega arith)
 
-module _ (m : Message) (h : Fit headWidths (headFields m)) where
-  row-back : (b : Body) → Fit (bodyWidths b) (bodyFields b) → messageFrom (bodyRow m b) ≡ decode.Message (record { format = m .format; control = m .control; address = m .address; body = b })
+module _ (m : Message) (four : Four) (h : Fit headWidths (headFields m)) where
+  row-back : (b : Body) → Fit (bodyWidths b) (bodyFields b) → messageFrom (bodyRow m b four) ≡ decode.Message (record { format = m .format; control = m .control; address = m .address; body = b })
   unfolding messageFrom rowOf byteAt shortAt wordAt
   row-back (body.Identification b) f =
       rw (
@@ -108,5 +110,5 @@ from-row m e =
     let a = fits headWidths (headFields m) in
     let t = formatTaken (m .format) (m .control) in
     let g = and-right (a && t) (bodyFits (m .body)) e in
-    row-back m (fits-fit headWidths (headFields m) (and-left a t (and-left (a && t) (bodyFits (m .body)) e))) (m .body)
+    row-back m (fourOf (readingsOf (m .body))) (fits-fit headWidths (headFields m) (and-left a t (and-left (a && t) (bodyFits (m .body)) e))) (m .body)
     (fits-fit (bodyWidths (m .body)) (bodyFields (m .body)) (and-left (fits (bodyWidths (m .body)) (bodyFields (m .body))) (typeAgrees (m .body)) g))

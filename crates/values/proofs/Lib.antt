@@ -1,3 +1,4 @@
 pub mod BothWays
 pub mod ReadBack
+pub mod Refusing
 pub mod Unique

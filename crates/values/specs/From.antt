@@ -8,9 +8,9 @@ use Rattle.refusals.specs.declared.Refusal.the-variants.{Field}
 use Rattle.layouts.specs.declared.identification.Identification.{Identification}
 use Rattle.layouts.specs.declared.surface.Surface.{Surface}
 use Rattle.layouts.specs.declared.airborne.Airborne.{Airborne}
-use Rattle.velocity.specs.declared.Vertical.{Vertical}
-use Rattle.velocity.specs.declared.Ground.{Ground}
-use Rattle.velocity.specs.declared.Air.{Air}
+use Rattle.layouts.specs.declared.velocity.Vertical.{Vertical}
+use Rattle.layouts.specs.declared.velocity.Ground.{Ground}
+use Rattle.layouts.specs.declared.velocity.Air.{Air}
 use Rattle.layouts.specs.declared.bodies.Body.{Body}
 use Rattle.layouts.specs.declared.bodies.Body.the-variants as body
 use Rattle.messages.specs.declared.Message.{Message}

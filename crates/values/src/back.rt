@@ -1,16 +1,16 @@
 // A message back from its 28 numbers. What is too large for its place becomes the largest number there, which the encoder refuses.
 use counts::LatitudeCount;
 use counts::LongitudeCount;
+use layouts::Air;
 use layouts::Airborne;
 use layouts::Body;
+use layouts::Ground;
 use layouts::Identification;
 use layouts::Surface;
+use layouts::Vertical;
 use messages::Decoded;
 use messages::Message;
 use refusals::Refusal;
-use velocity::Air;
-use velocity::Ground;
-use velocity::Vertical;
 ghost use mathlib.Core.Path.{_≡_};
 ghost use Rattle.values.specs.From.{byteAt, shortAt, wordAt, identificationFrom, surfaceFrom, airborneFrom, verticalFrom, groundFrom, airFrom, messageWith, messageFrom};
 

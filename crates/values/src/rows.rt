@@ -1,6 +1,8 @@
 // A message as 28 numbers, layout by layout.
+use layouts::Air;
 use layouts::Airborne;
 use layouts::Body;
+use layouts::Ground;
 use layouts::Identification;
 use layouts::Surface;
 use meanings::Reading;
@@ -15,12 +17,17 @@ use meanings::set_reading;
 use meanings::speed_reading;
 use meanings::text_reading;
 use messages::Message;
-use velocity::Air;
-use velocity::Ground;
+use readings::AirReadings;
+use readings::AirborneReadings;
+use readings::GroundReadings;
+use readings::IdentificationReadings;
+use readings::Readings;
+use readings::SurfaceReadings;
 ghost use mathlib.Core.Path.{_≡_};
 ghost use Rattle.layouts.specs.Layouts.{identificationFields, surfaceFields, airborneFields};
-ghost use Rattle.velocity.specs.Velocity.{groundFields, airFields};
-ghost use Rattle.values.specs.Rows.{identificationFour, surfaceFour, airborneFour, groundFour, airFour, rowOf, messageRow};
+ghost use Rattle.layouts.specs.Velocity.{groundFields, airFields};
+ghost use Rattle.readings.specs.Bodies.{readingsOf};
+ghost use Rattle.values.specs.Rows.{identificationFour, surfaceFour, airborneFour, groundFour, airFour, refusedFour, fourOf, rowOf, messageRow};
 
 // The readings of a layout.
 pub struct Four {
@@ -30,10 +37,9 @@ pub struct Four {
     pub fourth: Reading,
 }
 
-fn identification_four(b: Identification) -> Four
-    ensures { λ r. ⌜ r ≡ identificationFour b ⌝ }
+fn identification_four(m: IdentificationReadings) -> Four
+    ensures { λ r. ⌜ r ≡ identificationFour m ⌝ }
 {
-    let m = readings::identification_readings(b);
     let set = m.set;
     let text = m.text;
     Four {
@@ -44,10 +50,9 @@ fn identification_four(b: Identification) -> Four
     }
 }
 
-fn surface_four(b: Surface) -> Four
-    ensures { λ r. ⌜ r ≡ surfaceFour b ⌝ }
+fn surface_four(m: SurfaceReadings) -> Four
+    ensures { λ r. ⌜ r ≡ surfaceFour m ⌝ }
 {
-    let m = readings::surface_readings(b);
     let movement = m.movement;
     let heading = m.heading;
     Four {
@@ -58,10 +63,9 @@ fn surface_four(b: Surface) -> Four
     }
 }
 
-fn airborne_four(b: Airborne) -> Four
-    ensures { λ r. ⌜ r ≡ airborneFour b ⌝ }
+fn airborne_four(m: AirborneReadings) -> Four
+    ensures { λ r. ⌜ r ≡ airborneFour m ⌝ }
 {
-    let m = readings::airborne_readings(b);
     let altitude = m.altitude;
     Four {
         first: altitude_reading(altitude),
@@ -74,10 +78,9 @@ fn airborne_four(b: Airborne) -> Four
     }
 }
 
-fn ground_four(b: Ground) -> Four
-    ensures { λ r. ⌜ r ≡ groundFour b ⌝ }
+fn ground_four(m: GroundReadings) -> Four
+    ensures { λ r. ⌜ r ≡ groundFour m ⌝ }
 {
-    let m = readings::ground_readings(b);
     let east = m.east;
     let north = m.north;
     let rate = m.rate;
@@ -90,10 +93,9 @@ fn ground_four(b: Ground) -> Four
     }
 }
 
-fn air_four(b: Air) -> Four
-    ensures { λ r. ⌜ r ≡ airFour b ⌝ }
+fn air_four(m: AirReadings) -> Four
+    ensures { λ r. ⌜ r ≡ airFour m ⌝ }
 {
-    let m = readings::air_readings(b);
     let heading = m.heading;
     let airspeed = m.airspeed;
     let rate = m.rate;
@@ -106,11 +108,36 @@ fn air_four(b: Air) -> Four
     }
 }
 
-fn identification_row(m: Message, b: Identification) -> [u64; 28]
-    ensures { λ r. ⌜ r ≡ rowOf 1 m (identificationFields b) (identificationFour b) ⌝ }
+fn refused_four() -> Four
+    ensures { λ r. ⌜ r ≡ refusedFour ⌝ }
+{
+    Four {
+        first: only(5),
+        second: only(5),
+        third: only(5),
+        fourth: only(5),
+    }
+}
+
+// The readings of a body; all are refused where the body is.
+fn four_of(b: Body) -> Four
+    ensures { λ r. ⌜ r ≡ fourOf (readingsOf b) ⌝ }
+{
+    let m = readings::readings_of(b);
+    match m {
+        Readings::Identification(x) => identification_four(x),
+        Readings::Surface(x) => surface_four(x),
+        Readings::Airborne(x) => airborne_four(x),
+        Readings::Ground(x) => ground_four(x),
+        Readings::Air(x) => air_four(x),
+        Readings::Refused(_) => refused_four(),
+    }
+}
+
+fn identification_row(m: Message, b: Identification, r: Four) -> [u64; 28]
+    ensures { λ x. ⌜ x ≡ rowOf 1 m (identificationFields b) r ⌝ }
 {
     let key = messages::key_of(m) as u64;
-    let r = identification_four(b);
     [
         1,
         m.format as u64,
@@ -143,11 +170,10 @@ fn identification_row(m: Message, b: Identification) -> [u64; 28]
     ]
 }
 
-fn surface_row(m: Message, b: Surface) -> [u64; 28]
-    ensures { λ r. ⌜ r ≡ rowOf 2 m (surfaceFields b) (surfaceFour b) ⌝ }
+fn surface_row(m: Message, b: Surface, r: Four) -> [u64; 28]
+    ensures { λ x. ⌜ x ≡ rowOf 2 m (surfaceFields b) r ⌝ }
 {
     let key = messages::key_of(m) as u64;
-    let r = surface_four(b);
     [
         2,
         m.format as u64,
@@ -180,11 +206,10 @@ fn surface_row(m: Message, b: Surface) -> [u64; 28]
     ]
 }
 
-fn airborne_row(m: Message, b: Airborne) -> [u64; 28]
-    ensures { λ r. ⌜ r ≡ rowOf 3 m (airborneFields b) (airborneFour b) ⌝ }
+fn airborne_row(m: Message, b: Airborne, r: Four) -> [u64; 28]
+    ensures { λ x. ⌜ x ≡ rowOf 3 m (airborneFields b) r ⌝ }
 {
     let key = messages::key_of(m) as u64;
-    let r = airborne_four(b);
     [
         3,
         m.format as u64,
@@ -217,11 +242,10 @@ fn airborne_row(m: Message, b: Airborne) -> [u64; 28]
     ]
 }
 
-fn ground_row(m: Message, b: Ground) -> [u64; 28]
-    ensures { λ r. ⌜ r ≡ rowOf 4 m (groundFields b) (groundFour b) ⌝ }
+fn ground_row(m: Message, b: Ground, r: Four) -> [u64; 28]
+    ensures { λ x. ⌜ x ≡ rowOf 4 m (groundFields b) r ⌝ }
 {
     let key = messages::key_of(m) as u64;
-    let r = ground_four(b);
     let v = b.vertical;
     [
         4,
@@ -255,11 +279,10 @@ fn ground_row(m: Message, b: Ground) -> [u64; 28]
     ]
 }
 
-fn air_row(m: Message, b: Air) -> [u64; 28]
-    ensures { λ r. ⌜ r ≡ rowOf 5 m (airFields b) (airFour b) ⌝ }
+fn air_row(m: Message, b: Air, r: Four) -> [u64; 28]
+    ensures { λ x. ⌜ x ≡ rowOf 5 m (airFields b) r ⌝ }
 {
     let key = messages::key_of(m) as u64;
-    let r = air_four(b);
     let v = b.vertical;
     [
         5,
@@ -298,11 +321,12 @@ pub fn message_values(m: Message) -> [u64; 28]
     ensures { λ r. ⌜ r ≡ messageRow m ⌝ }
 {
     let body = m.body;
+    let r = four_of(body);
     match body {
-        Body::Identification(b) => identification_row(m, b),
-        Body::Surface(b) => surface_row(m, b),
-        Body::Airborne(b) => airborne_row(m, b),
-        Body::Ground(b) => ground_row(m, b),
-        Body::Air(b) => air_row(m, b),
+        Body::Identification(b) => identification_row(m, b, r),
+        Body::Surface(b) => surface_row(m, b, r),
+        Body::Airborne(b) => airborne_row(m, b, r),
+        Body::Ground(b) => ground_row(m, b, r),
+        Body::Air(b) => air_row(m, b, r),
     }
 }

@@ -1,4 +1,4 @@
--- `table::key_or_end` meets its contract: its test is the definition's.
+-- `answers::key_or_end` meets its contract: its test is the definition's.
 -- Assumes nothing.
 use borrow.Author.Tests.{eq-eqb, ne-eqb}
 use Rattle.answers.proofs.key_or_end.Statement.{statement}

@@ -1,4 +1,4 @@
--- `readings::text::category_set_of` meets its contract: the tests on the way pick the case of the definition.
+-- `characters::category_set_of` meets its contract: the tests on the way pick the case of the definition.
 -- Assumes nothing.
 use borrow.Author.Tests.{le-leb, lt-leb, eq-eqb, ne-eqb}
 use Rattle.characters.specs.Text.{categorySetOf}

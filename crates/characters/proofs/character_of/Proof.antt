@@ -1,4 +1,4 @@
--- `readings::text::character_of` meets its contract: by the test of the width.
+-- `characters::character_of` meets its contract: by the test of the width.
 -- Assumes nothing.
 use mathlib.Core.Path.{ap}
 use borrow.Author.Tests.{le-leb, lt-leb}

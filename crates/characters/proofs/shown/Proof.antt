@@ -1,4 +1,4 @@
--- `readings::text::shown` meets its contract: the tests on the way pick the case of the definition.
+-- `characters::shown` meets its contract: the tests on the way pick the case of the definition.
 -- Assumes nothing.
 use borrow.Author.Tests.{leb-true, eq-eqb, ne-eqb}
 use borrow.Author.Needs.{needs}

@@ -1,4 +1,4 @@
--- `readings::text_of` meets its contract: the bytes of the two halves are the bytes of the whole.
+-- `characters::text_of` meets its contract: the bytes of the two halves are the bytes of the whole.
 -- Assumes nothing.
 use borrow.Author.Tests.{le-leb, lt-leb}
 use mathlib.Core.Path.{ap}

@@ -1,4 +1,4 @@
--- `messages::encode` meets its contract: its tests are the definition's, and only the last way writes.
+-- `encoder::encode` meets its contract: its tests are the definition's, and only the last way writes.
 -- Assumes nothing.
 use mathlib.Core.Path.{sym, _∙_}
 use borrow.Author.Tests.{eq-eqb, ne-eqb}

@@ -1,4 +1,4 @@
--- `messages::fill` meets its contract: three parts, laid one after the other, fill the 14 bytes.
+-- `encoder::fill` meets its contract: three parts, laid one after the other, fill the 14 bytes.
 -- Assumes nothing.
 use Prim.Native.Nat.{ℕ}
 use mathlib.Core.Path.{refl, ap, _∙_}

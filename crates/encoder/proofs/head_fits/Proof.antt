@@ -1,4 +1,4 @@
--- `messages::head_fits` meets its contract: its last test is that of `format_taken`.
+-- `encoder::head_fits` meets its contract: its last test is that of `format_taken`.
 -- Assumes nothing.
 use borrow.Author.Needs.{needs}
 use Rattle.encoder.proofs.head_fits.Statement.{statement}

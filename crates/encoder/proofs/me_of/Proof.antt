@@ -1,4 +1,4 @@
--- `messages::me_of` meets its contract: a message fits if its head and its body do.
+-- `encoder::me_of` meets its contract: a message fits if its head and its body do.
 -- Assumes nothing.
 use mathlib.Core.Path.{sym, _∙_}
 use borrow.Author.Needs.{needs}

@@ -2,6 +2,7 @@
 -- Assumes nothing.
 use mathlib.Core.Path.{sym, ap, _∙_}
 use Rattle.positions.specs.declared.Found.{Found}
+use Rattle.located.specs.declared.Placed.the-variants as placed
 use Rattle.located.specs.Located.{settled}
 use borrow.Author.Needs.{needs}
 use Rattle.located.proofs.settle.Statement.{statement}
@@ -13,16 +14,23 @@ enum-known-found c = search needs
 found-at-requires : tie.Need-found-at-requires
 found-at-requires c κs = search needs
 
-enum-told : tie.Need-enum-told
-enum-told c = search needs
+enum-known-found-2 : tie.Need-enum-known-found-2
+enum-known-found-2 c = search needs
+
+pass-on-requires : tie.Need-pass-on-requires
+pass-on-requires c κs = search needs
 
 returns : tie.Need-returns
 returns c =
     let a = c .before .before .before .before .args in
-    c .found-at .ensures ∙ sym (ap (λ (x : Found). settled x (a .p) (a .time)) (c .before .before .found .given .1))
+    ap placed.At (c .found-at .ensures) ∙ sym (ap (λ (x : Found). settled x (a .p) (a .time)) (c .before .before .found .given .1))
 
 returns-2 : tie.Need-returns-2
-returns-2 c = search needs
+returns-2 c =
+    let a = c .before .before .before .before .args in
+    c .pass-on .ensures ∙ sym (ap (λ (x : Found). settled x (a .p) (a .time)) (c .before .before .found2 .given .1))
 
 pub settle-spec : {M : Type 1} → statement M
-settle-spec = tie.close (tie.spec enum-known-found found-at-requires enum-told returns returns-2)
+settle-spec =
+    tie.close
+    (tie.spec enum-known-found found-at-requires enum-known-found-2 pass-on-requires returns returns-2)

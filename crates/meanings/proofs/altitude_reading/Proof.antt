@@ -1,4 +1,4 @@
--- `values::means::altitude_reading` meets its contract: by the cases.
+-- `meanings::altitude_reading` meets its contract: by the cases.
 -- Assumes nothing.
 use mathlib.Core.Path.{sym, ap, _∙_}
 use mir.Syntax.{w32}

@@ -1,4 +1,4 @@
--- `values::means::heading_reading` meets its contract: by the cases.
+-- `meanings::heading_reading` meets its contract: by the cases.
 -- Assumes nothing.
 use mathlib.Core.Path.{sym, ap, _∙_}
 use Rattle.meanings.specs.Means.{headingReading}

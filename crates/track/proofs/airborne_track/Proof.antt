@@ -35,9 +35,13 @@ format-of-requires c κs = search needs
 airborne-position-requires : tie.Need-airborne-position-requires
 airborne-position-requires c κs = search needs
 
+placed-or-requires : tie.Need-placed-or-requires
+placed-or-requires c κs = search needs
+
 returns : tie.Need-returns
 unfolding airborneTrack
-returns c = rw (c .airborne-position .ensures, c .before .format-of .ensures, c .before .before .with-altitude .ensures)
+returns c =
+    rw (c .placed-or .ensures, c .before .airborne-position .ensures, c .before .before .format-of .ensures, c .before .before .before .with-altitude .ensures)
 
 pub airborne-track-spec : {M : Type 1} → statement M
 airborne-track-spec =
@@ -53,4 +57,5 @@ airborne-track-spec =
     with-altitude-requires
     format-of-requires
     airborne-position-requires
+    placed-or-requires
     returns)

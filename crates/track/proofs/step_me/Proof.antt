@@ -38,7 +38,7 @@ surface-of-requires : tie.Need-surface-of-requires
 surface-of-requires c κs = search needs
 
 surface-track-requires : tie.Need-surface-track-requires
-surface-track-requires c κs = search needs
+surface-track-requires c κs = omega (arith, ap (λ (b : Surface). b .f) (c .surface-of .ensures))
 
 enum-told-3 : tie.Need-enum-told-3
 enum-told-3 c = search needs

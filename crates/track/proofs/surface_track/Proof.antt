@@ -17,12 +17,15 @@ format-of-requires c κs = search needs
 surface-position-requires : tie.Need-surface-position-requires
 surface-position-requires c κs = search needs
 
+placed-or-requires : tie.Need-placed-or-requires
+placed-or-requires c κs = search needs
+
 returns : tie.Need-returns
 unfolding surfaceTrack
 returns c =
-    let p = c .before .before in
+    let p = c .before .before .before in
     let none = p .before .before .before .before .before .no-saved .ensures in
-    simp (c .surface-position .ensures, c .before .format-of .ensures, p .with-surface .ensures, none)
+    simp (c .placed-or .ensures, c .before .surface-position .ensures, c .before .before .format-of .ensures, p .with-surface .ensures, none)
 
 pub surface-track-spec : {M : Type 1} → statement M
 surface-track-spec =
@@ -32,4 +35,5 @@ surface-track-spec =
     with-surface-requires
     format-of-requires
     surface-position-requires
+    placed-or-requires
     returns)

@@ -1,4 +1,4 @@
--- `place::bytes::get3` meets its contract: three bytes, each times its power of 256.
+-- `words::get3` meets its contract: three bytes, each times its power of 256.
 -- Assumes nothing.
 use native.Mathlib.Omega.{arith}
 use Rattle.words.proofs.Numbers.{number-3}

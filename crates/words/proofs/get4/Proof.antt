@@ -1,4 +1,4 @@
--- `place::bytes::get4` meets its contract: four bytes, each times its power of 256.
+-- `words::get4` meets its contract: four bytes, each times its power of 256.
 -- Assumes nothing.
 use native.Mathlib.Omega.{arith}
 use Rattle.words.proofs.Numbers.{number-4}

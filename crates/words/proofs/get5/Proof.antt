@@ -1,4 +1,4 @@
--- `place::bytes::get5` meets its contract: four bytes and one more.
+-- `words::get5` meets its contract: four bytes and one more.
 -- Assumes nothing.
 use native.Mathlib.Omega.{arith}
 use Prim.Native.Nat.{_+_}

@@ -1,4 +1,4 @@
--- `place::bytes::get7` meets its contract: four bytes and three more.
+-- `words::get7` meets its contract: four bytes and three more.
 -- Assumes nothing.
 use native.Mathlib.Omega.{arith}
 use Rattle.words.proofs.Numbers.{number-more}

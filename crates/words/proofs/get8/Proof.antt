@@ -1,4 +1,4 @@
--- `place::bytes::get8` meets its contract: four bytes and four more.
+-- `words::get8` meets its contract: four bytes and four more.
 -- Assumes nothing.
 use native.Mathlib.Omega.{arith}
 use Rattle.words.proofs.Numbers.{number-more}

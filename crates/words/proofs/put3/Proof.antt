@@ -1,4 +1,4 @@
--- `place::bytes::put3` meets its contract: single stores in a row.
+-- `words::put3` meets its contract: single stores in a row.
 -- Assumes nothing.
 use mathlib.Core.Path.{sym}
 use native.Mathlib.Omega.{arith}

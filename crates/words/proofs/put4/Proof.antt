@@ -1,4 +1,4 @@
--- `place::bytes::put4` meets its contract: single stores in a row.
+-- `words::put4` meets its contract: single stores in a row.
 -- Assumes nothing.
 use mathlib.Core.Path.{sym}
 use native.Mathlib.Omega.{arith}

@@ -1,4 +1,4 @@
--- `place::bytes::put5` meets its contract: four bytes and one more.
+-- `words::put5` meets its contract: four bytes and one more.
 -- Assumes nothing.
 use Rattle.words.proofs.Put.{put-1, put-more}
 use Prim.Native.Nat.{_+_, _/_}

@@ -1,4 +1,4 @@
--- `place::bytes::put7` meets its contract: four bytes and three more.
+-- `words::put7` meets its contract: four bytes and three more.
 -- Assumes nothing.
 use Rattle.words.proofs.Put.{put-more}
 use borrow.Author.Needs.{needs}

@@ -1,4 +1,4 @@
--- `place::bytes::put8` meets its contract: four bytes and four more.
+-- `words::put8` meets its contract: four bytes and four more.
 -- Assumes nothing.
 use Rattle.words.proofs.Put.{put-more}
 use borrow.Author.Needs.{needs}

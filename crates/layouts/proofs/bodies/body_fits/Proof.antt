@@ -1,4 +1,4 @@
--- `layouts::body_fits` meets its contract: in each arm the test is that of the arm's layout.
+-- `layouts::bodies::body_fits` meets its contract: in each arm the test is that of the arm's layout.
 -- Assumes nothing.
 use mathlib.Core.Path.{sym, ap, _∙_}
 use Rattle.layouts.specs.Bodies.{bodyFits}

@@ -1,4 +1,4 @@
--- `layouts::body_me` meets its contract: in each arm the bits are those of the arm's layout. A body that fits has characters of 48 bits.
+-- `layouts::bodies::body_me` meets its contract: in each arm the bits are those of the arm's layout. A body that fits has characters of 48 bits.
 -- Assumes nothing.
 use mathlib.Core.Path.{sym, ap, _∙_}
 use Rattle.layouts.specs.Bodies.{bodyMe, bodyFits}

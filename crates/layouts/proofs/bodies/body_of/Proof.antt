@@ -1,4 +1,4 @@
--- `layouts::body_of` meets its contract: the layout that `layout_of` answers chooses the arm, and each arm is the definition's.
+-- `layouts::bodies::body_of` meets its contract: the layout that `layout_of` answers chooses the arm, and each arm is the definition's.
 -- Assumes nothing.
 use Prim.Native.Nat.{ℕ}
 use mathlib.Core.Path.{_≡_, refl, sym, ap, _∙_}

@@ -1,4 +1,4 @@
--- `layouts::is_taken` meets its contract: what `layout_of` answers chooses the case.
+-- `layouts::bodies::is_taken` meets its contract: what `layout_of` answers chooses the case.
 -- Assumes nothing.
 use mathlib.Core.Path.{sym, ap, _∙_}
 use Rattle.layouts.specs.Bodies.{isTaken}

@@ -1,4 +1,4 @@
--- `layouts::layout_of` meets its contract: each return has the tests on its way, which are those of the definition.
+-- `layouts::bodies::layout_of` meets its contract: each return has the tests on its way, which are those of the definition.
 -- Assumes nothing.
 use Rattle.layouts.proofs.bodies.layout_of.Statement.{statement}
 use Rattle.layouts.proofs.bodies.layout_of.Tie as tie

@@ -1,4 +1,4 @@
--- `layouts::me_of` meets its contract: its test is that of the definition.
+-- `layouts::bodies::me_of` meets its contract: its test is that of the definition.
 -- Assumes nothing.
 use mathlib.Core.Path.{sym, _∙_}
 use borrow.Author.Needs.{needs}

@@ -49,7 +49,7 @@ by-hundreds-requires : tie.Need-by-hundreds-requires
 by-hundreds-requires c κs = search needs
 
 returns-4 : tie.Need-returns-4
-unfolding altitudeOf
+unfolding altitudeOf byHundreds
 returns-4 c =
     rw (lt-leb _ _ (c .before .before .before .before .before .if1 .left), ne-eqb _ _ (c .before .before .before .before .if2 .left), ne-eqb _ _ (c .before .before .before .if3 .left))
     (c .by-hundreds .ensures ∙ ap₂ byHundreds (c .before .before .five-hundreds .ensures .0) (c .before .hundreds .ensures .0))

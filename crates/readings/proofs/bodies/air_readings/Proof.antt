@@ -1,8 +1,16 @@
--- `readings::air_readings` meets its contract: each field is what its reading answers.
+-- `readings::bodies::air_readings` meets its contract: its test is the definition's, and each field is what its reading answers.
 -- Assumes nothing.
+use Rattle.layouts.specs.declared.bodies.Body.the-variants.{Air}
+use Rattle.readings.proofs.Whole.{read, unread}
 use borrow.Author.Needs.{needs}
 use Rattle.readings.proofs.bodies.air_readings.Statement.{statement}
 use Rattle.readings.proofs.bodies.air_readings.Tie as tie
+
+air-fits-requires : tie.Need-air-fits-requires
+air-fits-requires c κs = search needs
+
+returns : tie.Need-returns
+returns c = rw (unread (Air (c .before .before .args .b)) _ (c .before .air-fits .ensures) (c .if1 .taken))
 
 heading-of-requires : tie.Need-heading-of-requires
 heading-of-requires c κs = search needs
@@ -16,15 +24,17 @@ rate-of-requires c κs = search needs
 difference-of-requires : tie.Need-difference-of-requires
 difference-of-requires c κs = search needs
 
-returns : tie.Need-returns
-returns c = rw (c .before .before .before .heading-of .ensures, c .before .before .speed-of .ensures, c .before .rate-of .ensures, c .difference-of .ensures)
+returns-2 : tie.Need-returns-2
+returns-2 c = rw (read (Air (c .before .before .before .before .before .before .before .args .b)) _ (c .before .before .before .before .before .before .air-fits .ensures) (c .before .before .before .before .before .if1 .left), c .before .before .before .heading-of .ensures, c .before .before .speed-of .ensures, c .before .rate-of .ensures, c .difference-of .ensures)
 
 pub air-readings-spec : {M : Type 1} → statement M
 air-readings-spec =
     tie.close
     (tie.spec
+    air-fits-requires
+    returns
     heading-of-requires
     speed-of-requires
     rate-of-requires
     difference-of-requires
-    returns)
+    returns-2)

@@ -1,14 +1,28 @@
--- `readings::airborne_readings` meets its contract: each field is what its reading answers.
+-- `readings::bodies::airborne_readings` meets its contract: its test is the definition's, and each field is what its reading answers.
 -- Assumes nothing.
+use Rattle.layouts.specs.declared.bodies.Body.the-variants.{Airborne}
+use Rattle.readings.proofs.Whole.{read, unread}
 use borrow.Author.Needs.{needs}
 use Rattle.readings.proofs.bodies.airborne_readings.Statement.{statement}
 use Rattle.readings.proofs.bodies.airborne_readings.Tie as tie
 
+airborne-fits-requires : tie.Need-airborne-fits-requires
+airborne-fits-requires c κs = search needs
+
+returns : tie.Need-returns
+returns c = rw (unread (Airborne (c .before .before .args .b)) _ (c .before .airborne-fits .ensures) (c .if1 .taken))
+
 altitude-of-requires : tie.Need-altitude-of-requires
 altitude-of-requires c κs = search needs
 
-returns : tie.Need-returns
-returns c = rw (c .before .altitude-of .ensures)
+returns-2 : tie.Need-returns-2
+returns-2 c = rw (read (Airborne (c .before .before .before .before .args .b)) _ (c .before .before .before .airborne-fits .ensures) (c .before .before .if1 .left), c .before .altitude-of .ensures)
 
 pub airborne-readings-spec : {M : Type 1} → statement M
-airborne-readings-spec = tie.close (tie.spec altitude-of-requires returns)
+airborne-readings-spec =
+    tie.close
+    (tie.spec
+    airborne-fits-requires
+    returns
+    altitude-of-requires
+    returns-2)

@@ -1,8 +1,16 @@
--- `readings::ground_readings` meets its contract: each field is what its reading answers.
+-- `readings::bodies::ground_readings` meets its contract: its test is the definition's, and each field is what its reading answers.
 -- Assumes nothing.
+use Rattle.layouts.specs.declared.bodies.Body.the-variants.{Ground}
+use Rattle.readings.proofs.Whole.{read, unread}
 use borrow.Author.Needs.{needs}
 use Rattle.readings.proofs.bodies.ground_readings.Statement.{statement}
 use Rattle.readings.proofs.bodies.ground_readings.Tie as tie
+
+ground-fits-requires : tie.Need-ground-fits-requires
+ground-fits-requires c κs = search needs
+
+returns : tie.Need-returns
+returns c = rw (unread (Ground (c .before .before .args .b)) _ (c .before .ground-fits .ensures) (c .if1 .taken))
 
 speed-of-requires : tie.Need-speed-of-requires
 speed-of-requires c κs = search needs
@@ -16,15 +24,17 @@ rate-of-requires c κs = search needs
 difference-of-requires : tie.Need-difference-of-requires
 difference-of-requires c κs = search needs
 
-returns : tie.Need-returns
-returns c = rw (c .before .before .before .speed-of .ensures, c .before .before .speed-of2 .ensures, c .before .rate-of .ensures, c .difference-of .ensures)
+returns-2 : tie.Need-returns-2
+returns-2 c = rw (read (Ground (c .before .before .before .before .before .before .before .args .b)) _ (c .before .before .before .before .before .before .ground-fits .ensures) (c .before .before .before .before .before .if1 .left), c .before .before .before .speed-of .ensures, c .before .before .speed-of2 .ensures, c .before .rate-of .ensures, c .difference-of .ensures)
 
 pub ground-readings-spec : {M : Type 1} → statement M
 ground-readings-spec =
     tie.close
     (tie.spec
+    ground-fits-requires
+    returns
     speed-of-requires
     speed-of-requires-2
     rate-of-requires
     difference-of-requires
-    returns)
+    returns-2)

@@ -1,8 +1,16 @@
--- `readings::identification_readings` meets its contract: each field is what its reading answers.
+-- `readings::bodies::identification_readings` meets its contract: its test is the definition's, and each field is what its reading answers.
 -- Assumes nothing.
+use Rattle.layouts.specs.declared.bodies.Body.the-variants.{Identification}
+use Rattle.readings.proofs.Whole.{read, unread}
 use borrow.Author.Needs.{needs}
 use Rattle.readings.proofs.bodies.identification_readings.Statement.{statement}
 use Rattle.readings.proofs.bodies.identification_readings.Tie as tie
+
+identification-fits-requires : tie.Need-identification-fits-requires
+identification-fits-requires c κs = search needs
+
+returns : tie.Need-returns
+returns c = rw (unread (Identification (c .before .before .args .b)) _ (c .before .identification-fits .ensures) (c .if1 .taken))
 
 category-set-of-requires : tie.Need-category-set-of-requires
 category-set-of-requires c κs = search needs
@@ -10,9 +18,15 @@ category-set-of-requires c κs = search needs
 text-of-requires : tie.Need-text-of-requires
 text-of-requires c κs = search needs
 
-returns : tie.Need-returns
-returns c = rw (c .before .category-set-of .ensures, c .text-of .ensures)
+returns-2 : tie.Need-returns-2
+returns-2 c = rw (read (Identification (c .before .before .before .before .args .b)) _ (c .before .before .before .identification-fits .ensures) (c .before .before .if1 .left), c .before .category-set-of .ensures, c .text-of .ensures)
 
 pub identification-readings-spec : {M : Type 1} → statement M
 identification-readings-spec =
-    tie.close (tie.spec category-set-of-requires text-of-requires returns)
+    tie.close
+    (tie.spec
+    identification-fits-requires
+    returns
+    category-set-of-requires
+    text-of-requires
+    returns-2)

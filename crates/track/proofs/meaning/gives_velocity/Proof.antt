@@ -9,7 +9,7 @@ use lib.Dec.{leb, eqb}
 use borrow.Author.Tests.{le-leb, leb-true, leb-false, eq-eqb, eqb-true}
 use Rattle.fields.specs.Packing.{me}
 use Rattle.fields.proofs.Bools.{each, either, both}
-use Rattle.velocity.specs.Velocity.{isGround, isAir}
+use Rattle.layouts.specs.Velocity.{isGround, isAir}
 use Rattle.track.specs.Meaning.{givesVelocity}
 use borrow.Author.Needs.{needs}
 use Rattle.track.proofs.meaning.gives_velocity.Statement.{statement}

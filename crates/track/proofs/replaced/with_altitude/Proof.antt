@@ -1,4 +1,4 @@
--- `replaced::with_altitude` meets its contract: its test is that of the definition.
+-- `track::replaced::with_altitude` meets its contract: its test is that of the definition.
 -- Assumes nothing.
 use borrow.Author.Tests.{le-leb, lt-leb}
 use Rattle.track.proofs.replaced.with_altitude.Statement.{statement}

@@ -4,9 +4,6 @@ use borrow.Author.Needs.{needs}
 use Rattle.values.proofs.rows.air_four.Statement.{statement}
 use Rattle.values.proofs.rows.air_four.Tie as tie
 
-air-readings-requires : tie.Need-air-readings-requires
-air-readings-requires c κs = search needs
-
 heading-reading-requires : tie.Need-heading-reading-requires
 heading-reading-requires c κs = search needs
 
@@ -20,13 +17,12 @@ difference-reading-requires : tie.Need-difference-reading-requires
 difference-reading-requires c κs = search needs
 
 returns : tie.Need-returns
-returns c = rw (c .difference-reading .ensures, c .before .rate-reading .ensures, c .before .before .speed-reading .ensures, c .before .before .before .heading-reading .ensures, c .before .before .before .before .air-readings .ensures)
+returns c = rw (c .difference-reading .ensures, c .before .rate-reading .ensures, c .before .before .speed-reading .ensures, c .before .before .before .heading-reading .ensures)
 
 pub air-four-spec : {M : Type 1} → statement M
 air-four-spec =
     tie.close
     (tie.spec
-    air-readings-requires
     heading-reading-requires
     speed-reading-requires
     rate-reading-requires

@@ -11,9 +11,6 @@ key-of-requires c κs = search needs
 cast-key : tie.Need-cast-key
 cast-key c = search needs
 
-air-four-requires : tie.Need-air-four-requires
-air-four-requires c κs = search needs
-
 cast-t7 : tie.Need-cast-t7
 cast-t7 c = search needs
 
@@ -70,7 +67,7 @@ cast-t24 c = search needs
 
 returns : tie.Need-returns
 unfolding rowOf
-returns c = rw (c .before .before .before .before .before .before .before .before .before .before .before .before .before .before .before .before .before .before .before .air-four .ensures, c .before .before .before .before .before .before .before .before .before .before .before .before .before .before .before .before .before .before .before .before .key-of .ensures)
+returns c = rw (c .before .before .before .before .before .before .before .before .before .before .before .before .before .before .before .before .before .before .before .key-of .ensures)
 
 pub air-row-spec : {M : Type 1} → statement M
 air-row-spec =
@@ -78,7 +75,6 @@ air-row-spec =
     (tie.spec
     key-of-requires
     cast-key
-    air-four-requires
     cast-t7
     cast-t8
     cast-t9

@@ -4,9 +4,6 @@ use borrow.Author.Needs.{needs}
 use Rattle.values.proofs.rows.airborne_four.Statement.{statement}
 use Rattle.values.proofs.rows.airborne_four.Tie as tie
 
-airborne-readings-requires : tie.Need-airborne-readings-requires
-airborne-readings-requires c κs = search needs
-
 altitude-reading-requires : tie.Need-altitude-reading-requires
 altitude-reading-requires c κs = search needs
 
@@ -20,13 +17,12 @@ only-requires-2 : tie.Need-only-requires-2
 only-requires-2 c κs = search needs
 
 returns : tie.Need-returns
-returns c = rw (c .only2 .ensures, c .before .only .ensures, c .before .before .bit .ensures, c .before .before .before .altitude-reading .ensures, c .before .before .before .before .airborne-readings .ensures)
+returns c = rw (c .only2 .ensures, c .before .only .ensures, c .before .before .bit .ensures, c .before .before .before .altitude-reading .ensures)
 
 pub airborne-four-spec : {M : Type 1} → statement M
 airborne-four-spec =
     tie.close
     (tie.spec
-    airborne-readings-requires
     altitude-reading-requires
     bit-requires
     only-requires

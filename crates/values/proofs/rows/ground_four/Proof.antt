@@ -4,9 +4,6 @@ use borrow.Author.Needs.{needs}
 use Rattle.values.proofs.rows.ground_four.Statement.{statement}
 use Rattle.values.proofs.rows.ground_four.Tie as tie
 
-ground-readings-requires : tie.Need-ground-readings-requires
-ground-readings-requires c κs = search needs
-
 speed-reading-requires : tie.Need-speed-reading-requires
 speed-reading-requires c κs = search needs
 
@@ -20,13 +17,12 @@ difference-reading-requires : tie.Need-difference-reading-requires
 difference-reading-requires c κs = search needs
 
 returns : tie.Need-returns
-returns c = rw (c .difference-reading .ensures, c .before .rate-reading .ensures, c .before .before .speed-reading2 .ensures, c .before .before .before .speed-reading .ensures, c .before .before .before .before .ground-readings .ensures)
+returns c = rw (c .difference-reading .ensures, c .before .rate-reading .ensures, c .before .before .speed-reading2 .ensures, c .before .before .before .speed-reading .ensures)
 
 pub ground-four-spec : {M : Type 1} → statement M
 ground-four-spec =
     tie.close
     (tie.spec
-    ground-readings-requires
     speed-reading-requires
     speed-reading-requires-2
     rate-reading-requires

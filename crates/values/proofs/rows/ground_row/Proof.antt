@@ -11,9 +11,6 @@ key-of-requires c κs = search needs
 cast-key : tie.Need-cast-key
 cast-key c = search needs
 
-ground-four-requires : tie.Need-ground-four-requires
-ground-four-requires c κs = search needs
-
 cast-t7 : tie.Need-cast-t7
 cast-t7 c = search needs
 
@@ -70,7 +67,7 @@ cast-t24 c = search needs
 
 returns : tie.Need-returns
 unfolding rowOf
-returns c = rw (c .before .before .before .before .before .before .before .before .before .before .before .before .before .before .before .before .before .before .before .ground-four .ensures, c .before .before .before .before .before .before .before .before .before .before .before .before .before .before .before .before .before .before .before .before .key-of .ensures)
+returns c = rw (c .before .before .before .before .before .before .before .before .before .before .before .before .before .before .before .before .before .before .before .key-of .ensures)
 
 pub ground-row-spec : {M : Type 1} → statement M
 ground-row-spec =
@@ -78,7 +75,6 @@ ground-row-spec =
     (tie.spec
     key-of-requires
     cast-key
-    ground-four-requires
     cast-t7
     cast-t8
     cast-t9

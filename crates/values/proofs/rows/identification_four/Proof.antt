@@ -4,9 +4,6 @@ use borrow.Author.Needs.{needs}
 use Rattle.values.proofs.rows.identification_four.Statement.{statement}
 use Rattle.values.proofs.rows.identification_four.Tie as tie
 
-identification-readings-requires : tie.Need-identification-readings-requires
-identification-readings-requires c κs = search needs
-
 set-reading-requires : tie.Need-set-reading-requires
 set-reading-requires c κs = search needs
 
@@ -20,13 +17,12 @@ only-requires-2 : tie.Need-only-requires-2
 only-requires-2 c κs = search needs
 
 returns : tie.Need-returns
-returns c = rw (c .only2 .ensures, c .before .only .ensures, c .before .before .text-reading .ensures, c .before .before .before .set-reading .ensures, c .before .before .before .before .identification-readings .ensures)
+returns c = rw (c .only2 .ensures, c .before .only .ensures, c .before .before .text-reading .ensures, c .before .before .before .set-reading .ensures)
 
 pub identification-four-spec : {M : Type 1} → statement M
 identification-four-spec =
     tie.close
     (tie.spec
-    identification-readings-requires
     set-reading-requires
     text-reading-requires
     only-requires

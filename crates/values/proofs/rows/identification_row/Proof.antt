@@ -11,9 +11,6 @@ key-of-requires c κs = search needs
 cast-key : tie.Need-cast-key
 cast-key c = search needs
 
-identification-four-requires : tie.Need-identification-four-requires
-identification-four-requires c κs = search needs
-
 cast-t6 : tie.Need-cast-t6
 cast-t6 c = search needs
 
@@ -31,7 +28,7 @@ cast-t10 c = search needs
 
 returns : tie.Need-returns
 unfolding rowOf
-returns c = rw (c .before .before .before .before .before .identification-four .ensures, c .before .before .before .before .before .before .key-of .ensures)
+returns c = rw (c .before .before .before .before .before .key-of .ensures)
 
 pub identification-row-spec : {M : Type 1} → statement M
 identification-row-spec =
@@ -39,7 +36,6 @@ identification-row-spec =
     (tie.spec
     key-of-requires
     cast-key
-    identification-four-requires
     cast-t6
     cast-t7
     cast-t8

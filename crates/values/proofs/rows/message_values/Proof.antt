@@ -1,10 +1,13 @@
--- `values::rows::message_values` meets its contract: by the layouts.
+-- `values::rows::message_values` meets its contract: by the layouts, with the readings that stand behind each.
 -- Assumes nothing.
-use mathlib.Core.Path.{sym, ap, _∙_}
+use mathlib.Core.Path.{sym, ap₂, _∙_}
 use Rattle.values.specs.Rows.{bodyRow}
 use borrow.Author.Needs.{needs}
 use Rattle.values.proofs.rows.message_values.Statement.{statement}
 use Rattle.values.proofs.rows.message_values.Tie as tie
+
+four-of-requires : tie.Need-four-of-requires
+four-of-requires c κs = search needs
 
 enum-known-body : tie.Need-enum-known-body
 enum-known-body c = search needs
@@ -37,24 +40,25 @@ air-row-requires : tie.Need-air-row-requires
 air-row-requires c κs = search needs
 
 returns : tie.Need-returns
-returns c = c .identification-row .ensures ∙ sym (ap (bodyRow (c .before .before .before .before .args .m)) (c .before .before .body .given .1))
+returns c = c .identification-row .ensures ∙ ap₂ (bodyRow (c .before .before .before .before .before .args .m)) (sym (c .before .before .body .given .1)) (c .before .before .before .before .four-of .ensures)
 
 returns-2 : tie.Need-returns-2
-returns-2 c = c .surface-row .ensures ∙ sym (ap (bodyRow (c .before .before .before .before .args .m)) (c .before .before .body2 .given .1))
+returns-2 c = c .surface-row .ensures ∙ ap₂ (bodyRow (c .before .before .before .before .before .args .m)) (sym (c .before .before .body2 .given .1)) (c .before .before .before .before .four-of .ensures)
 
 returns-3 : tie.Need-returns-3
-returns-3 c = c .airborne-row .ensures ∙ sym (ap (bodyRow (c .before .before .before .before .args .m)) (c .before .before .body3 .given .1))
+returns-3 c = c .airborne-row .ensures ∙ ap₂ (bodyRow (c .before .before .before .before .before .args .m)) (sym (c .before .before .body3 .given .1)) (c .before .before .before .before .four-of .ensures)
 
 returns-4 : tie.Need-returns-4
-returns-4 c = c .ground-row .ensures ∙ sym (ap (bodyRow (c .before .before .before .before .args .m)) (c .before .before .body4 .given .1))
+returns-4 c = c .ground-row .ensures ∙ ap₂ (bodyRow (c .before .before .before .before .before .args .m)) (sym (c .before .before .body4 .given .1)) (c .before .before .before .before .four-of .ensures)
 
 returns-5 : tie.Need-returns-5
-returns-5 c = c .air-row .ensures ∙ sym (ap (bodyRow (c .before .before .before .before .args .m)) (c .before .before .body5 .given .1))
+returns-5 c = c .air-row .ensures ∙ ap₂ (bodyRow (c .before .before .before .before .before .args .m)) (sym (c .before .before .body5 .given .1)) (c .before .before .before .before .four-of .ensures)
 
 pub message-values-spec : {M : Type 1} → statement M
 message-values-spec =
     tie.close
     (tie.spec
+    four-of-requires
     enum-known-body
     identification-row-requires
     enum-known-body-2

@@ -4,9 +4,6 @@ use borrow.Author.Needs.{needs}
 use Rattle.values.proofs.rows.surface_four.Statement.{statement}
 use Rattle.values.proofs.rows.surface_four.Tie as tie
 
-surface-readings-requires : tie.Need-surface-readings-requires
-surface-readings-requires c κs = search needs
-
 movement-reading-requires : tie.Need-movement-reading-requires
 movement-reading-requires c κs = search needs
 
@@ -20,13 +17,12 @@ only-requires-2 : tie.Need-only-requires-2
 only-requires-2 c κs = search needs
 
 returns : tie.Need-returns
-returns c = rw (c .only2 .ensures, c .before .only .ensures, c .before .before .heading-reading .ensures, c .before .before .before .movement-reading .ensures, c .before .before .before .before .surface-readings .ensures)
+returns c = rw (c .only2 .ensures, c .before .only .ensures, c .before .before .heading-reading .ensures, c .before .before .before .movement-reading .ensures)
 
 pub surface-four-spec : {M : Type 1} → statement M
 surface-four-spec =
     tie.close
     (tie.spec
-    surface-readings-requires
     movement-reading-requires
     heading-reading-requires
     only-requires

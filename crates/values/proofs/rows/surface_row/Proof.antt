@@ -11,9 +11,6 @@ key-of-requires c κs = search needs
 cast-key : tie.Need-cast-key
 cast-key c = search needs
 
-surface-four-requires : tie.Need-surface-four-requires
-surface-four-requires c κs = search needs
-
 cast-t6 : tie.Need-cast-t6
 cast-t6 c = search needs
 
@@ -49,7 +46,7 @@ cast-t16 c = search needs
 
 returns : tie.Need-returns
 unfolding rowOf
-returns c = rw (c .before .before .before .before .before .before .before .before .before .before .before .surface-four .ensures, c .before .before .before .before .before .before .before .before .before .before .before .before .key-of .ensures)
+returns c = rw (c .before .before .before .before .before .before .before .before .before .before .before .key-of .ensures)
 
 pub surface-row-spec : {M : Type 1} → statement M
 surface-row-spec =
@@ -57,7 +54,6 @@ surface-row-spec =
     (tie.spec
     key-of-requires
     cast-key
-    surface-four-requires
     cast-t6
     cast-t7
     cast-t8
