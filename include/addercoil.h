@@ -165,9 +165,9 @@ uint32_t addercoil_line(const uint8_t *table, size_t table_len, uint32_t key, ui
  * One block of a capture: byte 0 is how many records it has, 1 to 23; bytes 1 and 2 are a serial number that is not
  * looked at; then 23 records of 22 bytes, each a time in 8 bytes, high byte first, and a message, the unused ones zero;
  * then three bytes that make the parity remainder of the whole 0.
- * Each of its records is received, and what is refused of them is passed over. bad is the
- * number of bad blocks before it, and that number after it goes into out of 1 entry; a block that fails its rules, also
- * one that is not of ADDERCOIL_BLOCK bytes, counts one more (never above 2^64 - 1) and leaves the table as it was.
+ * Each of its records is received, and what is refused of them is passed over. bad is the number of bad blocks before
+ * it, and that number after it goes into out of 1 entry; a block that fails its rules, also one that is not of
+ * ADDERCOIL_BLOCK bytes, counts one more (never above 2^64 - 1) and leaves the table as it was.
  * Or ADDERCOIL_LENGTH, ADDERCOIL_PLACES, which leave the table as it was.
  */
 uint32_t addercoil_feed_block(uint8_t *table, size_t table_len, const uint8_t *block, size_t block_len, uint64_t bad,
@@ -175,19 +175,19 @@ uint32_t addercoil_feed_block(uint8_t *table, size_t table_len, const uint8_t *b
 
 /* ---- Positions ---- */
 
-/* The entries of a place, and of its two counts of 17 bits. */
-enum { ADDERCOIL_PLACE_LATITUDE /* signed */, ADDERCOIL_PLACE_LONGITUDE, ADDERCOIL_PLACE /* how many there are */ };
+/* The entries of a spot on the earth, and of its two counts of 17 bits. */
+enum { ADDERCOIL_SPOT_LATITUDE /* signed */, ADDERCOIL_SPOT_LONGITUDE, ADDERCOIL_SPOT /* how many there are */ };
 enum { ADDERCOIL_COUNT_LATITUDE, ADDERCOIL_COUNT_LONGITUDE, ADDERCOIL_COUNTS /* how many there are */ };
 
 /*
- * The counts that a message says of a place, into out of ADDERCOIL_COUNTS entries. surface: 0 airborne, 1 surface.
+ * The counts that a message says of a spot, into out of ADDERCOIL_COUNTS entries. surface: 0 airborne, 1 surface.
  * odd: 0 even, 1 odd. Or ADDERCOIL_LENGTH, ADDERCOIL_FIELD for surface or odd above 1 or a latitude beyond a pole.
  */
 uint32_t addercoil_encode_position(int32_t latitude, uint32_t longitude, uint32_t surface, uint32_t odd, uint64_t *out,
                                    size_t out_len);
 
 /*
- * The place of two airborne messages, an even and an odd one, into out of ADDERCOIL_PLACE entries: that of the later
+ * The spot of two airborne messages, an even and an odd one, into out of ADDERCOIL_SPOT entries: that of the later
  * one, which is the odd one if later_odd is 1. Or ADDERCOIL_LENGTH, ADDERCOIL_FIELD for a count above 131,071 or
  * later_odd above 1, ADDERCOIL_LATITUDE, ADDERCOIL_ZONES.
  */
@@ -195,7 +195,7 @@ uint32_t addercoil_pair(uint32_t even_latitude, uint32_t even_longitude, uint32_
                         uint32_t later_odd, uint64_t *out, size_t out_len);
 
 /*
- * The place of one message near a reference, latitude and longitude, into out of ADDERCOIL_PLACE entries. Or
+ * The spot of one message near a reference, latitude and longitude, into out of ADDERCOIL_SPOT entries. Or
  * ADDERCOIL_LENGTH, ADDERCOIL_FIELD for a count above 131,071, surface or odd above 1 or a latitude beyond a pole,
  * ADDERCOIL_LATITUDE.
  */

@@ -259,7 +259,7 @@ def turn_and_i(surface, odd):
 
 def place_row(place):
     """A latitude and a longitude."""
-    return row(AT["PLACE"], {"PLACE_LATITUDE": place[0], "PLACE_LONGITUDE": place[1]})
+    return row(AT["SPOT"], {"SPOT_LATITUDE": place[0], "SPOT_LONGITUDE": place[1]})
 
 
 def encode_position(latitude, longitude, surface, odd):
@@ -320,8 +320,8 @@ FUNCTIONS = {
     "line": Function(line, READS, None, AT["LINE"], BYTES),
     "feed_block": Function(feed_block, WRITES, BYTES, 1, WORDS),
     "encode_position": Function(encode_position, None, None, AT["COUNTS"], WORDS),
-    "pair": Function(pair, None, None, AT["PLACE"], WORDS),
-    "single": Function(single, None, None, AT["PLACE"], WORDS),
+    "pair": Function(pair, None, None, AT["SPOT"], WORDS),
+    "single": Function(single, None, None, AT["SPOT"], WORDS),
     "decode": Function(decode, None, BYTES, AT["FIELDS"], WORDS),
     "encode": Function(encode, None, WORDS, AT["MESSAGE"], BYTES),
 }

@@ -216,7 +216,7 @@ static size_t result_length(enum function function) {
     case ENCODE_POSITION:
     case PAIR:
     case SINGLE:
-        return about(ADDERCOIL_PLACE);
+        return about(ADDERCOIL_SPOT);
     case DECODE:
         return about(ADDERCOIL_FIELDS);
     case ENCODE:

@@ -13,7 +13,7 @@ use Rattle.messages.specs.declared.Decoded.{Decoded}
 use Rattle.messages.specs.declared.Decoded.the-variants as decode
 use Rattle.encoder.specs.declared.Encoded.{Encoded}
 use Rattle.encoder.specs.Encoded.{encoded, encodedBytes}
-use Rattle.values.specs.From.{messageFrom}
+use Rattle.rows.specs.From.{messageFrom}
 use Rattle.addercoil.specs.Sent.{Sent, sent}
 use Rattle.addercoil.specs.Messages.{encodedNumber, encodedAs, encodedFrom}
 

@@ -13,8 +13,8 @@ use Rattle.refusals.specs.declared.Refusal.{Refusal}
 use Rattle.refusals.specs.declared.Refusal.the-variants.{Length, Late, Parity, Format, TypeCode, Full, Places, Field, Latitude, Zones, Block}
 use Rattle.refusals.specs.Numbers.{numberOf}
 use Rattle.refusals.specs.Said.{gives}
-use Rattle.arrays.specs.Arrays.{filled}
-use Rattle.arrays.proofs.Filling.{filled-at}
+use Rattle.entries.specs.Arrays.{filled}
+use Rattle.entries.proofs.Filling.{filled-at}
 use Rattle.fields.specs.Bytes.{Bytes}
 use Rattle.fields.proofs.Bools.{by-test}
 use Rattle.keys.specs.Keys.{endOfKeys}
@@ -31,14 +31,14 @@ use Rattle.messages.proofs.BothWays as messages
 use Rattle.encoder.proofs.BothWays as encoder
 use Rattle.track.specs.declared.Track.{Track}
 use Rattle.text.proofs.Fits.{header-most, row-most}
-use Rattle.lent.specs.Layout.{clockOf}
+use Rattle.table_bytes.specs.Layout.{clockOf}
 use Rattle.report.specs.Listing.{rowOf as lineRow, counted, headerFor, lineFor}
-use Rattle.values.specs.From.{messageFrom}
-use Rattle.values.specs.declared.rows.Four.{Four}
-use Rattle.values.specs.Rows.{rowOf, bodyRow, fourOf, messageRow}
-use Rattle.values.specs.Same.{Same}
-use Rattle.values.proofs.BothWays.{from-row}
-use Rattle.values.proofs.ReadBack.{from-same}
+use Rattle.rows.specs.From.{messageFrom}
+use Rattle.rows.specs.declared.message.Four.{Four}
+use Rattle.rows.specs.Rows.{rowOf, bodyRow, fourOf, messageRow}
+use Rattle.rows.specs.Same.{Same}
+use Rattle.rows.proofs.BothWays.{from-row}
+use Rattle.rows.proofs.ReadBack.{from-same}
 use Rattle.addercoil.specs.Sent.{Sent, sent, into}
 use Rattle.addercoil.specs.Messages.{messageSaid, encodedNumber, encodedAs, encodedFrom}
 use Rattle.addercoil.proofs.Encoding.{encode-right}

@@ -13,7 +13,7 @@ use Rattle.positions.specs.declared.Encoded.{Encoded}
 use Rattle.positions.specs.declared.Found.{Found}
 use Rattle.positions.specs.Positions.{encoded, paired, singly}
 use Rattle.addercoil.specs.Sent.{Sent, given}
-use Rattle.addercoil.specs.Places.{turnOf, formatOf, countsSaid, spotSaid, encodeSaid, pairSaid, singleSaid}
+use Rattle.addercoil.specs.Spots.{turnOf, formatOf, countsSaid, spotSaid, encodeSaid, pairSaid, singleSaid}
 use Rattle.addercoil.proofs.Ways.{passed}
 
 module _ (out : List ℕ) {s : Sent} {format : Format} where

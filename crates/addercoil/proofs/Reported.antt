@@ -10,10 +10,10 @@ use lib.Dec.{eqb}
 use lib.ListN.{length}
 use Rattle.refusals.specs.declared.Refusal.the-variants.{Places}
 use Rattle.refusals.specs.Said.{number, gives}
-use Rattle.arrays.proofs.Filling.{filled-zeros}
+use Rattle.entries.proofs.Filling.{filled-zeros}
 use Rattle.track.specs.declared.Track.{Track}
 use Rattle.text.specs.Lines.{rowText, lineOf}
-use Rattle.offsets.specs.Offsets.{wholePlaces}
+use Rattle.memory.specs.Offsets.{wholePlaces}
 use Rattle.table.specs.Table.{After, after}
 use Rattle.table.specs.View.{view}
 use Rattle.report.specs.declared.Printed.the-variants.{Refused}

@@ -24,18 +24,18 @@ use Rattle.addercoil.proofs.lines.addercoil_line.Kinds as line-kinds
 use Rattle.addercoil.proofs.lines.addercoil_line.Reads as line
 use Rattle.addercoil.proofs.lines.addercoil_feed_block.Kinds as feed-block-kinds
 use Rattle.addercoil.proofs.lines.addercoil_feed_block.Reads as feed-block
-use Rattle.addercoil.proofs.places.addercoil_encode_position.Kinds as encode-position-kinds
-use Rattle.addercoil.proofs.places.addercoil_encode_position.Reads as encode-position
-use Rattle.addercoil.proofs.places.addercoil_pair.Kinds as pair-kinds
-use Rattle.addercoil.proofs.places.addercoil_pair.Reads as pair
-use Rattle.addercoil.proofs.places.addercoil_single.Kinds as single-kinds
-use Rattle.addercoil.proofs.places.addercoil_single.Reads as single
-use Rattle.addercoil.proofs.rows.addercoil_look_up.Kinds as look-up-kinds
-use Rattle.addercoil.proofs.rows.addercoil_look_up.Reads as look-up
-use Rattle.addercoil.proofs.rows.addercoil_decode.Kinds as decode-kinds
-use Rattle.addercoil.proofs.rows.addercoil_decode.Reads as decode
-use Rattle.addercoil.proofs.rows.addercoil_encode.Kinds as encode-kinds
-use Rattle.addercoil.proofs.rows.addercoil_encode.Reads as encode
+use Rattle.addercoil.proofs.spots.addercoil_encode_position.Kinds as encode-position-kinds
+use Rattle.addercoil.proofs.spots.addercoil_encode_position.Reads as encode-position
+use Rattle.addercoil.proofs.spots.addercoil_pair.Kinds as pair-kinds
+use Rattle.addercoil.proofs.spots.addercoil_pair.Reads as pair
+use Rattle.addercoil.proofs.spots.addercoil_single.Kinds as single-kinds
+use Rattle.addercoil.proofs.spots.addercoil_single.Reads as single
+use Rattle.addercoil.proofs.numbers.addercoil_look_up.Kinds as look-up-kinds
+use Rattle.addercoil.proofs.numbers.addercoil_look_up.Reads as look-up
+use Rattle.addercoil.proofs.numbers.addercoil_decode.Kinds as decode-kinds
+use Rattle.addercoil.proofs.numbers.addercoil_decode.Reads as decode
+use Rattle.addercoil.proofs.numbers.addercoil_encode.Kinds as encode-kinds
+use Rattle.addercoil.proofs.numbers.addercoil_encode.Reads as encode
 
 pub table-bytes-once : OneAnswer 0 table-bytes-kinds.ps table-bytes-kinds.r table-bytes.Post
 table-bytes-once κs args x y left left′ p q = p ∙ sym q

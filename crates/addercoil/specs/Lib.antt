@@ -1,5 +1,5 @@
 pub mod Lines
 pub mod Messages
-pub mod Places
 pub mod Sent
+pub mod Spots
 pub mod Tables

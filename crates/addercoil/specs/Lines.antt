@@ -5,7 +5,7 @@ use mathlib.Core.List.{List, [], _∷_}
 use lib.ListN.{length}
 use Rattle.refusals.specs.Numbers.{numberOf}
 use Rattle.refusals.specs.Said.{Said, number, gives}
-use Rattle.offsets.specs.Offsets.{wholePlaces}
+use Rattle.memory.specs.Offsets.{wholePlaces}
 use Rattle.table.specs.Table.{After}
 use Rattle.table.specs.View.{view}
 use Rattle.report.specs.declared.Printed.{Printed}

@@ -1,4 +1,4 @@
--- A track and a message for another language, as the rows of numbers of the crate `values`.
+-- A track and a message for another language, as the rows of numbers of the crate `rows`.
 use Prim.Native.Nat.{ℕ}
 use mathlib.Core.Bool.{cond, not, _||_}
 use mathlib.Core.List.{List, [], _∷_}
@@ -12,12 +12,12 @@ use Rattle.encoder.specs.declared.Encoded.{Encoded}
 use Rattle.encoder.specs.declared.Encoded.the-variants as encode
 use Rattle.encoder.specs.Encoded.{encoded, encodedBytes}
 use Rattle.track.specs.declared.Track.{Track}
-use Rattle.answers.specs.declared.Holding.{Holding}
-use Rattle.answers.specs.declared.Holding.the-variants as holding
-use Rattle.answers.specs.declared.Looked.{Looked}
-use Rattle.values.specs.From.{messageFrom}
-use Rattle.values.specs.Rows.{messageRow}
-use Rattle.values.specs.Tracks.{trackRow}
+use Rattle.rules.specs.declared.answers.Holding.{Holding}
+use Rattle.rules.specs.declared.answers.Holding.the-variants as holding
+use Rattle.rules.specs.declared.answers.Looked.{Looked}
+use Rattle.rows.specs.From.{messageFrom}
+use Rattle.rows.specs.Rows.{messageRow}
+use Rattle.rows.specs.Tracks.{trackRow}
 use Rattle.addercoil.specs.Sent.{Sent, sent}
 
 -- the track of a key that is held; zeros for one that is not

@@ -5,20 +5,20 @@ use mathlib.Core.List.{List, [], _∷_}
 use lib.Dec.{leb}
 use Rattle.refusals.specs.Numbers.{numberOf}
 use Rattle.refusals.specs.Said.{Said, number, gives}
-use Rattle.offsets.specs.Offsets.{mostPlaces, tableSize}
-use Rattle.arrays.specs.Twos.{twos}
+use Rattle.memory.specs.Offsets.{mostPlaces, tableSize}
+use Rattle.entries.specs.Twos.{twos}
 use Rattle.messages.specs.declared.Decoded.{Decoded}
-use Rattle.located.specs.declared.Site.{Site}
-use Rattle.answers.specs.declared.Heard.{Heard}
-use Rattle.answers.specs.declared.Heard.the-variants as hear
-use Rattle.answers.specs.declared.SetUp.{SetUp}
-use Rattle.answers.specs.declared.SetUp.the-variants as setting
-use Rattle.answers.specs.declared.NextKey.{NextKey}
-use Rattle.answers.specs.declared.NextKey.the-variants as next
-use Rattle.answers.specs.declared.Clock.{Clock}
-use Rattle.answers.specs.declared.Clock.the-variants as clock
-use Rattle.answers.specs.declared.Sited.{Sited}
-use Rattle.answers.specs.declared.Sited.the-variants as sited
+use Rattle.whereabouts.specs.declared.Site.{Site}
+use Rattle.rules.specs.declared.answers.Heard.{Heard}
+use Rattle.rules.specs.declared.answers.Heard.the-variants as hear
+use Rattle.rules.specs.declared.answers.SetUp.{SetUp}
+use Rattle.rules.specs.declared.answers.SetUp.the-variants as setting
+use Rattle.rules.specs.declared.answers.NextKey.{NextKey}
+use Rattle.rules.specs.declared.answers.NextKey.the-variants as next
+use Rattle.rules.specs.declared.answers.Clock.{Clock}
+use Rattle.rules.specs.declared.answers.Clock.the-variants as clock
+use Rattle.rules.specs.declared.answers.Sited.{Sited}
+use Rattle.rules.specs.declared.answers.Sited.the-variants as sited
 use Rattle.table.specs.Table.{After}
 use Rattle.table.specs.Heard.{heardAs}
 use Rattle.addercoil.specs.Sent.{Sent, sent}

@@ -8,7 +8,7 @@ ghost use Rattle.addercoil.specs.Tables.{bit as bitOf};
 pub(crate) fn give(out: &mut [u64], list: &[u64]) -> u32
     ensures { λ r. ⌜ sent r (now (out .exit)) ≡ given (now (out .entry)) (gives (now (list .entry))) ⌝ }
 {
-    arrays::fill(out, list);
+    entries::fill(out, list);
     0
 }
 

@@ -17,7 +17,7 @@ fn give_line(out: &mut [u8], line: Line) -> u32
     ensures { λ r. ⌜ sent r (now (out .exit)) ≡ given (now (out .entry)) (gives (line .bytes)) ⌝ }
 {
     let bytes = line.bytes;
-    arrays::fill_bytes(out, &bytes);
+    entries::fill_bytes(out, &bytes);
     0
 }
 

@@ -1,13 +1,13 @@
 // The lent table: set-up, a received message, the clock, the site, and the walk of its keys.
 use crate::give::bit;
 use crate::give::give;
-use answers::Clock;
-use answers::Heard;
-use answers::NextKey;
-use answers::SetUp;
-use answers::Sited;
-use located::Site;
 use positions::Spot;
+use rules::Clock;
+use rules::Heard;
+use rules::NextKey;
+use rules::SetUp;
+use rules::Sited;
+use whereabouts::Site;
 ghost use mathlib.Core.Path.{_≡_};
 ghost use Rattle.table.specs.Table.{setUp, setUpAt, received, nextAbove, clockIn, siteIn};
 ghost use Rattle.addercoil.specs.Sent.{sent, given, into};
@@ -18,8 +18,8 @@ ghost use Rattle.addercoil.specs.Tables.{bytesFor, setUpNumber, setUpSen
 pub extern "C" fn addercoil_table_bytes(places: usize) -> usize
     ensures { λ r. ⌜ r ≡ bytesFor places ⌝ }
 {
-    if (1 <= places) & (places <= offsets::MOST_PLACES) {
-        offsets::HEAD + offsets::PLACE * places
+    if (1 <= places) & (places <= memory::MOST_PLACES) {
+        memory::HEAD + memory::PLACE * places
     } else {
         0
     }
@@ -90,7 +90,7 @@ fn give_site(out: &mut [u64], site: Site) -> u32
     ensures { λ r. ⌜ sent r (now (out .exit)) ≡ given (now (out .entry)) (siteValues site) ⌝ }
 {
     let known = bit(site.known);
-    let latitude = arrays::twos_of(site.spot.latitude);
+    let latitude = entries::twos_of(site.spot.latitude);
     let longitude = site.spot.longitude as u64;
     give(out, &[known, latitude, longitude])
 }

@@ -10,7 +10,7 @@ use Rattle.refusals.specs.declared.Refusal.{Refusal}
 use Rattle.refusals.specs.declared.Refusal.the-variants.{Places}
 use Rattle.fields.proofs.Bools.{by-test}
 use Rattle.capture.specs.Block.{good}
-use Rattle.offsets.specs.Offsets.{wholePlaces}
+use Rattle.memory.specs.Offsets.{wholePlaces}
 use Rattle.table.specs.Table.{After, after}
 use Rattle.feed.specs.declared.Fed.{Fed}
 use Rattle.feed.specs.declared.Fed.the-variants.{Bad, Refused}

@@ -7,9 +7,9 @@ use lib.ListN.{length}
 use Rattle.fields.proofs.Bools.{by-test}
 use Rattle.capture.specs.Block.{countOf, good, timeOf, messageOf}
 use Rattle.rules.proofs.Laws.{received-keeps}
-use Rattle.offsets.specs.Offsets.{placesIn}
-use Rattle.lent.specs.Layout.{moved}
-use Rattle.lent.proofs.Places.{moved-length, stored-length}
+use Rattle.memory.specs.Offsets.{placesIn}
+use Rattle.table_bytes.specs.Layout.{moved}
+use Rattle.table_bytes.proofs.Places.{moved-length, stored-length}
 use Rattle.table.specs.Bytes.{bytes}
 use Rattle.table.specs.Table.{received}
 use Rattle.feed.specs.Feed.{recordsInto, blockInto, blockAt, blocksInto}

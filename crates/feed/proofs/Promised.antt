@@ -12,7 +12,7 @@ use lib.ListN.{length}
 use Rattle.refusals.specs.declared.Refusal.the-variants.{Places}
 use Rattle.refusals.specs.Said.{Said, number, gives}
 use Rattle.capture.specs.Block.{good}
-use Rattle.offsets.specs.Offsets.{wholePlaces}
+use Rattle.memory.specs.Offsets.{wholePlaces}
 use Rattle.table.specs.Table.{After, after}
 use Rattle.feed.specs.declared.Fed.{Fed}
 use Rattle.feed.specs.declared.Fed.the-variants.{Bad, Refused}

@@ -8,7 +8,7 @@ use mathlib.Core.List.{List}
 use native.Mathlib.Omega.{arith}
 use lib.ListN.{length}
 use Rattle.capture.specs.Block.{good}
-use Rattle.offsets.specs.Offsets.{wholePlaces}
+use Rattle.memory.specs.Offsets.{wholePlaces}
 use Rattle.table.specs.Table.{After, after}
 use Rattle.feed.specs.declared.Fed.{Fed}
 use Rattle.feed.specs.declared.Fed.the-variants.{Bad}

@@ -18,11 +18,11 @@ use Rattle.capture.specs.declared.Block.the-variants as block
 use Rattle.capture.specs.declared.Record.the-variants.{At, Ended}
 use Rattle.capture.proofs.Records.{record-at, message-at, message-ended}
 use Rattle.capture.proofs.Rules.{block-good, block-refused}
-use Rattle.offsets.specs.Offsets.{wholePlaces}
-use Rattle.answers.specs.declared.Clock.{Clock}
-use Rattle.answers.specs.declared.Clock.the-variants as clock
+use Rattle.memory.specs.Offsets.{wholePlaces}
+use Rattle.rules.specs.declared.answers.Clock.{Clock}
+use Rattle.rules.specs.declared.answers.Clock.the-variants as clock
 use Rattle.rules.specs.Rules as rules
-use Rattle.answers.specs.declared.Heard.{Heard}
+use Rattle.rules.specs.declared.answers.Heard.{Heard}
 use Rattle.table.specs.Heard.{heard}
 use Rattle.table.specs.Table.{After, after, received, clockIn}
 use Rattle.feed.specs.declared.Fed.the-variants.{Bad, Refused}

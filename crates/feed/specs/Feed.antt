@@ -5,7 +5,7 @@ use mathlib.Core.List.{List}
 use lib.ListN.{length, take, drop}
 use Rattle.refusals.specs.declared.Refusal.the-variants.{Places}
 use Rattle.capture.specs.Block.{countOf, good, timeOf, messageOf}
-use Rattle.offsets.specs.Offsets.{wholePlaces}
+use Rattle.memory.specs.Offsets.{wholePlaces}
 use Rattle.table.specs.Table.{After, after, received}
 use Rattle.feed.specs.declared.Fed.{Fed}
 use Rattle.feed.specs.declared.Fed.the-variants.{Bad, Refused}

@@ -1,8 +1,8 @@
 // A capture into a lent table, block by block: the records of each good block are received in their order, and the bad blocks are counted.
-use answers::Clock;
 use capture::Block;
 use capture::Record;
 use refusals::Refusal;
+use rules::Clock;
 ghost use mathlib.Core.Path.{_≡_};
 ghost use Prim.Native.Nat.{_*_, _<_};
 ghost use lib.ListN.{length};

@@ -8,24 +8,24 @@ use lib.Dec.{leb}
 use lib.ListN.{length, length-replicate}
 use borrow.Author.Tests.{leb-true}
 use Rattle.fields.proofs.Bools.{each}
-use Rattle.located.specs.declared.Site.{Site}
-use Rattle.answers.specs.declared.SetUp.{SetUp}
-use Rattle.answers.specs.declared.SetUp.the-variants.{Done}
+use Rattle.whereabouts.specs.declared.Site.{Site}
+use Rattle.rules.specs.declared.answers.SetUp.{SetUp}
+use Rattle.rules.specs.declared.answers.SetUp.the-variants.{Done}
 use Rattle.rules.specs.Form.{East}
 use Rattle.rules.specs.Rules as rules
 use Rattle.rules.specs.Agreement.{Agree, Alike, AlikeSet, Call, AlikeRuns}
 use Rattle.rules.proofs.Agreed as any
-use Rattle.offsets.proofs.Counts.{count-whole, count-of}
-use Rattle.offsets.specs.Offsets.{mostPlaces, tableSize, wholePlaces, placesIn}
-use Rattle.slots.specs.declared.Place.{Place}
-use Rattle.slots.specs.declared.Head.{Head}
-use Rattle.slots.specs.Head.{placesFit}
+use Rattle.memory.proofs.Counts.{count-whole, count-of}
+use Rattle.memory.specs.Offsets.{mostPlaces, tableSize, wholePlaces, placesIn}
+use Rattle.slice_places.specs.declared.Place.{Place}
+use Rattle.slice_places.specs.declared.Head.{Head}
+use Rattle.slice_places.specs.Head.{placesFit}
 use Rattle.table.specs.Bytes.{bytes}
 use Rattle.table.specs.Table as table
 use Rattle.table.proofs.Lawful.{bytes-lawful}
-use Rattle.tracks.specs.Slice.{sliceOf, slice}
-use Rattle.tracks.specs.Tracks as tracks
-use Rattle.tracks.proofs.Lawful.{slice-lawful}
+use Rattle.slice_table.specs.Slice.{sliceOf, slice}
+use Rattle.slice_table.specs.Tracks as tracks
+use Rattle.slice_table.proofs.Lawful.{slice-lawful}
 use Rattle.isolation.specs.Runs.{Isolation}
 use Rattle.isolation.specs.Twin.{twinOf, begun}
 use Rattle.isolation.proofs.Isolated.{isolation}

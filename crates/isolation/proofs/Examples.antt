@@ -12,28 +12,28 @@ use borrow.Author.Tests.{ltb-true}
 use Rattle.refusals.specs.declared.Refusal.the-variants.{Full}
 use Rattle.fields.specs.Bytes.{Bytes}
 use Rattle.fields.proofs.Bools.{and-left, and-right}
-use Rattle.division.specs.Division.{remainderFrom, reduce}
+use Rattle.parity.specs.Division.{remainderFrom, reduce}
 use Rattle.parity.specs.Parity.{remainder}
-use Rattle.offsets.specs.Offsets.{tableSize, wholePlaces}
+use Rattle.memory.specs.Offsets.{tableSize, wholePlaces}
 use Rattle.messages.specs.declared.Decoded.{Decoded}
 use Rattle.messages.specs.declared.Decoded.the-variants as decode
 use Rattle.messages.specs.Message.{opened}
-use Rattle.located.specs.Located.{noSite}
+use Rattle.whereabouts.specs.Located.{noSite}
 use Rattle.track.specs.declared.Track.{Track}
 use Rattle.track.specs.Track.{groupTrack}
 use Rattle.track.specs.Meaning.{meantGroups, meantPosition, meantSaved, meant}
-use Rattle.words.specs.Bytes.{numberAt, lowBytes, put}
-use Rattle.place.specs.Place.{savedFrom, groupsIn, lowered, positionIn, writtenIn, trackOf, raised, marksOf, savedNumber, savedBytes, messageBytes, spotBytes, bodyOf}
-use Rattle.held.specs.Ranges as ranges
-use Rattle.answers.specs.declared.SetUp.the-variants.{Done}
+use Rattle.memory.specs.Bytes.{numberAt, lowBytes, put}
+use Rattle.place.specs.Place.{savedFrom, groupsIn, lowered, positionIn, writtenIn, trackOf, abovePole, marksOf, savedNumber, savedBytes, messageBytes, spotBytes, bodyOf}
+use Rattle.memory.specs.Ranges as ranges
+use Rattle.rules.specs.declared.answers.SetUp.the-variants.{Done}
 use Rattle.rules.specs.Form.{isHeld, holds, Form}
 use Rattle.rules.specs.Rules.{setUp, placeOf, freePlace, delivered, received}
 use Rattle.rules.specs.View.{viewAt}
-use Rattle.lent.specs.Layout.{siteFrom, keyAt, bodyAt, moved, stored, emptied}
-use Rattle.slots.specs.Ranges as slots
-use Rattle.slots.specs.Head.{placesFit, headOf, siteOf}
+use Rattle.table_bytes.specs.Layout.{siteFrom, keyAt, bodyAt, moved, stored, emptied}
+use Rattle.slice_places.specs.Ranges as slots
+use Rattle.slice_places.specs.Head.{placesFit, headOf, siteOf}
 use Rattle.table.specs.Bytes.{bytes}
-use Rattle.tracks.specs.Slice.{Slice, sliceOf, slice}
+use Rattle.slice_table.specs.Slice.{Slice, sliceOf, slice}
 use Rattle.isolation.specs.Runs.{Call, own, Alike, Alike.end, Alike.its, Alike.others, Rule, call, NeverFull, Seen, seen, Isolation}
 use Rattle.isolation.specs.Wrong.{numberIn, overwriting, refreshing, kindless}
 
@@ -198,7 +198,7 @@ abbrev pub empty-bytes : ℕ → List ℕ
 empty-bytes n = replicate (tableSize n) 0
 
 pub in-bytes : Computed bytes empty-bytes
-unfolding remainder remainderFrom reduce opened own isHeld holds setUp placeOf freePlace delivered received viewAt wholePlaces siteFrom keyAt bodyAt moved stored emptied numberAt lowBytes put savedFrom groupsIn lowered positionIn writtenIn meantGroups meantPosition meantSaved meant trackOf raised marksOf savedNumber savedBytes messageBytes spotBytes bodyOf ranges.inRange groupTrack
+unfolding remainder remainderFrom reduce opened own isHeld holds setUp placeOf freePlace delivered received viewAt wholePlaces siteFrom keyAt bodyAt moved stored emptied numberAt lowBytes put savedFrom groupsIn lowered positionIn writtenIn meantGroups meantPosition meantSaved meant trackOf abovePole marksOf savedNumber savedBytes messageBytes spotBytes bodyOf ranges.inRange groupTrack
 in-bytes =
     record {
       done-1 = refl;

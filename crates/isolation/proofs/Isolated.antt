@@ -11,7 +11,7 @@ use Rattle.messages.specs.declared.Message.{Message}
 use Rattle.messages.specs.declared.Decoded.{Decoded}
 use Rattle.messages.specs.declared.Decoded.the-variants as decode
 use Rattle.messages.specs.Message.{decoded}
-use Rattle.located.specs.declared.Site.{Site}
+use Rattle.whereabouts.specs.declared.Site.{Site}
 use Rattle.rules.specs.Form.{Form, Lawful}
 use Rattle.rules.specs.Rules.{After, setUp, received}
 use Rattle.rules.specs.View.{Table}

@@ -10,10 +10,10 @@ use denote.Triple.Clauses.{AtExit}
 use borrow.Fn.Kinds.{Dens, endedOf}
 use Rattle.positions.specs.declared.Spot.{Spot}
 use Rattle.messages.specs.declared.Decoded.{Decoded}
-use Rattle.located.specs.declared.Site.{Site}
-use Rattle.located.specs.Located.{noSite}
-use Rattle.answers.specs.declared.SetUp.{SetUp}
-use Rattle.answers.specs.declared.SetUp.the-variants.{Done}
+use Rattle.whereabouts.specs.declared.Site.{Site}
+use Rattle.whereabouts.specs.Located.{noSite}
+use Rattle.rules.specs.declared.answers.SetUp.{SetUp}
+use Rattle.rules.specs.declared.answers.SetUp.the-variants.{Done}
 use Rattle.rules.specs.Form.{East}
 use Rattle.rules.specs.Rules as rules
 use Rattle.table.specs.Bytes.{bytes}

@@ -1,4 +1,4 @@
--- Demand 3 of the code of `tracks`: of two runs of its calls whose clauses all hold, each from a set-up and alike for an aircraft, it sees the same.
+-- Demand 3 of the code of `slice_table`: of two runs of its calls whose clauses all hold, each from a set-up and alike for an aircraft, it sees the same.
 -- The contract of a walked function is a clause in the logic of each model, and so is that of a run: those of its calls together. There it follows that the run was played by the rules.
 -- Assumes nothing.
 use Prim.Native.Nat.{ℕ}
@@ -16,17 +16,17 @@ use denote.Ref.{now}
 use denote.Triple.Entry.{Args, Res}
 use denote.Triple.Clauses.{AtExit}
 use Rattle.messages.specs.declared.Decoded.{Decoded}
-use Rattle.located.specs.declared.Site.{Site}
-use Rattle.answers.specs.declared.SetUp.{SetUp}
-use Rattle.answers.specs.declared.SetUp.the-variants.{Done}
+use Rattle.whereabouts.specs.declared.Site.{Site}
+use Rattle.rules.specs.declared.answers.SetUp.{SetUp}
+use Rattle.rules.specs.declared.answers.SetUp.the-variants.{Done}
 use Rattle.rules.specs.Form.{East}
 use Rattle.rules.specs.Rules.{setUp, received}
-use Rattle.tracks.specs.Slice.{Slice, sliceOf, slice}
-use Rattle.tracks.specs.Tracks.{After, after}
+use Rattle.slice_table.specs.Slice.{Slice, sliceOf, slice}
+use Rattle.slice_table.specs.Tracks.{After, after}
 use Rattle.refusals.proofs.Clauses.{so-too, both-say}
-use Rattle.tracks.proofs.Lawful.{slice-lawful}
-use Rattle.tracks.proofs.set_up as set-up
-use Rattle.tracks.proofs.receive as receive
+use Rattle.slice_table.proofs.Lawful.{slice-lawful}
+use Rattle.slice_table.proofs.set_up as set-up
+use Rattle.slice_table.proofs.receive as receive
 use Rattle.isolation.specs.Runs.{Call, Alike, call}
 use Rattle.isolation.specs.Played.{Played, shown, NotFull}
 use Rattle.isolation.proofs.Played.{played-isolated}

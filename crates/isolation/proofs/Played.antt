@@ -4,9 +4,9 @@ use Prim.Native.Nat.{ℕ}
 use mathlib.Core.Path.{_≡_, refl, ap, ap₂, sym, _∙_, subst}
 use mathlib.Core.List.{List, [], _∷_}
 use Rattle.messages.specs.declared.Decoded.{Decoded}
-use Rattle.located.specs.declared.Site.{Site}
-use Rattle.answers.specs.declared.SetUp.{SetUp}
-use Rattle.answers.specs.declared.SetUp.the-variants.{Done}
+use Rattle.whereabouts.specs.declared.Site.{Site}
+use Rattle.rules.specs.declared.answers.SetUp.{SetUp}
+use Rattle.rules.specs.declared.answers.SetUp.the-variants.{Done}
 use Rattle.rules.specs.Form.{Form, East, Lawful}
 use Rattle.rules.specs.Rules.{After, setUp, received}
 use Rattle.isolation.specs.Runs.{Call, Alike, NeverFull, Seen, saw, seen}

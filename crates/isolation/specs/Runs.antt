@@ -14,8 +14,8 @@ use Rattle.messages.specs.declared.Decoded.{Decoded}
 use Rattle.messages.specs.declared.Decoded.the-variants as decode
 use Rattle.messages.specs.Message.{decoded, keyOf}
 use Rattle.track.specs.declared.Track.{Track}
-use Rattle.answers.specs.declared.SetUp.the-variants.{Done}
-use Rattle.located.specs.declared.Site.{Site}
+use Rattle.rules.specs.declared.answers.SetUp.the-variants.{Done}
+use Rattle.whereabouts.specs.declared.Site.{Site}
 use Rattle.rules.specs.Form.{Form, East}
 use Rattle.rules.specs.Rules.{After, setUp}
 use Rattle.rules.specs.View.{view}

@@ -3,10 +3,10 @@ use Prim.Native.Nat.{ℕ}
 use mathlib.Core.Bool.{cond}
 use mathlib.Core.List.{List}
 use lib.ListN.{length, replicate}
-use Rattle.offsets.specs.Offsets.{tableSize}
-use Rattle.located.specs.declared.Site.{Site}
-use Rattle.answers.specs.declared.SetUp.{SetUp}
-use Rattle.slots.specs.declared.Place.{Place}
+use Rattle.memory.specs.Offsets.{tableSize}
+use Rattle.whereabouts.specs.declared.Site.{Site}
+use Rattle.rules.specs.declared.answers.SetUp.{SetUp}
+use Rattle.slice_places.specs.declared.Place.{Place}
 use Rattle.table.specs.Table.{After, setUp, setUpAt}
 
 abbrev pub twinOf : List Place → List ℕ

@@ -7,9 +7,9 @@ use mathlib.Core.List.{List, [], _++_}
 use native.Mathlib.Omega.{arith}
 use lib.ListN.{length, length-append}
 use Rattle.refusals.specs.declared.Refusal.{Refusal}
-use Rattle.offsets.specs.Offsets.{tableSize, wholePlaces}
-use Rattle.lent.specs.Layout.{emptied}
-use Rattle.answers.specs.declared.SetUp.{SetUp}
+use Rattle.memory.specs.Offsets.{tableSize, wholePlaces}
+use Rattle.table_bytes.specs.Layout.{emptied}
+use Rattle.rules.specs.declared.answers.SetUp.{SetUp}
 use Rattle.rules.specs.Rules as rules
 use Rattle.table.specs.Table.{After, after, setUp}
 use Rattle.feed.specs.declared.Fed.the-variants.{Bad, Refused}

@@ -1,18 +1,18 @@
 // Reads a capture on standard input to its end and prints the listing: 256 places, no site. It keeps one block at a time, so that memory does not grow with the capture.
-use answers::NextKey;
 use feed::Fed;
 use libc::STDERR_FILENO;
 use libc::STDIN_FILENO;
 use libc::STDOUT_FILENO;
+use rules::NextKey;
 use text::Line;
 ghost use mathlib.Core.Path.{_≡_};
 ghost use lib.ListN.{length};
-ghost use Rattle.offsets.specs.Offsets.{tableSize};
-ghost use Rattle.lent.specs.Layout.{emptied};
+ghost use Rattle.memory.specs.Offsets.{tableSize};
+ghost use Rattle.table_bytes.specs.Layout.{emptied};
 ghost use Rattle.listing.specs.Input.{SomeFed};
 
 // The bytes of a table of 256 places.
-const TABLE: usize = offsets::HEAD + offsets::PLACE * 256;
+const TABLE: usize = memory::HEAD + memory::PLACE * 256;
 
 // Feeds the input, block by block, to an empty table, and counts the bad blocks. A short read is the end, or a failed read, which ends it too.
 // A proved loop has to end, and nothing says that the input does. So the loop counts its turns down, from a number that no run uses up.

@@ -22,7 +22,7 @@ use Rattle.layouts.specs.declared.bodies.Taken.the-variants as read
 use Rattle.layouts.proofs.BothWays.{read-good}
 use Rattle.messages.specs.Message.{bits, formatTaken, opened, decoded}
 use Rattle.messages.specs.Accepted.{frameOf, framed, accepted, openedAs, IsAccepted}
-use Rattle.messages.specs.Table.{acceptedSaid, earns1, earns3, earns4, acceptTable}
+use Rattle.messages.specs.Said.{acceptedSaid, earns1, earns3, earns4, acceptTable}
 use Rattle.messages.specs.declared.Frame.{Frame}
 use Rattle.messages.specs.declared.Message.{Message}
 use Rattle.messages.specs.declared.Accepted.{Accepted}

@@ -24,7 +24,7 @@ use Rattle.layouts.specs.declared.bodies.Layout.the-variants as layout
 use Rattle.layouts.specs.declared.velocity.Ground.{Ground}
 use Rattle.layouts.specs.declared.velocity.Air.{Air}
 use Rattle.messages.specs.Message.{bits, withBody, opened, decoded, headWidths}
-use Rattle.messages.specs.Table.{said, earns1, earns3, earns4, layoutIn, earns5, valuesIn, table}
+use Rattle.messages.specs.Said.{said, earns1, earns3, earns4, layoutIn, earns5, valuesIn, table}
 use Rattle.messages.specs.declared.Message.{Message}
 use Rattle.messages.specs.declared.Decoded.{Decoded}
 use Rattle.messages.specs.declared.Decoded.the-variants as decode

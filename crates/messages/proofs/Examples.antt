@@ -5,12 +5,12 @@ use mathlib.Core.Path.{_≡_, refl, sym, ap, _∙_}
 use mathlib.Core.List.{List, [], _∷_}
 use native.Mathlib.Omega.{arith}
 use Rattle.refusals.specs.Said.{Said, number, gives}
-use Rattle.division.specs.Division.{remainderFrom, reduce}
+use Rattle.parity.specs.Division.{remainderFrom, reduce}
 use Rattle.parity.specs.Parity.{remainder}
 use Rattle.layouts.specs.Said.{Values, values}
 use Rattle.layouts.specs.declared.bodies.Layout.the-variants as layout
 use Rattle.messages.specs.Message.{decoded, opened}
-use Rattle.messages.specs.Table.{said}
+use Rattle.messages.specs.Said.{said}
 
 -- 8D4840D6202CC371C32CE0576098
 abbrev identification : List ℕ

@@ -1,11 +1,11 @@
--- What the contracts of `decode` and `accept` promise in document 01's terms: whatever meets one says the table's number or values. The definitions of specs/Table
+-- What the contracts of `decode` and `accept` promise in document 01's terms: whatever meets one says the table's number or values. The definitions of specs/Said
 -- carry each case of the answer over.
 -- Assumes nothing.
 use mathlib.Core.Path.{_≡_, ap, _∙_}
 use contract.Lifetimes.{Lfts}
 use denote.Triple.Clauses.{AtExit}
 use borrow.Fn.Kinds.{Dens, resT, endedOf}
-use Rattle.messages.specs.Table.{said, acceptedSaid, table, acceptTable}
+use Rattle.messages.specs.Said.{said, acceptedSaid, table, acceptTable}
 use Rattle.messages.proofs.Acceptance.{accept-says-the-table}
 use Rattle.messages.proofs.Exactly.{says-the-table}
 use Rattle.messages.proofs.accept.Kinds as accept-kinds

@@ -1,3 +1,3 @@
 pub mod Accepted
 pub mod Message
-pub mod Table
+pub mod Said

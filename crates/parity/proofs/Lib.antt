@@ -1,2 +1,6 @@
+pub mod Entries
+pub mod Linear
 pub mod Seal
+pub mod Small
 pub mod Unique
+pub mod Xor

@@ -13,10 +13,10 @@ use lib.Bits.{bitXor, xor-self, xor-zero-r}
 use Rattle.fields.specs.Bytes.{number, bytesOf, Bytes}
 use Rattle.fields.proofs.Packing.{unpack-fit}
 use Rattle.fields.proofs.Bytes.{number-bytes, bytes-number, bytes-drop, fit-bytes, number-lt}
-use Rattle.division.specs.Division.{remainderFrom, bitsOf, stepped, xorAll}
-use Rattle.division.proofs.Linear.{linear, below-24, more-bytes, bits-bits, bits-xor, bits-length, added}
-use Rattle.division.proofs.Small.{bytes-alone}
-use Rattle.division.proofs.Xor.{xor-zero}
+use Rattle.parity.specs.Division.{remainderFrom, bitsOf, stepped, xorAll}
+use Rattle.parity.proofs.Linear.{linear, below-24, more-bytes, bits-bits, bits-xor, bits-length, added}
+use Rattle.parity.proofs.Small.{bytes-alone}
+use Rattle.parity.proofs.Xor.{xor-zero}
 use Rattle.parity.specs.Parity.{remainder, seal}
 
 -- ---- byte strings

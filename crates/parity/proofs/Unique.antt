@@ -6,9 +6,14 @@ use Rattle.parity.proofs.remainder_of.Kinds as remainder-of-kinds
 use Rattle.parity.proofs.remainder_of.Reads as remainder-of
 use Rattle.parity.proofs.seal_of.Kinds as seal-of-kinds
 use Rattle.parity.proofs.seal_of.Reads as seal-of
+use Rattle.parity.proofs.division.step.Kinds as step-kinds
+use Rattle.parity.proofs.division.step.Reads as step
 
 pub remainder-of-once : OneAnswer 1 remainder-of-kinds.ps remainder-of-kinds.r remainder-of.Post
 remainder-of-once κs args x y left left′ p q = p ∙ sym q
 
 pub seal-of-once : OneAnswer 1 seal-of-kinds.ps seal-of-kinds.r seal-of.Post
 seal-of-once κs args x y left left′ p q = p ∙ sym q
+
+pub step-once : OneAnswer 0 step-kinds.ps step-kinds.r step.Post
+step-once κs args x y left left′ p q = p ∙ sym q

@@ -1,7 +1,7 @@
 -- Parity: the remainder of bytes, and the seal that makes it 0.
 use Prim.Native.Nat.{ℕ}
 use mathlib.Core.List.{List, [], _∷_, _++_}
-use Rattle.division.specs.Division.{remainderFrom, bitsOf}
+use Rattle.parity.specs.Division.{remainderFrom, bitsOf}
 
 -- the remainder of bytes: bit 1, the top bit of byte 0, is the highest power
 unfoldable pub remainder : List ℕ → ℕ

@@ -1,4 +1,8 @@
 // The parity of a byte string of any length: its remainder on division by x^24 plus the terms of 0xFFF409.
+mod division;
+mod lookup;
+
+pub use division::step;
 ghost use mathlib.Core.Path.{_≡_};
 ghost use Prim.Native.Nat.{_%_, _^_};
 ghost use Rattle.parity.specs.Parity.{remainder, seal};
@@ -10,7 +14,7 @@ pub fn seal_of(s: &[u8]) -> u32
     let mut r: u32 = 0;
     let mut i: usize = 0;
     while i < s.len() {
-        r = division::step(r, s[i]);
+        r = crate::division::step(r, s[i]);
         i += 1;
     }
     r

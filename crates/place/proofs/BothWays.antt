@@ -11,18 +11,18 @@ use lib.Dec.{eqb}
 use lib.ListN.{length, getD}
 use borrow.Author.Tests.{le-leb, lt-ltb}
 use Rattle.fields.specs.Bytes.{Bytes}
-use Rattle.offsets.specs.Offsets.{heardAt, identificationAt, velocityAt, surfaceAt, marksAt, latitudeAt, longitudeAt, timeAt, savedTimeAt, evenAt, oddAt}
-use Rattle.located.specs.declared.Saved.{Saved}
+use Rattle.memory.specs.Offsets.{heardAt, identificationAt, velocityAt, surfaceAt, marksAt, latitudeAt, longitudeAt, timeAt, savedTimeAt, evenAt, oddAt}
+use Rattle.whereabouts.specs.declared.Saved.{Saved}
 use Rattle.track.specs.declared.Track.{Track}
 use Rattle.track.specs.Track.{noSaved}
 use Rattle.track.specs.Meaning.{meantGroups, meantPosition, meantSaved, meant}
-use Rattle.words.specs.Bytes.{numberAt, lowBytes}
-use Rattle.place.specs.Place.{savedFrom, groupsIn, positionIn, writtenIn, trackOf, bit, raised, marksOf, savedNumber, savedBytes, messageBytes, spotBytes, bodyOf, FitsSaved, FitsGroups, FitsPosition, Fits}
+use Rattle.memory.specs.Bytes.{numberAt, lowBytes}
+use Rattle.place.specs.Place.{savedFrom, groupsIn, positionIn, writtenIn, trackOf, bit, abovePole, marksOf, savedNumber, savedBytes, messageBytes, spotBytes, bodyOf, FitsSaved, FitsGroups, FitsPosition, Fits}
 use Rattle.keys.specs.Keys.{isKey}
-use Rattle.held.specs.Ranges.{inRange, held}
-use Rattle.words.proofs.Numbers.{read-back, number-lt}
+use Rattle.memory.specs.Ranges.{inRange, held}
+use Rattle.memory.proofs.Numbers.{read-back, number-lt}
 use Rattle.place.proofs.Meaning.{groups-meant-fits, saved-meant-fits, position-meant-fits}
-use Rattle.place.proofs.Latitudes.{lowered-fits, raised-small, lowered-raised}
+use Rattle.place.proofs.Latitudes.{lowered-fits, above-pole-small, lowered-above}
 
 -- ---- the numbers of a written body
 
@@ -47,9 +47,9 @@ module _ (t : Track) where
   unfolding bodyOf messageBytes spotBytes savedBytes numberAt lowBytes
   at-marks = read-back 4 (marksOf (t .groups) (t .position .known)) [] []
 
-  at-latitude : numberAt 4 (bodyOf t) latitudeAt ≡ raised (t .position .spot .latitude) % 2 ^ 32
+  at-latitude : numberAt 4 (bodyOf t) latitudeAt ≡ abovePole (t .position .spot .latitude) % 2 ^ 32
   unfolding bodyOf messageBytes spotBytes savedBytes numberAt lowBytes
-  at-latitude = read-back 4 (raised (t .position .spot .latitude)) [] []
+  at-latitude = read-back 4 (abovePole (t .position .spot .latitude)) [] []
 
   at-longitude : numberAt 4 (bodyOf t) longitudeAt ≡ t .position .spot .longitude % 2 ^ 32
   unfolding bodyOf messageBytes spotBytes savedBytes numberAt lowBytes
@@ -120,7 +120,7 @@ module _ (t : Track) (f : Fits t) where
   position-back =
       let g = f .groups in
       let e = marks-parts (t .groups .pressure) (t .groups .height) (t .position .known) (g .pressure) (g .height) in
-      rw (at-marks t, at-latitude t, at-longitude t, at-time t, e .1 .1, eqb-bit (t .position .known), lowered-raised (t .position .spot .latitude) (f .position .latitude), mod-eq-of-lt (f .position .longitude), mod-eq-of-lt (f .position .time))
+      rw (at-marks t, at-latitude t, at-longitude t, at-time t, e .1 .1, eqb-bit (t .position .known), lowered-above (t .position .spot .latitude) (f .position .latitude), mod-eq-of-lt (f .position .longitude), mod-eq-of-lt (f .position .time))
 
   written-back : writtenIn (bodyOf t) ≡ t
   unfolding writtenIn
@@ -143,7 +143,7 @@ module _ (t : Track) (f : Fits t) where
   pub written-in-range : (key : ℕ) → isKey key ≡ true → inRange key (bodyOf t) ≡ true
   unfolding inRange
   written-in-range key k =
-      rw (k, at-latitude t, le-leb (raised (t .position .spot .latitude) % 2 ^ 32) 2147483648 (raised-small (t .position .spot .latitude) (f .position .latitude)))
+      rw (k, at-latitude t, le-leb (abovePole (t .position .spot .latitude) % 2 ^ 32) 2147483648 (above-pole-small (t .position .spot .latitude) (f .position .latitude)))
 
   pub written-held : (key : ℕ) → isKey key ≡ true → held (t .heard) key (bodyOf t) ≡ true
   unfolding held

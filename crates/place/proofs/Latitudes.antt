@@ -12,12 +12,12 @@ use borrow.Author.Tests.{le-leb, leb-true}
 use Rattle.signs.specs.Raised.{raised as turnUp}
 use Rattle.positions.specs.Positions.{poleToPole}
 use Rattle.positions.proofs.Shift.{sub-pos, sub-neg, order}
-use Rattle.place.specs.Place.{raised, lowered}
+use Rattle.place.specs.Place.{abovePole, lowered}
 
-pub raise-is : (z : ℤ) → mag z < 2147483648 → turnUp z + 1073741824 ≡ raised z
-unfolding raised
-raise-is (pos a) h = omega arith
-raise-is (negsuc a) h = omega arith
+pub above-pole-is : (z : ℤ) → mag z < 2147483648 → turnUp z + 1073741824 ≡ abovePole z
+unfolding abovePole
+above-pole-is (pos a) h = omega arith
+above-pole-is (negsuc a) h = omega arith
 
 pub lower-small : (n : ℕ) → n ≤ 2147483648 → mag (subℕ n 1073741824) < 2147483648
 lower-small n h =
@@ -39,13 +39,13 @@ unfolding lowered
 lowered-fits n = pole-to-pole (min n 2147483648) (min-le-right n 2147483648)
 
 -- a latitude from pole to pole: its number is in range, and reads as the latitude
-pub raised-small : (z : ℤ) → poleToPole z ≡ true → raised z % 4294967296 ≤ 2147483648
-unfolding raised
-raised-small (pos a) e = omega (arith, leb-true a 1073741824 e)
-raised-small (negsuc a) e = omega (arith, leb-true (suc a) 1073741824 e)
+pub above-pole-small : (z : ℤ) → poleToPole z ≡ true → abovePole z % 4294967296 ≤ 2147483648
+unfolding abovePole
+above-pole-small (pos a) e = omega (arith, leb-true a 1073741824 e)
+above-pole-small (negsuc a) e = omega (arith, leb-true (suc a) 1073741824 e)
 
-down : (z : ℤ) → poleToPole z ≡ true → subℕ (raised z % 4294967296) 1073741824 ≡ z
-unfolding raised
+down : (z : ℤ) → poleToPole z ≡ true → subℕ (abovePole z % 4294967296) 1073741824 ≡ z
+unfolding abovePole
 down (pos a) e =
     let h : a ≤ 1073741824 = leb-true a 1073741824 e in
     sub-pos ((a + 5368709120) % 4294967296) 1073741824 (omega arith)
@@ -55,6 +55,6 @@ down (negsuc a) e =
     sub-neg ((5368709120 - suc a) % 4294967296) 1073741824 (omega arith)
     ∙ ap negsuc {x = 1073741824 - suc ((5368709120 - suc a) % 4294967296)} {y = a} (omega arith)
 
-pub lowered-raised : (z : ℤ) → poleToPole z ≡ true → lowered (raised z % 4294967296) ≡ z
+pub lowered-above : (z : ℤ) → poleToPole z ≡ true → lowered (abovePole z % 4294967296) ≡ z
 unfolding lowered
-lowered-raised z e = ap (λ (n : ℕ). subℕ n 1073741824) (min-eq-left (raised-small z e)) ∙ down z e
+lowered-above z e = ap (λ (n : ℕ). subℕ n 1073741824) (min-eq-left (above-pole-small z e)) ∙ down z e

@@ -7,9 +7,9 @@ use mathlib.Core.List.{List}
 use native.Mathlib.Omega.{arith}
 use Rattle.fields.proofs.Bools.{by-test}
 use Rattle.positions.specs.Positions.{poleToPole}
-use Rattle.located.specs.declared.Position.{Position}
-use Rattle.located.specs.declared.Saved.{Saved}
-use Rattle.located.specs.Located.{noPosition}
+use Rattle.whereabouts.specs.declared.Position.{Position}
+use Rattle.whereabouts.specs.declared.Saved.{Saved}
+use Rattle.whereabouts.specs.Located.{noPosition}
 use Rattle.track.specs.declared.Groups.{Groups}
 use Rattle.track.specs.Track.{noSaved}
 use Rattle.track.specs.Meaning.{givesIdentification, givesVelocity, givesSurface, meantGroups, meantPosition, meantSaved, NothingForeign}

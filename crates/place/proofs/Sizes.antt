@@ -2,12 +2,12 @@
 -- Assumes nothing.
 use mathlib.Core.Path.{_≡_, refl}
 use lib.ListN.{length}
-use Rattle.offsets.specs.Offsets.{messagesSize, spotSize, savedSize, bodySize}
+use Rattle.memory.specs.Offsets.{messagesSize, spotSize, savedSize, bodySize}
 use Rattle.track.specs.declared.Groups.{Groups}
-use Rattle.located.specs.declared.Position.{Position}
-use Rattle.located.specs.declared.Saved.{Saved}
+use Rattle.whereabouts.specs.declared.Position.{Position}
+use Rattle.whereabouts.specs.declared.Saved.{Saved}
 use Rattle.track.specs.declared.Track.{Track}
-use Rattle.words.specs.Bytes.{lowBytes}
+use Rattle.memory.specs.Bytes.{lowBytes}
 use Rattle.place.specs.Place.{savedBytes, messageBytes, spotBytes, bodyOf}
 
 pub saved-length : (v : Saved) → length (savedBytes v) ≡ savedSize

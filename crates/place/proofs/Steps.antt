@@ -55,15 +55,15 @@ use Rattle.layouts.proofs.BothWays.{fitting, me-lt}
 use Rattle.messages.specs.declared.Decoded.{Decoded}
 use Rattle.messages.specs.declared.Decoded.the-variants as decode
 use Rattle.track.specs.declared.Groups.{Groups}
-use Rattle.located.specs.declared.Placed.{Placed}
-use Rattle.located.specs.declared.Placed.the-variants as placed
-use Rattle.located.specs.declared.Position.{Position}
-use Rattle.located.specs.declared.Saved.{Saved}
-use Rattle.located.specs.declared.Site.{Site}
+use Rattle.whereabouts.specs.declared.Placed.{Placed}
+use Rattle.whereabouts.specs.declared.Placed.the-variants as placed
+use Rattle.whereabouts.specs.declared.Position.{Position}
+use Rattle.whereabouts.specs.declared.Saved.{Saved}
+use Rattle.whereabouts.specs.declared.Site.{Site}
 use Rattle.track.specs.declared.Stepped.{Stepped}
 use Rattle.track.specs.declared.Track.{Track}
 use Rattle.track.specs.Groups.{high, atPressure, atHeight}
-use Rattle.located.specs.Located.{
+use Rattle.whereabouts.specs.Located.{
   isWithin,
   isFresh,
   foundAt,

@@ -8,8 +8,8 @@ use Rattle.place.proofs.read.latitude_of.Kinds as latitude-of-kinds
 use Rattle.place.proofs.read.latitude_of.Reads as latitude-of
 use Rattle.place.proofs.read.load.Kinds as load-kinds
 use Rattle.place.proofs.read.load.Reads as load
-use Rattle.place.proofs.write.raise.Kinds as raise-kinds
-use Rattle.place.proofs.write.raise.Reads as raise
+use Rattle.place.proofs.write.above_pole.Kinds as above-pole-kinds
+use Rattle.place.proofs.write.above_pole.Reads as above-pole
 use Rattle.place.proofs.write.store.Kinds as store-kinds
 use Rattle.place.proofs.write.store.Reads as store
 
@@ -19,8 +19,8 @@ latitude-of-once κs args x y left left′ p q = p ∙ sym q
 pub load-once : OneAnswer 1 load-kinds.ps load-kinds.r load.Post
 load-once κs args x y left left′ p q = p ∙ sym q
 
-pub raise-once : OneAnswer 0 raise-kinds.ps raise-kinds.r raise.Post
-raise-once κs args x y left left′ p q = p ∙ sym q
+pub above-pole-once : OneAnswer 0 above-pole-kinds.ps above-pole-kinds.r above-pole.Post
+above-pole-once κs args x y left left′ p q = p ∙ sym q
 
 pub store-once : OneOutcome 1 store-kinds.ps store-kinds.r (List ℕ) (λ κs x left. left .0 .now) store.Post
 store-once κs args x y left left′ p q = p ∙ sym q

@@ -6,15 +6,15 @@ use mathlib.Core.List.{List, [], _∷_, _++_}
 use lib.Dec.{eqb}
 use lib.IntN.{ℤ, pos, negsuc, subℕ}
 use lib.ListN.{length, getD}
-use Rattle.offsets.specs.Offsets.{heardAt, identificationAt, velocityAt, surfaceAt, marksAt, latitudeAt, longitudeAt, timeAt, savedTimeAt, evenAt, oddAt}
+use Rattle.memory.specs.Offsets.{heardAt, identificationAt, velocityAt, surfaceAt, marksAt, latitudeAt, longitudeAt, timeAt, savedTimeAt, evenAt, oddAt}
 use Rattle.positions.specs.Positions.{poleToPole}
 use Rattle.track.specs.declared.Groups.{Groups}
-use Rattle.located.specs.declared.Position.{Position}
-use Rattle.located.specs.declared.Saved.{Saved}
+use Rattle.whereabouts.specs.declared.Position.{Position}
+use Rattle.whereabouts.specs.declared.Saved.{Saved}
 use Rattle.track.specs.declared.Track.{Track}
 use Rattle.track.specs.Track.{noSaved}
 use Rattle.track.specs.Meaning.{meantGroups, meantPosition, meantSaved, meant}
-use Rattle.words.specs.Bytes.{numberAt, lowBytes}
+use Rattle.memory.specs.Bytes.{numberAt, lowBytes}
 
 -- ---- the track of a body
 
@@ -72,9 +72,9 @@ bit true = 1
 bit false = 0
 
 -- a latitude 2^32 + 2^30 up; its 32 low bits are the latitude 2^30 up
-unfoldable pub raised : ℤ → ℕ
-raised (pos a) = a + 5368709120
-raised (negsuc a) = 5368709120 - suc a
+unfoldable pub abovePole : ℤ → ℕ
+abovePole (pos a) = a + 5368709120
+abovePole (negsuc a) = 5368709120 - suc a
 
 unfoldable pub marksOf : Groups → Bool → ℕ
 marksOf g known = g .pressure % 4096 + g .height % 4096 * 4096 + bit known * 16777216
@@ -89,7 +89,7 @@ unfoldable pub messageBytes : Groups → List ℕ
 messageBytes g = lowBytes 7 (g .identification) ++ (lowBytes 7 (g .velocity) ++ lowBytes 7 (g .surface))
 
 unfoldable pub spotBytes : Position → List ℕ
-spotBytes p = lowBytes 4 (raised (p .spot .latitude)) ++ (lowBytes 4 (p .spot .longitude) ++ lowBytes 8 (p .time))
+spotBytes p = lowBytes 4 (abovePole (p .spot .latitude)) ++ (lowBytes 4 (p .spot .longitude) ++ lowBytes 8 (p .time))
 
 -- its parts in the order of their offsets
 unfoldable pub bodyOf : Track → List ℕ

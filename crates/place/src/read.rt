@@ -1,17 +1,17 @@
 // The track of a body, part by part.
 use counts::LatitudeCount;
 use counts::LongitudeCount;
-use located::Position;
-use located::Saved;
 use positions::Counts;
 use positions::Spot;
 use track::Groups;
 use track::Track;
+use whereabouts::Position;
+use whereabouts::Saved;
 ghost use mathlib.Core.Path.{_≡_};
 ghost use Prim.Native.Nat.{_+_, _≤_, min};
 ghost use lib.ListN.{length};
 ghost use lib.IntN.{subℕ};
-ghost use Rattle.offsets.specs.Offsets.{savedSize, bodySize};
+ghost use Rattle.memory.specs.Offsets.{savedSize, bodySize};
 ghost use Rattle.place.specs.Place.{lowered, savedFrom, savedAt, groupsIn, positionIn, writtenIn, trackOf};
 
 // A latitude's number, at most that of the north pole.
@@ -52,18 +52,21 @@ fn saved_at(p: &[u8], at: usize) -> Saved
     requires { ⌜ at + savedSize ≤ length (now p) ⌝ }
     ensures { λ r. ⌜ r ≡ savedAt (now (p .entry)) at ⌝ }
 {
-    saved_from(words::get5(p, at), words::get8(p, at + offsets::SAVED_TIME))
+    saved_from(
+        memory::get5(p, at),
+        memory::get8(p, at + memory::SAVED_TIME),
+    )
 }
 
 fn groups_in(p: &[u8]) -> Groups
     requires { ⌜ length (now p) ≡ bodySize ⌝ }
     ensures { λ r. ⌜ r ≡ groupsIn (now (p .entry)) ⌝ }
 {
-    let marks = words::get4(p, offsets::MARKS);
+    let marks = memory::get4(p, memory::MARKS);
     Groups {
-        identification: words::get7(p, offsets::IDENTIFICATION),
-        velocity: words::get7(p, offsets::VELOCITY),
-        surface: words::get7(p, offsets::SURFACE),
+        identification: memory::get7(p, memory::IDENTIFICATION),
+        velocity: memory::get7(p, memory::VELOCITY),
+        surface: memory::get7(p, memory::SURFACE),
         pressure: (marks % 4096) as u16,
         height: (marks / 4096 % 4096) as u16,
     }
@@ -73,15 +76,15 @@ fn position_in(p: &[u8]) -> Position
     requires { ⌜ length (now p) ≡ bodySize ⌝ }
     ensures { λ r. ⌜ r ≡ positionIn (now (p .entry)) ⌝ }
 {
-    let marks = words::get4(p, offsets::MARKS);
-    let latitude = latitude_of(words::get4(p, offsets::LATITUDE));
+    let marks = memory::get4(p, memory::MARKS);
+    let latitude = latitude_of(memory::get4(p, memory::LATITUDE));
     Position {
         known: marks / 16777216 % 2 == 1,
         spot: Spot {
             latitude: latitude,
-            longitude: words::get4(p, offsets::LONGITUDE),
+            longitude: memory::get4(p, memory::LONGITUDE),
         },
-        time: words::get8(p, offsets::TIME),
+        time: memory::get8(p, memory::TIME),
     }
 }
 
@@ -89,10 +92,10 @@ fn written_in(p: &[u8]) -> Track
     requires { ⌜ length (now p) ≡ bodySize ⌝ }
     ensures { λ r. ⌜ r ≡ writtenIn (now (p .entry)) ⌝ }
 {
-    let even = saved_at(p, offsets::EVEN);
-    let odd = saved_at(p, offsets::ODD);
+    let even = saved_at(p, memory::EVEN);
+    let odd = saved_at(p, memory::ODD);
     Track {
-        heard: words::get8(p, offsets::HEARD),
+        heard: memory::get8(p, memory::HEARD),
         groups: groups_in(p),
         position: position_in(p),
         saved: [even, odd],

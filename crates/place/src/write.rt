@@ -1,14 +1,14 @@
 // The body of a track, part by part. What does not fit its bits is cut.
-use located::Position;
-use located::Saved;
 use track::Groups;
 use track::Track;
+use whereabouts::Position;
+use whereabouts::Saved;
 ghost use mathlib.Core.Path.{_≡_};
 ghost use Prim.Native.Nat.{_+_, _≤_};
 ghost use lib.ListN.{length};
-ghost use Rattle.offsets.specs.Offsets.{messagesSize, spotSize, savedSize, bodySize};
-ghost use Rattle.words.specs.Bytes.{put};
-ghost use Rattle.place.specs.Place.{bit, raised, marksOf, savedNumber, savedBytes, messageBytes, spotBytes, bodyOf};
+ghost use Rattle.memory.specs.Offsets.{messagesSize, spotSize, savedSize, bodySize};
+ghost use Rattle.memory.specs.Bytes.{put};
+ghost use Rattle.place.specs.Place.{bit, abovePole, marksOf, savedNumber, savedBytes, messageBytes, spotBytes, bodyOf};
 
 fn flag(b: bool) -> u64
     ensures { λ r. ⌜ (r ≡ bit b) × (r ≤ 1) ⌝ }
@@ -16,9 +16,9 @@ fn flag(b: bool) -> u64
     if b { 1 } else { 0 }
 }
 
-// A latitude, 2^32 + 2^30 up, so that none is below 0.
-pub fn raise(latitude: i32) -> u64
-    ensures { λ r. ⌜ r ≡ raised latitude ⌝ }
+// How far a latitude lies above the south pole, 2^32 up, so that no number is below 0.
+pub fn above_pole(latitude: i32) -> u64
+    ensures { λ r. ⌜ r ≡ abovePole latitude ⌝ }
 {
     signs::raise(latitude) + 1073741824
 }
@@ -41,26 +41,26 @@ fn put_saved(s: &mut [u8], at: usize, v: Saved)
     requires { ⌜ at + savedSize ≤ length (now s) ⌝ }
     ensures { λ _. ⌜ now (s .exit) ≡ put (now (s .entry)) at (savedBytes v) ⌝ }
 {
-    words::put5(s, at, saved_number(v));
-    words::put8(s, at + offsets::SAVED_TIME, v.time);
+    memory::put5(s, at, saved_number(v));
+    memory::put8(s, at + memory::SAVED_TIME, v.time);
 }
 
 fn put_messages(s: &mut [u8], at: usize, g: Groups)
     requires { ⌜ at + messagesSize ≤ length (now s) ⌝ }
     ensures { λ _. ⌜ now (s .exit) ≡ put (now (s .entry)) at (messageBytes g) ⌝ }
 {
-    words::put7(s, at, g.identification);
-    words::put7(s, at + offsets::TO_VELOCITY, g.velocity);
-    words::put7(s, at + offsets::TO_SURFACE, g.surface);
+    memory::put7(s, at, g.identification);
+    memory::put7(s, at + memory::TO_VELOCITY, g.velocity);
+    memory::put7(s, at + memory::TO_SURFACE, g.surface);
 }
 
 fn put_spot(s: &mut [u8], at: usize, p: Position)
     requires { ⌜ at + spotSize ≤ length (now s) ⌝ }
     ensures { λ _. ⌜ now (s .exit) ≡ put (now (s .entry)) at (spotBytes p) ⌝ }
 {
-    words::put4(s, at, (raise(p.spot.latitude) % 4294967296) as u32);
-    words::put4(s, at + offsets::TO_LONGITUDE, p.spot.longitude);
-    words::put8(s, at + offsets::TO_TIME, p.time);
+    memory::put4(s, at, (above_pole(p.spot.latitude) % 4294967296) as u32);
+    memory::put4(s, at + memory::TO_LONGITUDE, p.spot.longitude);
+    memory::put8(s, at + memory::TO_TIME, p.time);
 }
 
 // A track's body at an offset.
@@ -73,10 +73,10 @@ pub fn store(s: &mut [u8], at: usize, t: Track)
     let odd = both[1];
     let g = t.groups;
     let p = t.position;
-    words::put8(s, at, t.heard);
-    put_messages(s, at + offsets::IDENTIFICATION, g);
-    words::put4(s, at + offsets::MARKS, marks_of(g, p.known));
-    put_spot(s, at + offsets::LATITUDE, p);
-    put_saved(s, at + offsets::EVEN, even);
-    put_saved(s, at + offsets::ODD, odd);
+    memory::put8(s, at, t.heard);
+    put_messages(s, at + memory::IDENTIFICATION, g);
+    memory::put4(s, at + memory::MARKS, marks_of(g, p.known));
+    put_spot(s, at + memory::LATITUDE, p);
+    put_saved(s, at + memory::EVEN, even);
+    put_saved(s, at + memory::ODD, odd);
 }

@@ -20,7 +20,7 @@ use Rattle.positions.specs.Positions.{inside, pairZone, inZone, less360,
 use Rattle.fields.proofs.Bools.{not-each}
 use Rattle.positions.proofs.Shift.{order, abs-is}
 use Rattle.positions.proofs.Naturals.{pair-zone-is, less-high, less-low}
-use Rattle.positions.proofs.Table.{passed, reached}
+use Rattle.positions.proofs.Latitudes.{passed, reached}
 
 -- the positions x / (60 * 131072) and y / (59 * 131072) of 360 degrees are at most half of one of 60 * 59 zones apart
 abbrev Close : ℕ → ℕ → Type 0

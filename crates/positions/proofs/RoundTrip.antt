@@ -19,7 +19,7 @@ use Rattle.positions.specs.Whole.{modulo}
 use Rattle.positions.specs.Zones.{zoneCount}
 use Rattle.positions.specs.Positions.{latitudeZones, longitudeZones, allRound, whole, count, spotZones, countsOf, poleToPole, inside, pairLatitude, pairLongitude, pairNL, pairSpot, pairFound, fit, paired}
 use Rattle.positions.specs.Rounded.{roundedNL, roundedSpot, roundTrip}
-use Rattle.positions.proofs.Table.{count-range}
+use Rattle.positions.proofs.Latitudes.{count-range}
 use Rattle.positions.proofs.Trip.{latitude-again, longitude-again, whole-inside}
 
 -- an airborne turn is all round

@@ -10,14 +10,14 @@ use lib.Dec.{eqb, ltb}
 use borrow.Author.Tests.{ltb-true, eqb-true}
 use Rattle.fields.proofs.Bools.{and-left, and-right}
 use Rattle.keys.specs.Keys.{isKey}
-use Rattle.held.specs.Ranges.{inRange}
+use Rattle.memory.specs.Ranges.{inRange}
 use Rattle.track.specs.declared.Track.{Track}
 use Rattle.rules.specs.Search.{lowest}
 use Rattle.rules.specs.Form.{isHeld, holds}
 use Rattle.rules.specs.View.{trackIn, viewAt}
 use Rattle.rules.proofs.Search.{lowest-passes, none-passes}
-use Rattle.offsets.specs.Offsets.{placesIn}
-use Rattle.lent.specs.Layout.{cellOf, clockOf, keyAt, bodyAt}
+use Rattle.memory.specs.Offsets.{placesIn}
+use Rattle.table_bytes.specs.Layout.{cellOf, clockOf, keyAt, bodyAt}
 use Rattle.table.specs.Bytes.{bytes}
 use Rattle.table.specs.View.{view, HeldKey}
 

@@ -12,9 +12,9 @@ use Rattle.keys.specs.Keys.{endOfKeys}
 use Rattle.keys.proofs.Laws.{before-end, never-zero}
 use Rattle.track.specs.declared.Track.{Track}
 use Rattle.text.specs.Lines.{rowText}
-use Rattle.offsets.specs.Offsets.{wholePlaces}
-use Rattle.answers.specs.declared.NextKey.{NextKey}
-use Rattle.answers.specs.declared.NextKey.the-variants as next
+use Rattle.memory.specs.Offsets.{wholePlaces}
+use Rattle.rules.specs.declared.answers.NextKey.{NextKey}
+use Rattle.rules.specs.declared.answers.NextKey.the-variants as next
 use Rattle.rules.proofs.KeyOrder.{next-follows}
 use Rattle.table.specs.Bytes.{bytes}
 use Rattle.table.specs.Table.{nextAbove}

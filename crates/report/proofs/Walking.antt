@@ -10,9 +10,9 @@ use Rattle.keys.specs.Keys.{endOfKeys}
 use Rattle.keys.proofs.Laws.{before-end}
 use Rattle.text.specs.Lines.{rowText, textIn}
 use Rattle.text.proofs.Fits.{line-text}
-use Rattle.offsets.specs.Offsets.{wholePlaces}
-use Rattle.answers.specs.declared.NextKey.{NextKey}
-use Rattle.answers.specs.declared.NextKey.the-variants as next
+use Rattle.memory.specs.Offsets.{wholePlaces}
+use Rattle.rules.specs.declared.answers.NextKey.{NextKey}
+use Rattle.rules.specs.declared.answers.NextKey.the-variants as next
 use Rattle.rules.proofs.KeyOrder.{next-follows}
 use Rattle.table.specs.Bytes.{bytes}
 use Rattle.table.specs.Table.{nextAbove}

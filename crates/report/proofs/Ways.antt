@@ -16,13 +16,13 @@ use Rattle.place.specs.Place.{trackOf}
 use Rattle.text.specs.declared.Line.{Line}
 use Rattle.text.specs.declared.Row.{Row}
 use Rattle.text.specs.Lines.{headerText, rowText, lineOf}
-use Rattle.offsets.specs.Offsets.{wholePlaces, placesIn}
-use Rattle.lent.specs.Layout.{clockOf, bodyAt}
-use Rattle.answers.specs.declared.Clock.{Clock}
-use Rattle.answers.specs.declared.Clock.the-variants as clock
-use Rattle.answers.specs.declared.Holding.{Holding}
-use Rattle.answers.specs.declared.Holding.the-variants as holding
-use Rattle.answers.specs.declared.Looked.{Looked}
+use Rattle.memory.specs.Offsets.{wholePlaces, placesIn}
+use Rattle.table_bytes.specs.Layout.{clockOf, bodyAt}
+use Rattle.rules.specs.declared.answers.Clock.{Clock}
+use Rattle.rules.specs.declared.answers.Clock.the-variants as clock
+use Rattle.rules.specs.declared.answers.Holding.{Holding}
+use Rattle.rules.specs.declared.answers.Holding.the-variants as holding
+use Rattle.rules.specs.declared.answers.Looked.{Looked}
 use Rattle.rules.specs.Rules.{placeOf}
 use Rattle.rules.specs.Rules as rules
 use Rattle.rules.specs.View.{trackIn, viewAt}

@@ -10,14 +10,14 @@ use Rattle.refusals.specs.declared.Refusal.the-variants.{Places}
 use Rattle.readings.specs.declared.altitude.Altitude.{Altitude}
 use Rattle.readings.specs.declared.altitude.Altitude.the-variants as altitude
 use Rattle.readings.specs.Altitude.{altitudeOf}
-use Rattle.located.specs.declared.Position.{Position}
+use Rattle.whereabouts.specs.declared.Position.{Position}
 use Rattle.track.specs.declared.Track.{Track}
 use Rattle.text.specs.declared.Figure.{Figure}
 use Rattle.text.specs.declared.Figure.the-variants.{Unknown, Known}
 use Rattle.text.specs.declared.Row.{Row}
 use Rattle.text.specs.Lines.{headerText, rowText, lineOf}
-use Rattle.offsets.specs.Offsets.{wholePlaces}
-use Rattle.lent.specs.Layout.{clockOf}
+use Rattle.memory.specs.Offsets.{wholePlaces}
+use Rattle.table_bytes.specs.Layout.{clockOf}
 use Rattle.table.specs.View.{view}
 use Rattle.report.specs.declared.Printed.{Printed}
 use Rattle.report.specs.declared.Printed.the-variants.{Text, Nothing, Refused}

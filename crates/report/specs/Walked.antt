@@ -4,8 +4,8 @@ use mathlib.Core.Path.{_≡_}
 use mathlib.Core.List.{List, [], _++_}
 use Rattle.keys.specs.Keys.{endOfKeys}
 use Rattle.text.specs.Lines.{textIn}
-use Rattle.answers.specs.declared.NextKey.{NextKey}
-use Rattle.answers.specs.declared.NextKey.the-variants.{Key, End, Refused}
+use Rattle.rules.specs.declared.answers.NextKey.{NextKey}
+use Rattle.rules.specs.declared.answers.NextKey.the-variants.{Key, End, Refused}
 use Rattle.table.specs.Table.{nextAbove}
 use Rattle.report.specs.Listing.{lineIn}
 

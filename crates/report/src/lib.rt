@@ -1,10 +1,10 @@
 // The listing of a lent table, line by line: the header with its counts, and the line of a key. A caller walks the keys by `table::next`.
 mod rows;
 
-use answers::Clock;
-use answers::Holding;
-use answers::NextKey;
 use refusals::Refusal;
+use rules::Clock;
+use rules::Holding;
+use rules::NextKey;
 use text::Line;
 ghost use mathlib.Core.Path.{_≡_};
 ghost use mathlib.Core.Bool.{true};
@@ -12,7 +12,7 @@ ghost use mathlib.Core.List.{[]};
 ghost use lib.ListN.{length};
 ghost use Rattle.keys.specs.Keys.{endOfKeys};
 ghost use Rattle.text.specs.Lines.{lineOf};
-ghost use Rattle.offsets.specs.Offsets.{wholePlaces};
+ghost use Rattle.memory.specs.Offsets.{wholePlaces};
 ghost use Rattle.table.specs.Table.{nextAbove};
 ghost use Rattle.report.specs.Listing.{counted, headerIn, lineIn};
 ghost use Rattle.report.specs.Listing.{without as withoutLine};

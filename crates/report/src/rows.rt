@@ -1,9 +1,9 @@
 // What a line of the listing says of a track.
-use located::Position;
 use readings::Altitude;
 use text::Figure;
 use text::Row;
 use track::Track;
+use whereabouts::Position;
 ghost use mathlib.Core.Path.{_≡_};
 ghost use Rattle.report.specs.Listing.{latitudeIn, longitudeIn, rowOf};
 ghost use Rattle.report.specs.Listing.{feet as feetOf};

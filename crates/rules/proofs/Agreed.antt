@@ -16,14 +16,14 @@ use Rattle.messages.specs.declared.Message.{Message}
 use Rattle.messages.specs.declared.Decoded.{Decoded}
 use Rattle.messages.specs.declared.Decoded.the-variants as decode
 use Rattle.messages.specs.Message.{decoded, keyOf}
-use Rattle.located.specs.declared.Site.{Site}
+use Rattle.whereabouts.specs.declared.Site.{Site}
 use Rattle.track.specs.declared.Track.{Track}
 use Rattle.track.specs.Track.{newTrack, stepped}
 use Rattle.place.specs.Place.{Fits}
 use Rattle.place.proofs.Steps.{new-fits, stepped-fits}
-use Rattle.answers.specs.Keys.{keyOrEnd}
-use Rattle.answers.specs.declared.Looked.{Looked}
-use Rattle.answers.specs.declared.Holding.the-variants as holding
+use Rattle.rules.specs.Keys.{keyOrEnd}
+use Rattle.rules.specs.declared.answers.Looked.{Looked}
+use Rattle.rules.specs.declared.answers.Holding.the-variants as holding
 use Rattle.rules.specs.Search.{lowest, better, smallest}
 use Rattle.rules.specs.Form.{Cell, taken, inDate, isHeld, holds, Form, East, SiteFits, Lawful}
 use Rattle.rules.specs.Rules.{After, setUp, placeOf, freePlace, placed, delivered, received, lookedUp, leastAbove, nextAbove}

@@ -16,10 +16,10 @@ use Rattle.messages.specs.declared.Message.{Message}
 use Rattle.messages.specs.declared.Decoded.{Decoded}
 use Rattle.messages.specs.declared.Decoded.the-variants as decode
 use Rattle.messages.specs.Message.{decoded, keyOf}
-use Rattle.messages.specs.Table.{said, earns1, earns3, earns4, earns5, valuesIn, table}
+use Rattle.messages.specs.Said.{said, earns1, earns3, earns4, earns5, valuesIn, table}
 use Rattle.messages.proofs.Exactly as decoder
 use Rattle.messages.proofs.Keys.{decoded-key}
-use Rattle.located.specs.declared.Site.{Site}
+use Rattle.whereabouts.specs.declared.Site.{Site}
 use Rattle.track.specs.declared.Stepped.{Stepped}
 use Rattle.track.specs.declared.Track.{Track}
 use Rattle.track.specs.Track.{stepped}

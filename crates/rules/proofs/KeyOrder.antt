@@ -10,11 +10,11 @@ use lib.Dec.{eqb, ltb}
 use borrow.Author.Tests.{ltb-true, ltb-false, eqb-true, eqb-false, eq-eqb}
 use Rattle.fields.proofs.Bools.{and-left, and-right, both}
 use Rattle.rules.specs.Form.{Cell, isHeld, holds, Form}
-use Rattle.answers.specs.declared.NextKey.the-variants as next
+use Rattle.rules.specs.declared.answers.NextKey.the-variants as next
 use Rattle.rules.specs.View.{HeldKey, Follows}
 use Rattle.rules.specs.Search.{better, smallest}
 use Rattle.rules.specs.Rules.{leastAbove, nextAbove}
-use Rattle.answers.specs.Keys.{keyOrEnd}
+use Rattle.rules.specs.Keys.{keyOrEnd}
 
 -- ---- the smallest key of things that have one, and are held or not
 

@@ -20,14 +20,14 @@ use Rattle.messages.specs.declared.Message.{Message}
 use Rattle.messages.specs.declared.Decoded.{Decoded}
 use Rattle.messages.specs.declared.Decoded.the-variants as decode
 use Rattle.messages.specs.Message.{decoded, keyOf}
-use Rattle.located.specs.declared.Site.{Site}
-use Rattle.located.specs.Located.{noSite}
+use Rattle.whereabouts.specs.declared.Site.{Site}
+use Rattle.whereabouts.specs.Located.{noSite}
 use Rattle.track.specs.declared.Track.{Track}
 use Rattle.track.specs.Track.{newTrack, stepBody}
 use Rattle.rules.specs.Search.{lowest}
-use Rattle.answers.specs.declared.SetUp.{SetUp}
-use Rattle.answers.specs.declared.SetUp.the-variants as setting
-use Rattle.answers.specs.declared.Holding.the-variants as holding
+use Rattle.rules.specs.declared.answers.SetUp.{SetUp}
+use Rattle.rules.specs.declared.answers.SetUp.the-variants as setting
+use Rattle.rules.specs.declared.answers.Holding.the-variants as holding
 use Rattle.rules.specs.Form.{isHeld, holds, Form, East, SiteFits, Lawful}
 use Rattle.rules.specs.Rules.{After, setUp, placeOf, delivered, received, lookedUp}
 use Rattle.rules.specs.View.{trackIn, viewAt, view, lookedAs, laterAt, orNew, Once, AllFit, Table, Fresh, AllTaken, NoRoom, Early, Undecoded}

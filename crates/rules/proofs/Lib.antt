@@ -1,9 +1,10 @@
+pub mod Agreed
+pub mod Delivered
+pub mod Exactly
+pub mod KeyOrder
+pub mod Laws
+pub mod Says
 pub mod Search
 pub mod Steps
-pub mod Delivered
+pub mod Unique
 pub mod Ways
-pub mod Laws
-pub mod Exactly
-pub mod Says
-pub mod KeyOrder
-pub mod Agreed

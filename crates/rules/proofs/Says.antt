@@ -7,14 +7,14 @@ use mathlib.Core.Path.{_≡_, refl, ap, _∙_}
 use lib.Dec.{eqb, ltb}
 use Rattle.refusals.specs.declared.Refusal.the-variants.{Places, Field}
 use Rattle.refusals.specs.Said.{number, gives}
-use Rattle.located.specs.declared.Site.{Site}
+use Rattle.whereabouts.specs.declared.Site.{Site}
 use Rattle.track.specs.declared.Track.{Track}
 use Rattle.track.specs.Track.{newTrack}
 use Rattle.track.specs.Meaning.{NothingForeign}
-use Rattle.answers.specs.declared.SetUp.the-variants as setting
-use Rattle.answers.specs.declared.Holding.the-variants as holding
-use Rattle.answers.specs.declared.Looked.{Looked}
-use Rattle.answers.specs.declared.NextKey.the-variants as following
+use Rattle.rules.specs.declared.answers.SetUp.the-variants as setting
+use Rattle.rules.specs.declared.answers.Holding.the-variants as holding
+use Rattle.rules.specs.declared.answers.Looked.{Looked}
+use Rattle.rules.specs.declared.answers.NextKey.the-variants as following
 use Rattle.rules.specs.Form.{Form}
 use Rattle.rules.specs.Rules.{after, setUp, placeOf, lookedUp, leastAbove, nextAbove}
 use Rattle.rules.specs.View.{view, lookedAs}

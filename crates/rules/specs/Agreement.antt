@@ -3,8 +3,8 @@ use Prim.Native.Nat.{ℕ, _<_, _^_}
 use mathlib.Core.Bool.{true}
 use mathlib.Core.Path.{_≡_}
 use mathlib.Core.List.{List, [], _∷_}
-use Rattle.answers.specs.declared.SetUp.{SetUp}
-use Rattle.answers.specs.declared.SetUp.the-variants.{Done}
+use Rattle.rules.specs.declared.answers.SetUp.{SetUp}
+use Rattle.rules.specs.declared.answers.SetUp.the-variants.{Done}
 use Rattle.rules.specs.Form.{Cell, isHeld, Form}
 use Rattle.rules.specs.Rules.{After, received}
 use Rattle.rules.specs.View.{AllFit}

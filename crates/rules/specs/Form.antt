@@ -5,10 +5,10 @@ use mathlib.Core.Path.{_≡_}
 use lib.Dec.{eqb}
 use Rattle.keys.specs.Keys.{isKey}
 use Rattle.positions.specs.Positions.{poleToPole}
-use Rattle.located.specs.declared.Site.{Site}
-use Rattle.located.specs.Located.{noSite}
+use Rattle.whereabouts.specs.declared.Site.{Site}
+use Rattle.whereabouts.specs.Located.{noSite}
 use Rattle.track.specs.declared.Track.{Track}
-use Rattle.held.specs.Ranges as ranges
+use Rattle.memory.specs.Ranges as ranges
 use Rattle.place.specs.Place.{Fits}
 
 -- what a place says: its key, its track, and whether each value of it is in its range

@@ -1,6 +1,7 @@
-pub mod Search
-pub mod Form
-pub mod Rules
-pub mod View
-pub mod Said
 pub mod Agreement
+pub mod Form
+pub mod Keys
+pub mod Rules
+pub mod Said
+pub mod Search
+pub mod View

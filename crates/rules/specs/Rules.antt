@@ -9,16 +9,16 @@ use Rattle.positions.specs.Positions.{poleToPole}
 use Rattle.messages.specs.declared.Decoded.{Decoded}
 use Rattle.messages.specs.declared.Decoded.the-variants as decode
 use Rattle.messages.specs.Message.{decoded, keyOf}
-use Rattle.located.specs.declared.Site.{Site}
+use Rattle.whereabouts.specs.declared.Site.{Site}
 use Rattle.track.specs.declared.Stepped.{Stepped}
 use Rattle.track.specs.Track.{newTrack, stepped}
-use Rattle.answers.specs.declared.SetUp.{SetUp}
-use Rattle.answers.specs.declared.SetUp.the-variants as setting
-use Rattle.answers.specs.declared.Holding.the-variants as holding
-use Rattle.answers.specs.declared.Looked.{Looked}
-use Rattle.answers.specs.declared.NextKey.{NextKey}
-use Rattle.answers.specs.declared.NextKey.the-variants as next
-use Rattle.answers.specs.Keys.{keyOrEnd}
+use Rattle.rules.specs.declared.answers.SetUp.{SetUp}
+use Rattle.rules.specs.declared.answers.SetUp.the-variants as setting
+use Rattle.rules.specs.declared.answers.Holding.the-variants as holding
+use Rattle.rules.specs.declared.answers.Looked.{Looked}
+use Rattle.rules.specs.declared.answers.NextKey.{NextKey}
+use Rattle.rules.specs.declared.answers.NextKey.the-variants as next
+use Rattle.rules.specs.Keys.{keyOrEnd}
 use Rattle.rules.specs.Search.{lowest, smallest}
 use Rattle.rules.specs.Form.{isHeld, holds, Form}
 

@@ -11,22 +11,22 @@ use Rattle.positions.specs.declared.Spot.{Spot}
 use Rattle.positions.specs.Positions.{poleToPole}
 use Rattle.layouts.specs.Said.{Values}
 use Rattle.messages.specs.Message.{bits, kindOf}
-use Rattle.messages.specs.Table.{earns1, earns3, earns4, earns5, valuesIn}
-use Rattle.located.specs.declared.Site.{Site}
+use Rattle.messages.specs.Said.{earns1, earns3, earns4, earns5, valuesIn}
+use Rattle.whereabouts.specs.declared.Site.{Site}
 use Rattle.track.specs.declared.Track.{Track}
-use Rattle.answers.specs.declared.Heard.{Heard}
-use Rattle.answers.specs.declared.Heard.the-variants as hear
-use Rattle.answers.specs.declared.SetUp.{SetUp}
-use Rattle.answers.specs.declared.SetUp.the-variants as setting
-use Rattle.answers.specs.declared.Holding.{Holding}
-use Rattle.answers.specs.declared.Holding.the-variants as holding
-use Rattle.answers.specs.declared.Looked.{Looked}
-use Rattle.answers.specs.declared.NextKey.{NextKey}
-use Rattle.answers.specs.declared.NextKey.the-variants as next
-use Rattle.answers.specs.declared.Clock.{Clock}
-use Rattle.answers.specs.declared.Clock.the-variants as clocked
-use Rattle.answers.specs.declared.Sited.{Sited}
-use Rattle.answers.specs.declared.Sited.the-variants as sited
+use Rattle.rules.specs.declared.answers.Heard.{Heard}
+use Rattle.rules.specs.declared.answers.Heard.the-variants as hear
+use Rattle.rules.specs.declared.answers.SetUp.{SetUp}
+use Rattle.rules.specs.declared.answers.SetUp.the-variants as setting
+use Rattle.rules.specs.declared.answers.Holding.{Holding}
+use Rattle.rules.specs.declared.answers.Holding.the-variants as holding
+use Rattle.rules.specs.declared.answers.Looked.{Looked}
+use Rattle.rules.specs.declared.answers.NextKey.{NextKey}
+use Rattle.rules.specs.declared.answers.NextKey.the-variants as next
+use Rattle.rules.specs.declared.answers.Clock.{Clock}
+use Rattle.rules.specs.declared.answers.Clock.the-variants as clocked
+use Rattle.rules.specs.declared.answers.Sited.{Sited}
+use Rattle.rules.specs.declared.answers.Sited.the-variants as sited
 use Rattle.rules.specs.Form.{Form}
 use Rattle.rules.specs.Rules.{placeOf, freePlace, leastAbove}
 
@@ -85,7 +85,7 @@ orNone k = cond (eqb k 0) none (some k)
 abbrev pub keyAbove : {S : Type 0} → Form S → S → ℕ → Option ℕ
 keyAbove F s above = orNone (leastAbove F s above)
 
--- ---- the table's "When, exactly", for a table s, a message m and its time; 1, 3, 4 and 5 depend on the message alone, and stand in messages/specs/Table
+-- ---- the table's "When, exactly", for a table s, a message m and its time; 1, 3, 4 and 5 depend on the message alone, and stand in messages/specs/Said
 
 -- 2: time below the clock
 abbrev pub earns2 : {S : Type 0} → Form S → S → ℕ → Bool

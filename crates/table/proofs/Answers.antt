@@ -16,27 +16,27 @@ use Rattle.messages.specs.declared.Decoded.{Decoded}
 use Rattle.messages.specs.declared.Decoded.the-variants as decode
 use Rattle.messages.specs.declared.Message.{Message}
 use Rattle.messages.specs.Message.{decoded, keyOf}
-use Rattle.located.specs.declared.Site.{Site}
+use Rattle.whereabouts.specs.declared.Site.{Site}
 use Rattle.track.specs.declared.Track.{Track}
 use Rattle.track.specs.declared.Stepped.{Stepped}
 use Rattle.track.specs.Track.{newTrack, stepped}
-use Rattle.words.specs.Bytes.{lowBytes, put}
-use Rattle.place.specs.Place.{raised, trackOf}
-use Rattle.held.specs.Ranges.{held}
+use Rattle.memory.specs.Bytes.{lowBytes, put}
+use Rattle.place.specs.Place.{abovePole, trackOf}
+use Rattle.memory.specs.Ranges.{held}
 use Rattle.rules.specs.Rules as rules
-use Rattle.lent.specs.declared.scan.Target.{Target}
-use Rattle.offsets.specs.Offsets.{siteLatitudeAt, wholePlaces, placesIn}
-use Rattle.lent.specs.Layout.{clockOf, siteOf, bodyAt, placeAt, isHeld, holds, moved, stored, emptied, emptiedAt}
-use Rattle.lent.specs.Scan.{lowest, targetOf}
-use Rattle.lent.specs.Walk.{smallest}
-use Rattle.answers.specs.declared.SetUp.the-variants as setting
-use Rattle.answers.specs.declared.Holding.the-variants as holding
-use Rattle.answers.specs.declared.NextKey.{NextKey}
-use Rattle.answers.specs.declared.NextKey.the-variants as next
-use Rattle.answers.specs.declared.Clock.the-variants as clock
-use Rattle.answers.specs.declared.Sited.the-variants as sited
+use Rattle.table_bytes.specs.declared.scan.Target.{Target}
+use Rattle.memory.specs.Offsets.{siteLatitudeAt, wholePlaces, placesIn}
+use Rattle.table_bytes.specs.Layout.{clockOf, siteOf, bodyAt, placeAt, isHeld, holds, moved, stored, emptied, emptiedAt}
+use Rattle.table_bytes.specs.Scan.{lowest, targetOf}
+use Rattle.table_bytes.specs.Walk.{smallest}
+use Rattle.rules.specs.declared.answers.SetUp.the-variants as setting
+use Rattle.rules.specs.declared.answers.Holding.the-variants as holding
+use Rattle.rules.specs.declared.answers.NextKey.{NextKey}
+use Rattle.rules.specs.declared.answers.NextKey.the-variants as next
+use Rattle.rules.specs.declared.answers.Clock.the-variants as clock
+use Rattle.rules.specs.declared.answers.Sited.the-variants as sited
 use Rattle.table.specs.Table.{After, after, setUp, setUpAt, delivered, received, lookedUp, nextAbove, clockIn, siteIn}
-use Rattle.answers.specs.Keys.{keyOrEnd}
+use Rattle.rules.specs.Keys.{keyOrEnd}
 
 -- ---- a message reaches the table
 
@@ -133,7 +133,7 @@ module _ (s : List ℕ) {t : Bool} (e : t ≡ wholePlaces (length s)) where
       unfolding rules.setUp
       site-pole g = rw (← e, f, ← p-is, g)
 
-      pub site-on : not p ≡ false → {l m : List ℕ} → l ≡ emptied s → m ≡ put l siteLatitudeAt (lowBytes 4 (raised (spot .latitude) % 4294967296 + 1) ++ lowBytes 4 (spot .longitude))
+      pub site-on : not p ≡ false → {l m : List ℕ} → l ≡ emptied s → m ≡ put l siteLatitudeAt (lowBytes 4 (abovePole (spot .latitude) % 4294967296 + 1) ++ lowBytes 4 (spot .longitude))
           → after setting.Done m ≡ setUpAt s spot
       unfolding rules.setUp emptiedAt
       site-on g l-is m-is = rw (← e, f, ← p-is, g, ← l-is, ← m-is)

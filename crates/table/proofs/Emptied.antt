@@ -12,17 +12,17 @@ use lib.ListN.{length, getD, replicate, length-replicate}
 use borrow.Author.Tests.{le-leb}
 use Rattle.fields.specs.Bytes.{Bytes}
 use Rattle.fields.proofs.Bools.{both}
-use Rattle.offsets.specs.Offsets.{headSize, siteLatitudeAt, siteLongitudeAt, keySize, keyStart}
+use Rattle.memory.specs.Offsets.{headSize, siteLatitudeAt, siteLongitudeAt, keySize, keyStart}
 use Rattle.positions.specs.declared.Spot.{Spot}
 use Rattle.positions.specs.Positions.{poleToPole}
-use Rattle.words.specs.Bytes.{numberAt, lowBytes, put}
-use Rattle.place.specs.Place.{raised}
-use Rattle.held.specs.Ranges.{inRange}
-use Rattle.place.proofs.Latitudes.{raised-small, lowered-raised}
-use Rattle.words.proofs.Put.{put-length, put-append}
-use Rattle.lent.specs.Layout.{siteFrom, siteOf, keyAt, emptied, emptiedAt}
-use Rattle.located.specs.Located.{noSite}
-use Rattle.lent.proofs.Stores.{byte-out, number-agree, number-there, put-bytes, append-bytes, low-bytes}
+use Rattle.memory.specs.Bytes.{numberAt, lowBytes, put}
+use Rattle.place.specs.Place.{abovePole}
+use Rattle.memory.specs.Ranges.{inRange}
+use Rattle.place.proofs.Latitudes.{above-pole-small, lowered-above}
+use Rattle.memory.proofs.Put.{put-length, put-append}
+use Rattle.table_bytes.specs.Layout.{siteFrom, siteOf, keyAt, emptied, emptiedAt}
+use Rattle.whereabouts.specs.Located.{noSite}
+use Rattle.table_bytes.proofs.Stores.{byte-out, number-agree, number-there, put-bytes, append-bytes, low-bytes}
 
 zeros : (l j : ℕ) → getD {A = ℕ} (replicate l 0) j 0 ≡ 0
 zeros zero j = refl
@@ -65,7 +65,7 @@ module _ (s : List ℕ) where
 
   module _ (spot : Spot) where
     abbrev x : ℕ
-    x = raised (spot .latitude) % 4294967296 + 1
+    x = abovePole (spot .latitude) % 4294967296 + 1
 
     abbrev y : ℕ
     y = spot .longitude
@@ -104,7 +104,7 @@ module _ (s : List ℕ) where
           ap (λ (l : List ℕ). numberAt 4 l siteLatitudeAt) in-two
           ∙ number-agree 4 (put first siteLongitudeAt (lowBytes 4 y)) first siteLatitudeAt (λ j p q. byte-out (lowBytes 4 y) first siteLongitudeAt j (inl q))
           ∙ number-there 4 x (emptied s) siteLatitudeAt (rw emptied-length (omega arith))
-          ∙ mod-eq-of-lt (omega (arith, raised-small (spot .latitude) north))
+          ∙ mod-eq-of-lt (omega (arith, above-pole-small (spot .latitude) north))
 
       longitude-there : numberAt 4 (emptiedAt s spot) siteLongitudeAt ≡ y
       longitude-there =
@@ -115,9 +115,9 @@ module _ (s : List ℕ) where
       site-from : siteFrom x y ≡ record { known = true; spot = spot }
       unfolding siteFrom
       site-from =
-          let e : x - 1 ≡ raised (spot .latitude) % 4294967296 = omega arith in
-          let t : leb 1 x && leb x 2147483649 ≡ true = both (le-leb 1 x (omega arith)) (le-leb x 2147483649 (omega (arith, raised-small (spot .latitude) north))) in
-          rw (t, e, lowered-raised (spot .latitude) north)
+          let e : x - 1 ≡ abovePole (spot .latitude) % 4294967296 = omega arith in
+          let t : leb 1 x && leb x 2147483649 ≡ true = both (le-leb 1 x (omega arith)) (le-leb x 2147483649 (omega (arith, above-pole-small (spot .latitude) north))) in
+          rw (t, e, lowered-above (spot .latitude) north)
 
       pub set-up-site : siteOf (emptiedAt s spot) ≡ record { known = true; spot = spot }
       set-up-site = ap₂ siteFrom latitude-there longitude-there ∙ site-from

@@ -18,12 +18,12 @@ use Rattle.messages.specs.Message.{decoded, keyOf}
 use Rattle.track.specs.declared.Track.{Track}
 use Rattle.track.specs.Track.{newTrack, stepBody, stepMe, stepped}
 use Rattle.track.proofs.Mes.{stepped-by-me}
-use Rattle.lent.specs.Layout.{clockOf, siteOf, moved, stored}
-use Rattle.offsets.specs.Offsets.{wholePlaces, placesIn}
+use Rattle.table_bytes.specs.Layout.{clockOf, siteOf, moved, stored}
+use Rattle.memory.specs.Offsets.{wholePlaces, placesIn}
 use Rattle.rules.specs.Rules as rules
 use Rattle.table.specs.Bytes.{bytes}
-use Rattle.answers.specs.declared.Heard.{Heard}
-use Rattle.answers.specs.declared.Heard.the-variants as hear
+use Rattle.rules.specs.declared.answers.Heard.{Heard}
+use Rattle.rules.specs.declared.answers.Heard.the-variants as hear
 use Rattle.table.specs.Table.{After, after, delivered, received}
 use Rattle.table.specs.Heard.{heardAs, heard}
 use Rattle.table.proofs.Answers.{placed}

@@ -11,19 +11,19 @@ use Rattle.fields.proofs.Bools.{by-test}
 use Rattle.fields.proofs.Bytes.{bytes-take, bytes-drop}
 use Rattle.positions.specs.declared.Spot.{Spot}
 use Rattle.positions.specs.Positions.{poleToPole}
-use Rattle.located.specs.declared.Site.{Site}
-use Rattle.located.specs.Located.{noSite}
+use Rattle.whereabouts.specs.declared.Site.{Site}
+use Rattle.whereabouts.specs.Located.{noSite}
 use Rattle.track.specs.declared.Track.{Track}
-use Rattle.answers.specs.declared.SetUp.{SetUp}
+use Rattle.rules.specs.declared.answers.SetUp.{SetUp}
 use Rattle.place.specs.Place.{bodyOf, Fits}
-use Rattle.held.specs.Ranges.{inRange}
+use Rattle.memory.specs.Ranges.{inRange}
 use Rattle.track.specs.Meaning.{NothingForeign}
 use Rattle.place.proofs.Meaning.{any-bytes-nothing-foreign}
 use Rattle.place.proofs.BothWays.{read-written, written-in-range, read-fits}
-use Rattle.offsets.specs.Offsets.{clockAt, headSize, bodySize, placeSize, bodyStart, wholePlaces, placesIn}
-use Rattle.lent.specs.Layout.{cellOf, Place, clockOf, siteOf, keyAt, bodyAt, placeAt, moved, stored, emptied, emptiedAt}
-use Rattle.offsets.proofs.Counts.{sized}
-use Rattle.lent.proofs.Places.{moved-length, moved-clock, moved-site, moved-bytes, place-head, stored-length, stored-clock, stored-site, stored-bytes, place-other, place-same}
+use Rattle.memory.specs.Offsets.{clockAt, headSize, bodySize, placeSize, bodyStart, wholePlaces, placesIn}
+use Rattle.table_bytes.specs.Layout.{cellOf, Place, clockOf, siteOf, keyAt, bodyAt, placeAt, moved, stored, emptied, emptiedAt}
+use Rattle.memory.proofs.Counts.{sized}
+use Rattle.table_bytes.proofs.Places.{moved-length, moved-clock, moved-site, moved-bytes, place-head, stored-length, stored-clock, stored-site, stored-bytes, place-other, place-same}
 use Rattle.keys.specs.Keys.{isKey}
 use Rattle.keys.proofs.Laws.{before-end}
 use Rattle.rules.specs.Form.{Cell, taken, holds, Lawful}

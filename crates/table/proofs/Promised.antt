@@ -13,18 +13,18 @@ use Rattle.refusals.specs.declared.Refusal.the-variants.{Places}
 use Rattle.refusals.specs.Said.{number, gives}
 use Rattle.messages.specs.declared.Decoded.{Decoded}
 use Rattle.messages.specs.declared.Decoded.the-variants as decode
-use Rattle.messages.specs.Table.{said}
-use Rattle.located.specs.declared.Site.{Site}
-use Rattle.located.specs.Located.{noSite}
-use Rattle.answers.specs.declared.Heard.{Heard}
-use Rattle.answers.specs.declared.SetUp.{SetUp}
-use Rattle.answers.specs.declared.Clock.the-variants as clocked
-use Rattle.answers.specs.declared.Sited.the-variants as sited
+use Rattle.messages.specs.Said.{said}
+use Rattle.whereabouts.specs.declared.Site.{Site}
+use Rattle.whereabouts.specs.Located.{noSite}
+use Rattle.rules.specs.declared.answers.Heard.{Heard}
+use Rattle.rules.specs.declared.answers.SetUp.{SetUp}
+use Rattle.rules.specs.declared.answers.Clock.the-variants as clocked
+use Rattle.rules.specs.declared.answers.Sited.the-variants as sited
 use Rattle.rules.specs.Said.{setUpSaid, heardSaid, doneOr, lookedSaid, nextSaid, clockSaid, spotIn, sitedSaid, keyAbove, earns7, setUpTable, receiveTable}
 use Rattle.rules.proofs.Exactly.{says-the-table}
 use Rattle.rules.proofs.Says.{set-up-says, look-says, next-says}
-use Rattle.offsets.specs.Offsets.{wholePlaces}
-use Rattle.lent.specs.Layout.{clockOf, siteOf}
+use Rattle.memory.specs.Offsets.{wholePlaces}
+use Rattle.table_bytes.specs.Layout.{clockOf, siteOf}
 use Rattle.table.specs.Bytes.{bytes}
 use Rattle.table.specs.Heard.{heardAs}
 use Rattle.table.specs.Table.{After, received, siteAt, clockIn, siteIn}

@@ -3,8 +3,8 @@
 use mathlib.Core.Path.{sym, _∙_}
 use Rattle.refusals.specs.Answers.{OneAnswer, OneOutcome}
 use Rattle.messages.specs.declared.Decoded.{Decoded}
-use Rattle.answers.specs.declared.Heard.{Heard}
-use Rattle.answers.specs.declared.SetUp.{SetUp}
+use Rattle.rules.specs.declared.answers.Heard.{Heard}
+use Rattle.rules.specs.declared.answers.SetUp.{SetUp}
 use Rattle.table.specs.Table.{After, after}
 use Rattle.table.proofs.set_up.Kinds as set-up-kinds
 use Rattle.table.proofs.set_up.Reads as set-up

@@ -3,11 +3,11 @@ use Prim.Native.Nat.{ℕ}
 use mathlib.Core.Bool.{cond}
 use mathlib.Core.List.{List}
 use lib.ListN.{length}
-use Rattle.located.specs.declared.Site.{Site}
+use Rattle.whereabouts.specs.declared.Site.{Site}
 use Rattle.track.specs.declared.Track.{Track}
 use Rattle.rules.specs.Form.{Form}
-use Rattle.offsets.specs.Offsets.{wholePlaces, placesIn}
-use Rattle.lent.specs.Layout.{clockOf, siteOf, keyAt, bodyAt, cellOf, moved, stored, emptied, emptiedAt}
+use Rattle.memory.specs.Offsets.{wholePlaces, placesIn}
+use Rattle.table_bytes.specs.Layout.{clockOf, siteOf, keyAt, bodyAt, cellOf, moved, stored, emptied, emptiedAt}
 
 abbrev pub bytes : Form (List ℕ)
 bytes =

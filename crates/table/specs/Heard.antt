@@ -1,8 +1,8 @@
 -- What a received message does where nobody asks what it says: the same to the table, and done where the answer is a message.
 use Rattle.messages.specs.declared.Decoded.{Decoded}
 use Rattle.messages.specs.declared.Decoded.the-variants as decode
-use Rattle.answers.specs.declared.Heard.{Heard}
-use Rattle.answers.specs.declared.Heard.the-variants as hear
+use Rattle.rules.specs.declared.answers.Heard.{Heard}
+use Rattle.rules.specs.declared.answers.Heard.the-variants as hear
 use Rattle.table.specs.Table.{After, after}
 
 abbrev pub heardAs : Decoded → Heard

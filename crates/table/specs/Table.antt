@@ -6,18 +6,18 @@ use lib.ListN.{length}
 use Rattle.refusals.specs.declared.Refusal.the-variants.{Places}
 use Rattle.positions.specs.declared.Spot.{Spot}
 use Rattle.messages.specs.declared.Decoded.{Decoded}
-use Rattle.located.specs.declared.Site.{Site}
-use Rattle.located.specs.Located.{noSite}
+use Rattle.whereabouts.specs.declared.Site.{Site}
+use Rattle.whereabouts.specs.Located.{noSite}
 use Rattle.rules.specs.Rules as rules
-use Rattle.offsets.specs.Offsets.{wholePlaces}
-use Rattle.lent.specs.Layout.{clockOf, siteOf}
-use Rattle.answers.specs.declared.SetUp.{SetUp}
-use Rattle.answers.specs.declared.Looked.{Looked}
-use Rattle.answers.specs.declared.NextKey.{NextKey}
-use Rattle.answers.specs.declared.Clock.{Clock}
-use Rattle.answers.specs.declared.Clock.the-variants as clock
-use Rattle.answers.specs.declared.Sited.{Sited}
-use Rattle.answers.specs.declared.Sited.the-variants as sited
+use Rattle.memory.specs.Offsets.{wholePlaces}
+use Rattle.table_bytes.specs.Layout.{clockOf, siteOf}
+use Rattle.rules.specs.declared.answers.SetUp.{SetUp}
+use Rattle.rules.specs.declared.answers.Looked.{Looked}
+use Rattle.rules.specs.declared.answers.NextKey.{NextKey}
+use Rattle.rules.specs.declared.answers.Clock.{Clock}
+use Rattle.rules.specs.declared.answers.Clock.the-variants as clock
+use Rattle.rules.specs.declared.answers.Sited.{Sited}
+use Rattle.rules.specs.declared.answers.Sited.the-variants as sited
 use Rattle.table.specs.Bytes.{bytes}
 
 -- what a call answers, and the bytes that it leaves

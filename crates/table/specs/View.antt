@@ -3,7 +3,7 @@ use Prim.Native.Nat.{ℕ}
 use mathlib.Core.List.{List}
 use mathlib.Core.Option.{Option}
 use Rattle.track.specs.declared.Track.{Track}
-use Rattle.answers.specs.declared.NextKey.{NextKey}
+use Rattle.rules.specs.declared.answers.NextKey.{NextKey}
 use Rattle.rules.specs.View as rules
 use Rattle.table.specs.Bytes.{bytes}
 

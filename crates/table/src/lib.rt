@@ -1,28 +1,28 @@
-// The lent table: 1 to 1,024 places in bytes that the caller lends, laid out as `offsets` says.
-use answers::Clock;
-use answers::Heard;
-use answers::Holding;
-use answers::Looked;
-use answers::NextKey;
-use answers::SetUp;
-use answers::Sited;
-use lent::Target;
+// The lent table: 1 to 1,024 places in bytes that the caller lends, laid out as `memory` says.
 use messages::Accepted;
 use messages::Decoded;
 use messages::Frame;
 use positions::Spot;
 use refusals::Refusal;
+use rules::Clock;
+use rules::Heard;
+use rules::Holding;
+use rules::Looked;
+use rules::NextKey;
+use rules::SetUp;
+use rules::Sited;
+use table_bytes::Target;
 use track::Track;
 ghost use mathlib.Core.Path.{_≡_};
 ghost use Prim.Native.Nat.{_<_};
 ghost use mathlib.Core.Bool.{true, cond};
 ghost use lib.ListN.{length};
-ghost use Rattle.offsets.specs.Offsets.{Room, wholePlaces};
+ghost use Rattle.memory.specs.Offsets.{Room, wholePlaces};
 ghost use Rattle.messages.specs.declared.Accepted.the-variants as accept;
 ghost use Rattle.messages.specs.Accepted.{IsAccepted, openedAs};
 ghost use Rattle.track.specs.Track.{newTrack, stepMe};
 ghost use Rattle.place.specs.Place.{trackOf};
-ghost use Rattle.lent.specs.Layout.{siteOf, bodyAt, stored};
+ghost use Rattle.table_bytes.specs.Layout.{siteOf, bodyAt, stored};
 ghost use Rattle.table.specs.Heard.{heard};
 ghost use Rattle.table.specs.Table.{after, delivered, received, setUp, setUpAt, lookedUp, nextAbove, clockIn, siteIn};
 
@@ -30,10 +30,10 @@ ghost use Rattle.table.specs.Table.{after, delivered, received, setUp, s
 pub fn set_up(table: &mut [u8]) -> SetUp
     ensures { λ r. ⌜ after r (now (table .exit)) ≡ setUp (now (table .entry)) ⌝ }
 {
-    if !lent::whole_places(table.len()) {
+    if !table_bytes::whole_places(table.len()) {
         return SetUp::Refused(Refusal::Places);
     }
-    lent::clear(table);
+    table_bytes::clear(table);
     SetUp::Done
 }
 
@@ -41,14 +41,14 @@ pub fn set_up(table: &mut [u8]) -> SetUp
 pub fn set_up_at(table: &mut [u8], site: Spot) -> SetUp
     ensures { λ r. ⌜ after r (now (table .exit)) ≡ setUpAt (now (table .entry)) site ⌝ }
 {
-    if !lent::whole_places(table.len()) {
+    if !table_bytes::whole_places(table.len()) {
         return SetUp::Refused(Refusal::Places);
     }
-    if !lent::pole_to_pole(site.latitude) {
+    if !table_bytes::pole_to_pole(site.latitude) {
         return SetUp::Refused(Refusal::Field);
     }
-    lent::clear(table);
-    lent::put_site(table, site);
+    table_bytes::clear(table);
+    table_bytes::put_site(table, site);
     SetUp::Done
 }
 
@@ -58,7 +58,7 @@ fn start_of(table: &[u8], n: usize, target: Target) -> Track
     ensures { λ r. ⌜ r ≡ cond (target .held) (trackOf (bodyAt (now (table .entry)) n (target .at))) newTrack ⌝ }
 {
     if target.held {
-        place::load(lent::body(table, n, target.at))
+        place::load(table_bytes::body(table, n, target.at))
     } else {
         track::new_track()
     }
@@ -69,8 +69,8 @@ fn step_at(table: &mut [u8], n: usize, i: usize, key: u32, t: Track, me: u64, ti
     requires { ⌜ (i < n) × Room n (now table) ⌝ }
     ensures { λ _. ⌜ now (table .exit) ≡ stored (now (table .entry)) n i key (stepMe t me (siteOf (now (table .entry))) time) ⌝ }
 {
-    let site = lent::site_of(table);
-    lent::store(table, n, i, key, track::step_me(t, me, site, time));
+    let site = table_bytes::site_of(table);
+    table_bytes::store(table, n, i, key, track::step_me(t, me, site, time));
 }
 
 // An acceptable message reaches the table. The clock is already at the time.
@@ -79,8 +79,8 @@ fn deliver(table: &mut [u8], f: Frame, time: u64) -> Heard
     ensures { λ r. ⌜ after r (now (table .exit)) ≡ heard (delivered (now (table .entry)) (openedAs (accept.Frame f)) time) ⌝ }
 {
     let key = messages::frame_key(f);
-    let n = lent::places_in(table);
-    let target = lent::target_of(table, n, time, key);
+    let n = table_bytes::places_in(table);
+    let target = table_bytes::target_of(table, n, time, key);
     if target.at < n {
         let t = start_of(table, n, target);
         step_at(table, n, target.at, key, t, f.me, time);
@@ -96,13 +96,13 @@ pub fn hear(table: &mut [u8], message: &[u8], time: u64) -> Heard
     if message.len() != 14 {
         return Heard::Refused(Refusal::Length);
     }
-    if !lent::whole_places(table.len()) {
+    if !table_bytes::whole_places(table.len()) {
         return Heard::Refused(Refusal::Places);
     }
-    if time < lent::clock_of(table) {
+    if time < table_bytes::clock_of(table) {
         return Heard::Refused(Refusal::Late);
     }
-    lent::move_clock(table, time);
+    table_bytes::move_clock(table, time);
     let answer = messages::accept(message);
     match answer {
         Accepted::Frame(f) => deliver(table, f, time),
@@ -125,18 +125,18 @@ pub fn receive(table: &mut [u8], message: &[u8], time: u64) -> Decoded
 pub fn look_up(table: &[u8], key: u32) -> Looked
     ensures { λ r. ⌜ r ≡ lookedUp (now (table .entry)) key ⌝ }
 {
-    if !lent::whole_places(table.len()) {
+    if !table_bytes::whole_places(table.len()) {
         return Looked {
             answer: Holding::Refused(Refusal::Places),
             track: track::new_track(),
         };
     }
-    let n = lent::places_in(table);
-    let i = lent::find_key(table, n, lent::clock_of(table), key);
+    let n = table_bytes::places_in(table);
+    let i = table_bytes::find_key(table, n, table_bytes::clock_of(table), key);
     if i < n {
         return Looked {
             answer: Holding::Held,
-            track: place::load(lent::body(table, n, i)),
+            track: place::load(table_bytes::body(table, n, i)),
         };
     }
     Looked {
@@ -149,18 +149,18 @@ pub fn look_up(table: &[u8], key: u32) -> Looked
 pub fn next(table: &[u8], above: u32) -> NextKey
     ensures { λ r. ⌜ r ≡ nextAbove (now (table .entry)) above ⌝ }
 {
-    if !lent::whole_places(table.len()) {
+    if !table_bytes::whole_places(table.len()) {
         return NextKey::Refused(Refusal::Places);
     }
-    let n = lent::places_in(table);
-    answers::key_or_end(lent::smallest_above(table, n, lent::clock_of(table), above))
+    let n = table_bytes::places_in(table);
+    rules::key_or_end(table_bytes::smallest_above(table, n, table_bytes::clock_of(table), above))
 }
 
 pub fn clock_of(table: &[u8]) -> Clock
     ensures { λ r. ⌜ r ≡ clockIn (now (table .entry)) ⌝ }
 {
-    if lent::whole_places(table.len()) {
-        Clock::At(lent::clock_of(table))
+    if table_bytes::whole_places(table.len()) {
+        Clock::At(table_bytes::clock_of(table))
     } else {
         Clock::Refused(Refusal::Places)
     }
@@ -169,8 +169,8 @@ pub fn clock_of(table: &[u8]) -> Clock
 pub fn site_of(table: &[u8]) -> Sited
     ensures { λ r. ⌜ r ≡ siteIn (now (table .entry)) ⌝ }
 {
-    if lent::whole_places(table.len()) {
-        Sited::Site(lent::site_of(table))
+    if table_bytes::whole_places(table.len()) {
+        Sited::Site(table_bytes::site_of(table))
     } else {
         Sited::Refused(Refusal::Places)
     }

@@ -5,23 +5,23 @@
 //   P offset count bytes: other bytes in the buffer. R time count bytes: receive. K key: look up. N key: the next key.
 //   W: the clock, the site and each key with its track. B: the parity remainder of the whole table.
 // `reference/vectors/bench.py` has what each writes.
-use answers::Clock;
-use answers::Holding;
-use answers::NextKey;
-use answers::SetUp;
-use answers::Sited;
 use encoder::Encoded;
 use libc::STDIN_FILENO;
 use libc::STDOUT_FILENO;
-use located::Position;
-use located::Saved;
-use located::Site;
 use messages::Decoded;
 use messages::Message;
 use positions::Spot;
 use refusals::Refusal;
+use rules::Clock;
+use rules::Holding;
+use rules::NextKey;
+use rules::SetUp;
+use rules::Sited;
 use track::Groups;
 use track::Track;
+use whereabouts::Position;
+use whereabouts::Saved;
+use whereabouts::Site;
 
 // ---- what is read; where the input has ended, zeros
 

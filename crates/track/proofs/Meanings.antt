@@ -16,9 +16,9 @@ use Rattle.layouts.specs.declared.bodies.Body.the-variants as body
 use Rattle.layouts.specs.Bodies.{bodyMe, bodyFits}
 use Rattle.layouts.proofs.Layouts as layout
 use Rattle.layouts.proofs.BothWays.{fitting, agreeing}
-use Rattle.located.specs.declared.Saved.{Saved}
-use Rattle.located.specs.declared.Position.{Position}
-use Rattle.located.specs.Located.{noPosition}
+use Rattle.whereabouts.specs.declared.Saved.{Saved}
+use Rattle.whereabouts.specs.declared.Position.{Position}
+use Rattle.whereabouts.specs.Located.{noPosition}
 use Rattle.track.specs.declared.Groups.{Groups}
 use Rattle.track.specs.declared.Track.{Track}
 use Rattle.track.specs.Track.{noSaved}

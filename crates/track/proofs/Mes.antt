@@ -10,7 +10,7 @@ use Rattle.layouts.specs.Bodies.{taken, bodyMe, bodyFits}
 use Rattle.layouts.proofs.BothWays.{read-back, me-lt}
 use Rattle.messages.specs.declared.Message.{Message}
 use Rattle.messages.specs.declared.Decoded.the-variants as decode
-use Rattle.located.specs.declared.Site.{Site}
+use Rattle.whereabouts.specs.declared.Site.{Site}
 use Rattle.track.specs.declared.Track.{Track}
 use Rattle.track.specs.Track.{stepBody, stepTaken, stepMe, stepped}
 

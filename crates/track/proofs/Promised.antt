@@ -11,8 +11,8 @@ use Rattle.refusals.specs.Said.{number}
 use Rattle.layouts.specs.Bodies.{bodyFits}
 use Rattle.messages.specs.declared.Decoded.{Decoded}
 use Rattle.messages.specs.declared.Decoded.the-variants as decode
-use Rattle.messages.specs.Table.{said}
-use Rattle.located.specs.declared.Site.{Site}
+use Rattle.messages.specs.Said.{said}
+use Rattle.whereabouts.specs.declared.Site.{Site}
 use Rattle.track.specs.declared.Track.{Track}
 use Rattle.track.specs.Track.{stepped}
 use Rattle.track.specs.Said.{steppedSaid, stepTable}

@@ -34,14 +34,14 @@ use Rattle.messages.specs.declared.Message.{Message}
 use Rattle.messages.specs.declared.Decoded.{Decoded}
 use Rattle.messages.specs.declared.Decoded.the-variants as decode
 use Rattle.messages.proofs.BothWays.{decoded-good}
-use Rattle.located.specs.declared.Saved.{Saved}
-use Rattle.located.specs.declared.Placed.the-variants as placed
-use Rattle.located.specs.declared.Position.{Position}
-use Rattle.located.specs.declared.Site.{Site}
+use Rattle.whereabouts.specs.declared.Saved.{Saved}
+use Rattle.whereabouts.specs.declared.Placed.the-variants as placed
+use Rattle.whereabouts.specs.declared.Position.{Position}
+use Rattle.whereabouts.specs.declared.Site.{Site}
 use Rattle.track.specs.declared.Track.{Track}
 use Rattle.track.specs.declared.Stepped.{Stepped}
 use Rattle.track.specs.Groups.{identified, moving, onSurface, atPressure, atHeight}
-use Rattle.located.specs.Located.{
+use Rattle.whereabouts.specs.Located.{
   isFresh,
   passedOn,
   settled,

@@ -7,9 +7,9 @@ use lib.ListN.{getD}
 use Rattle.fields.specs.Packing.{me}
 use Rattle.layouts.specs.Layouts.{isIdentification, isSurface}
 use Rattle.layouts.specs.Velocity.{isGround, isAir}
-use Rattle.located.specs.declared.Saved.{Saved}
-use Rattle.located.specs.declared.Position.{Position}
-use Rattle.located.specs.Located.{noPosition}
+use Rattle.whereabouts.specs.declared.Saved.{Saved}
+use Rattle.whereabouts.specs.declared.Position.{Position}
+use Rattle.whereabouts.specs.Located.{noPosition}
 use Rattle.track.specs.declared.Groups.{Groups}
 use Rattle.track.specs.declared.Track.{Track}
 use Rattle.track.specs.Track.{noSaved}

@@ -6,7 +6,7 @@ use Rattle.layouts.specs.Bodies.{bodyFits}
 use Rattle.layouts.specs.Said.{Values}
 use Rattle.messages.specs.declared.Decoded.{Decoded}
 use Rattle.messages.specs.declared.Decoded.the-variants as decode
-use Rattle.messages.specs.Table.{said}
+use Rattle.messages.specs.Said.{said}
 use Rattle.track.specs.declared.Stepped.{Stepped}
 
 abbrev pub steppedSaid : Stepped → Said Values

@@ -17,16 +17,16 @@ use Rattle.layouts.specs.declared.bodies.Taken.the-variants as read
 use Rattle.layouts.specs.Bodies.{taken, bodyMe, bodyFits}
 use Rattle.messages.specs.declared.Decoded.{Decoded}
 use Rattle.messages.specs.declared.Decoded.the-variants as decode
-use Rattle.located.specs.declared.Placed.{Placed}
-use Rattle.located.specs.declared.Placed.the-variants as placed
-use Rattle.located.specs.declared.Position.{Position}
-use Rattle.located.specs.declared.Saved.{Saved}
-use Rattle.located.specs.declared.Site.{Site}
+use Rattle.whereabouts.specs.declared.Placed.{Placed}
+use Rattle.whereabouts.specs.declared.Placed.the-variants as placed
+use Rattle.whereabouts.specs.declared.Position.{Position}
+use Rattle.whereabouts.specs.declared.Saved.{Saved}
+use Rattle.whereabouts.specs.declared.Site.{Site}
 use Rattle.track.specs.declared.Groups.{Groups}
 use Rattle.track.specs.declared.Track.{Track}
 use Rattle.track.specs.declared.Stepped.{Stepped}
 use Rattle.track.specs.Groups.{noGroups, identified, moving, onSurface, high}
-use Rattle.located.specs.Located.{noPosition, airbornePosition, surfacePosition}
+use Rattle.whereabouts.specs.Located.{noPosition, airbornePosition, surfacePosition}
 
 abbrev pub noSaved : Saved
 noSaved = record { known = false; counts = record { latitude = record { 0 = 0 }; longitude = record { 0 = 0 } }; time = 0 }

@@ -8,15 +8,15 @@ use layouts::Airborne;
 use layouts::Layout;
 use layouts::Surface;
 use layouts::Written;
-use located::Placed;
-use located::Position;
-use located::Saved;
-use located::Site;
 pub use meaning::meant;
 use messages::Decoded;
 use positions::Counts;
 use positions::Format;
 use refusals::Refusal;
+use whereabouts::Placed;
+use whereabouts::Position;
+use whereabouts::Saved;
+use whereabouts::Site;
 ghost use mathlib.Core.Path.{_≡_};
 ghost use Prim.Native.Nat.{_<_};
 ghost use Rattle.track.specs.Track.{formatOf, placedOr, airborneTrack, surfaceTrack, groupTrack, stepMe, stepped, newTrack, noSaved};
@@ -65,7 +65,7 @@ pub fn new_track() -> Track
     Track {
         heard: 0,
         groups: replaced::no_groups(),
-        position: located::no_position(),
+        position: whereabouts::no_position(),
         saved: [none, none],
     }
 }
@@ -113,7 +113,7 @@ fn airborne_track(t: Track, b: Airborne, time: u64) -> Track
         heard: time,
         groups: replaced::with_altitude(g, b.typecode, b.altitude),
         position: placed_or(
-            located::airborne_position(p, partner, counts, format_of(b.f), time),
+            whereabouts::airborne_position(p, partner, counts, format_of(b.f), time),
             p,
         ),
         saved: saved,
@@ -139,7 +139,7 @@ fn surface_track(t: Track, b: Surface, me: u64, site: Site, time: u64) -> Track
         heard: time,
         groups: replaced::with_surface(g, me),
         position: placed_or(
-            located::surface_position(p, site, counts, format_of(b.f), time),
+            whereabouts::surface_position(p, site, counts, format_of(b.f), time),
             p,
         ),
         saved: saved,

@@ -9,7 +9,7 @@ use native.Mathlib.Numerals.{add-one}
 use borrow.Author.Needs.{needs}
 use lib.ListN.{length, take, getD}
 use lib.Seq.{take-suc, take-all}
-use Rattle.division.specs.Division.{stepped}
+use Rattle.parity.specs.Division.{stepped}
 use Rattle.parity.specs.Parity.{seal}
 use Rattle.parity.proofs.Seal.{seal-none, seal-more, seal-below}
 use Rattle.parity.proofs.seal_of.Statement.{statement}

@@ -8,7 +8,7 @@ use native.Mathlib.Numerals.{add-one}
 use native.Mathlib.Omega.{arith}
 use lib.ListN.{getD}
 use Rattle.positions.specs.Zones.{latitudes, first}
-use Rattle.positions.proofs.Table.{left, passed, reached, not-above}
+use Rattle.positions.proofs.Latitudes.{left, passed, reached, not-above}
 use Rattle.positions.proofs.zone_count.Statement.{statement}
 use Rattle.positions.proofs.zone_count.Tie as tie
 

@@ -4,9 +4,9 @@ use mathlib.Core.Path.{_≡_, refl, sym, ap, _∙_}
 use Rattle.messages.specs.declared.Accepted.the-variants as accept
 use Rattle.messages.specs.Accepted.{accepted, openedAs}
 use Rattle.messages.proofs.Acceptance.{accepted-opened}
-use Rattle.offsets.proofs.Counts.{whole-head}
-use Rattle.lent.proofs.Parts.{whole}
-use Rattle.lent.proofs.Places.{moved-length}
+use Rattle.memory.proofs.Counts.{whole-head}
+use Rattle.table_bytes.proofs.Parts.{whole}
+use Rattle.table_bytes.proofs.Places.{moved-length}
 use Rattle.table.specs.Heard.{heard}
 use Rattle.table.proofs.Answers.{deliver-refused, receive-length, receive-size, receive-late, receive-on}
 use borrow.Author.Needs.{needs}

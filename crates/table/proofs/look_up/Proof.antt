@@ -1,6 +1,6 @@
 -- `table::look_up` meets its contract: its three ways out are the definition's.
 -- Assumes nothing.
-use Rattle.lent.proofs.Parts.{whole}
+use Rattle.table_bytes.proofs.Parts.{whole}
 use Rattle.table.proofs.Answers.{look-size, look-found, look-none}
 use borrow.Author.Needs.{needs}
 use Rattle.table.proofs.look_up.Statement.{statement}

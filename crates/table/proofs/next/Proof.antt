@@ -1,6 +1,6 @@
 -- `table::next` meets its contract: its two ways out are the definition's.
 -- Assumes nothing.
-use Rattle.lent.proofs.Parts.{whole}
+use Rattle.table_bytes.proofs.Parts.{whole}
 use Rattle.table.proofs.Answers.{next-size, next-on}
 use borrow.Author.Needs.{needs}
 use Rattle.table.proofs.next.Statement.{statement}

@@ -6,8 +6,8 @@ use mir.Syntax.{w32}
 use mathlib.Core.Path.{ap, sym, _∙_}
 use borrow.Author.Tests.{not-false}
 use Rattle.positions.specs.Positions.{poleToPole}
-use Rattle.offsets.proofs.Counts.{whole-head}
-use Rattle.lent.proofs.Parts.{whole}
+use Rattle.memory.proofs.Counts.{whole-head}
+use Rattle.table_bytes.proofs.Parts.{whole}
 use Rattle.table.proofs.Answers.{site-size, site-pole, site-on}
 use borrow.Author.Needs.{needs}
 use Rattle.table.proofs.set_up_at.Statement.{statement}

@@ -1,9 +1,9 @@
 -- `table::step_at` meets its contract: a step by ME and a store, with the site that the head has.
 -- Assumes nothing.
 use mathlib.Core.Path.{ap, _∙_}
-use Rattle.located.specs.declared.Site.{Site}
+use Rattle.whereabouts.specs.declared.Site.{Site}
 use Rattle.track.specs.Track.{stepMe}
-use Rattle.lent.specs.Layout.{stored}
+use Rattle.table_bytes.specs.Layout.{stored}
 use borrow.Author.Needs.{needs}
 use Rattle.table.proofs.step_at.Statement.{statement}
 use Rattle.table.proofs.step_at.Tie as tie

@@ -1,4 +1,4 @@
--- `addercoil_feed_block` meets its contract: an array of a wrong length, or what the feeding answers and leaves.
+-- `addercoil::lines::addercoil_feed_block` meets its contract: an array of a wrong length, or what the feeding answers and leaves.
 -- Assumes nothing.
 use borrow.Author.Tests.{ne-eqb}
 use Rattle.addercoil.proofs.Reported.{fed-on}

@@ -1,4 +1,4 @@
--- `addercoil_clock` meets its contract: an array of a wrong length, the clock, or the refusal.
+-- `addercoil::tables::addercoil_clock` meets its contract: an array of a wrong length, the clock, or the refusal.
 -- Assumes nothing.
 use mathlib.Core.Path.{refl}
 use Rattle.addercoil.specs.Tables.{clockSaid}

@@ -1,4 +1,4 @@
--- `addercoil_next` meets its contract: an array of a wrong length, the key, the end, or the refusal.
+-- `addercoil::tables::addercoil_next` meets its contract: an array of a wrong length, the key, the end, or the refusal.
 -- Assumes nothing.
 use mathlib.Core.Path.{refl}
 use Rattle.addercoil.specs.Tables.{nextSaid}

@@ -1,4 +1,4 @@
--- `addercoil_set_up` meets its contract: the number of what the table answers, and the table that it leaves.
+-- `addercoil::tables::addercoil_set_up` meets its contract: the number of what the table answers, and the table that it leaves.
 -- Assumes nothing.
 use Rattle.addercoil.specs.Tables.{setUpNumber, setUpSent}
 use Rattle.addercoil.proofs.Ways.{left-as}

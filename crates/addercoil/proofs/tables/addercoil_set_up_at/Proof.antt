@@ -1,4 +1,4 @@
--- `addercoil_set_up_at` meets its contract: the number of what the table answers, and the table that it leaves.
+-- `addercoil::tables::addercoil_set_up_at` meets its contract: the number of what the table answers, and the table that it leaves.
 -- Assumes nothing.
 use mir.Facts.{toZ-ofZ}
 use Rattle.addercoil.specs.Tables.{setUpNumber, setUpSent}

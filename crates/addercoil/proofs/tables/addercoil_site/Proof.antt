@@ -1,4 +1,4 @@
--- `addercoil_site` meets its contract: an array of a wrong length, the site, or the refusal.
+-- `addercoil::tables::addercoil_site` meets its contract: an array of a wrong length, the site, or the refusal.
 -- Assumes nothing.
 use mathlib.Core.Path.{refl}
 use Rattle.addercoil.specs.Tables.{siteSaid}

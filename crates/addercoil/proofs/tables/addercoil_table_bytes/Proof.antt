@@ -1,4 +1,4 @@
--- `addercoil_table_bytes` meets its contract: its test is the definition's.
+-- `addercoil::tables::addercoil_table_bytes` meets its contract: its test is the definition's.
 -- Assumes nothing.
 use Prim.Native.Nat.{ℕ, _≤_}
 use mathlib.Core.Path.{_≡_}
@@ -6,7 +6,7 @@ use mathlib.Core.Bool.{Bool, true, false, _&&_}
 use native.Mathlib.Omega.{arith}
 use borrow.Author.Tests.{leb-true}
 use lib.Dec.{leb}
-use Rattle.offsets.specs.Offsets.{mostPlaces}
+use Rattle.memory.specs.Offsets.{mostPlaces}
 use Rattle.addercoil.proofs.tables.addercoil_table_bytes.Statement.{statement}
 use Rattle.addercoil.proofs.tables.addercoil_table_bytes.Tie as tie
 

@@ -1,8 +1,8 @@
 -- `place::write::put_messages` meets its contract: three stores in a row.
 -- Assumes nothing.
 use Rattle.place.specs.Place.{messageBytes}
-use Rattle.words.proofs.Numbers.{low-length}
-use Rattle.words.proofs.Put.{put-then, put-after}
+use Rattle.memory.proofs.Numbers.{low-length}
+use Rattle.memory.proofs.Put.{put-then, put-after}
 use borrow.Author.Needs.{needs}
 use Rattle.place.proofs.write.put_messages.Statement.{statement}
 use Rattle.place.proofs.write.put_messages.Tie as tie

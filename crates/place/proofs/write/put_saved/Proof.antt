@@ -1,10 +1,10 @@
 -- `place::write::put_saved` meets its contract: two stores in a row.
 -- Assumes nothing.
 use mathlib.Core.Path.{ap}
-use Rattle.words.specs.Bytes.{lowBytes}
+use Rattle.memory.specs.Bytes.{lowBytes}
 use Rattle.place.specs.Place.{savedBytes}
-use Rattle.words.proofs.Numbers.{low-length}
-use Rattle.words.proofs.Put.{put-then, put-same}
+use Rattle.memory.proofs.Numbers.{low-length}
+use Rattle.memory.proofs.Put.{put-then, put-same}
 use borrow.Author.Needs.{needs}
 use Rattle.place.proofs.write.put_saved.Statement.{statement}
 use Rattle.place.proofs.write.put_saved.Tie as tie

@@ -1,11 +1,11 @@
 -- `place::write::store` meets its contract: six stores in a row.
 -- Assumes nothing.
 use mathlib.Core.Path.{ap}
-use Rattle.offsets.specs.Offsets.{identificationAt, marksAt, latitudeAt, evenAt, messagesSize, spotSize, savedSize}
-use Rattle.words.specs.Bytes.{lowBytes}
+use Rattle.memory.specs.Offsets.{identificationAt, marksAt, latitudeAt, evenAt, messagesSize, spotSize, savedSize}
+use Rattle.memory.specs.Bytes.{lowBytes}
 use Rattle.place.specs.Place.{bodyOf}
-use Rattle.words.proofs.Numbers.{low-length}
-use Rattle.words.proofs.Put.{put-then, put-after, put-same}
+use Rattle.memory.proofs.Numbers.{low-length}
+use Rattle.memory.proofs.Put.{put-then, put-after, put-same}
 use Rattle.place.proofs.Sizes.{saved-length, message-length, spot-length}
 use borrow.Author.Needs.{needs}
 use Rattle.place.proofs.write.store.Statement.{statement}

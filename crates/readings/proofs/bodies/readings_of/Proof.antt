@@ -1,4 +1,4 @@
--- `readings::readings_of` meets its contract: in each arm the answer is that of the arm's layout.
+-- `readings::bodies::readings_of` meets its contract: in each arm the answer is that of the arm's layout.
 -- Assumes nothing.
 use mathlib.Core.Path.{sym, ap, _∙_}
 use Rattle.readings.specs.Bodies.{readingsOf}

@@ -1,4 +1,4 @@
--- `text::numbers::put_decimal` meets its contract: the digits but the last are those of a tenth, which is smaller.
+-- `text::numbers::+put_decimal` meets its contract: the digits but the last are those of a tenth, which is smaller.
 -- Assumes nothing.
 use mathlib.Core.Path.{sym, ap}
 use native.Mathlib.Omega.{arith}

@@ -1,4 +1,4 @@
--- `text::numbers::put_hex` meets its contract: the digits but the last are those of a sixteenth, one fewer.
+-- `text::numbers::+put_hex` meets its contract: the digits but the last are those of a sixteenth, one fewer.
 -- Assumes nothing.
 use mathlib.Core.Path.{sym, ap}
 use mathlib.Core.List.{[], _∷_}

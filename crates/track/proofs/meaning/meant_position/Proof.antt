@@ -6,8 +6,8 @@ use native.Mathlib.Omega.{arith}
 use mathlib.Core.Path.{_≡_, refl}
 use mathlib.Core.Bool.{Bool, true, false, cond}
 use lib.IntN.{pos}
-use Rattle.located.specs.declared.Position.{Position}
-use Rattle.located.specs.Located.{noPosition}
+use Rattle.whereabouts.specs.declared.Position.{Position}
+use Rattle.whereabouts.specs.Located.{noPosition}
 use Rattle.track.specs.Meaning.{meantPosition}
 use borrow.Author.Needs.{needs}
 use Rattle.track.proofs.meaning.meant_position.Statement.{statement}

@@ -2,7 +2,7 @@
 -- Assumes nothing.
 use mathlib.Core.Path.{_≡_, refl}
 use mathlib.Core.Bool.{Bool, true, false, cond}
-use Rattle.located.specs.declared.Saved.{Saved}
+use Rattle.whereabouts.specs.declared.Saved.{Saved}
 use Rattle.track.specs.Track.{noSaved}
 use Rattle.track.specs.Meaning.{meantSaved}
 use borrow.Author.Needs.{needs}

@@ -1,0 +1,53 @@
+-- `addercoil::spots::give_counts` meets its contract: by what the encoder answers.
+-- Assumes nothing.
+use mathlib.Core.Path.{refl}
+use Rattle.addercoil.specs.Spots.{countsSaid}
+use Rattle.addercoil.proofs.Ways.{given-as, given-number}
+use borrow.Author.Needs.{needs}
+use Rattle.addercoil.proofs.spots.give_counts.Statement.{statement}
+use Rattle.addercoil.proofs.spots.give_counts.Tie as tie
+
+enum-known-answer : tie.Need-enum-known-answer
+enum-known-answer c = search needs
+
+cast-t9 : tie.Need-cast-t9
+cast-t9 c = search needs
+
+cast-t10 : tie.Need-cast-t10
+cast-t10 c = search needs
+
+slice-aggregate-give : tie.Need-slice-aggregate-give
+slice-aggregate-give c = search needs
+
+give-requires : tie.Need-give-requires
+give-requires c κs = search needs
+
+enum-known-answer-2 : tie.Need-enum-known-answer-2
+enum-known-answer-2 c = search needs
+
+number-requires : tie.Need-number-requires
+number-requires c κs = search needs
+
+same-length : tie.Need-same-length
+same-length c = search needs
+
+returns : tie.Need-returns
+returns c = given-as countsSaid _ (c .before .before .before .before .before .before .before .before .answer .given .1) (c .before .before .give .ensures)
+
+returns-2 : tie.Need-returns-2
+returns-2 c = given-number countsSaid _ (c .before .before .answer2 .given .1) refl (c .number .ensures)
+
+pub give-counts-spec : {M : Type 1} → statement M
+give-counts-spec =
+    tie.close
+    (tie.spec
+    enum-known-answer
+    cast-t9
+    cast-t10
+    slice-aggregate-give
+    give-requires
+    enum-known-answer-2
+    number-requires
+    same-length
+    returns
+    returns-2)

@@ -1,0 +1,90 @@
+// A track and a message as rows of numbers, and a message back from its row.
+use crate::give::give;
+use encoder::Encoded;
+use messages::Decoded;
+use rules::Holding;
+use track::Track;
+ghost use mathlib.Core.Path.{_≡_};
+ghost use Rattle.messages.specs.Message.{decoded};
+ghost use Rattle.table.specs.Table.{lookedUp};
+ghost use Rattle.addercoil.specs.Sent.{sent, given, into};
+ghost use Rattle.addercoil.specs.Messages.{heldSaid, lookedSaid, messageSaid, encodedNumber, encodedAs, encodedFrom};
+
+fn give_held(out: &mut [u64], t: Track, answer: Holding) -> u32
+    ensures { λ r. ⌜ sent r (now (out .exit)) ≡ given (now (out .entry)) (heldSaid t answer) ⌝ }
+{
+    match answer {
+        Holding::Held => {
+            let row = rows::track_values(t);
+            give(out, &row)
+        }
+        Holding::Unheld => give(out, &[0]),
+        Holding::Refused(r) => refusals::number(r),
+    }
+}
+
+// The track of a key, zeros if it is not held, into 23 entries. Or 1, then 7.
+#[no_mangle]
+pub extern "C" fn addercoil_look_up(table: &[u8], key: u32, out: &mut [u64]) -> u32
+    ensures { λ r. ⌜ sent r (now (out .exit)) ≡ into 23 (now (out .entry)) (lookedSaid (lookedUp (now (table .entry)) key)) ⌝ }
+{
+    if out.len() != 23 {
+        return 1;
+    }
+    let looked = table::look_up(table, key);
+    let answer = looked.answer;
+    let track = looked.track;
+    give_held(out, track, answer)
+}
+
+fn give_message(out: &mut [u64], answer: Decoded) -> u32
+    ensures { λ r. ⌜ sent r (now (out .exit)) ≡ given (now (out .entry)) (messageSaid answer) ⌝ }
+{
+    match answer {
+        Decoded::Message(m) => {
+            let row = rows::message_values(m);
+            give(out, &row)
+        }
+        Decoded::Refused(r) => refusals::number(r),
+    }
+}
+
+// What a message says, into 28 entries. Or 1, then 3, 4, 5.
+#[no_mangle]
+pub extern "C" fn addercoil_decode(message: &[u8], fields: &mut [u64]) -> u32
+    ensures { λ r. ⌜ sent r (now (fields .exit)) ≡ into 28 (now (fields .entry)) (messageSaid (decoded (now (message .entry)))) ⌝ }
+{
+    if fields.len() != 28 {
+        return 1;
+    }
+    give_message(fields, messages::decode(message))
+}
+
+fn encoded_number(answer: Encoded) -> u32
+    ensures { λ r. ⌜ r ≡ encodedNumber answer ⌝ }
+{
+    match answer {
+        Encoded::Written => 0,
+        Encoded::Refused(r) => refusals::number(r),
+    }
+}
+
+fn encode_into(out: &mut [u8], answer: Decoded) -> u32
+    ensures { λ r. ⌜ sent r (now (out .exit)) ≡ encodedAs (now (out .entry)) answer ⌝ }
+{
+    match answer {
+        Decoded::Message(m) => encoded_number(encoder::encode(m, out)),
+        Decoded::Refused(r) => refusals::number(r),
+    }
+}
+
+// The 14 bytes that say what the fields say; the key and the readings are not read. Or 1, then 8.
+#[no_mangle]
+pub extern "C" fn addercoil_encode(fields: &[u64], message: &mut [u8]) -> u32
+    ensures { λ r. ⌜ sent r (now (message .exit)) ≡ encodedFrom (now (fields .entry)) (now (message .entry)) ⌝ }
+{
+    if (fields.len() != 28) | (message.len() != 14) {
+        return 1;
+    }
+    encode_into(message, rows::message_from(fields))
+}

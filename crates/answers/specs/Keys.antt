@@ -1,9 +1,0 @@
--- The next key, of a number that is 0 where there is none.
-use Prim.Native.Nat.{ℕ}
-use mathlib.Core.Bool.{cond}
-use lib.Dec.{eqb}
-use Rattle.answers.specs.declared.NextKey.{NextKey}
-use Rattle.answers.specs.declared.NextKey.the-variants as next
-
-abbrev pub keyOrEnd : ℕ → NextKey
-keyOrEnd key = cond (eqb key 0) next.End (next.Key key)

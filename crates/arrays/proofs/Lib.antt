@@ -1,3 +1,0 @@
-pub mod Filling
-pub mod Twos
-pub mod Unique

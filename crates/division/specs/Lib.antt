@@ -1,2 +1,0 @@
-pub mod Division
-pub mod Table

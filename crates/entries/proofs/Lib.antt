@@ -1,0 +1,4 @@
+pub mod Filling
+pub mod Refusing
+pub mod Twos
+pub mod Unique

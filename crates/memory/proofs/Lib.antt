@@ -1,0 +1,5 @@
+pub mod Counts
+pub mod Edges
+pub mod Numbers
+pub mod Put
+pub mod Unique

@@ -1,0 +1,86 @@
+-- No reading in a row is a refusal, of a decoded message or of a track with codes of 12 bits: the fields fit, so each reading gives something, and only a refusal is 5.
+-- Assumes nothing.
+use Prim.Native.Nat.{ℕ, _<_}
+use mathlib.Core.Path.{_≡_, refl, sym, subst⁻¹}
+use mathlib.Core.Bool.{true, _&&_}
+use mathlib.Core.List.{List}
+use native.Mathlib.Omega.{arith}
+use lib.ListN.{getD}
+use contract.Lifetimes.{Lfts}
+use denote.Triple.Clauses.{AtExit}
+use borrow.Fn.Kinds.{Dens, resT, endedOf}
+use Rattle.fields.specs.Bytes.{Bytes}
+use Rattle.fields.specs.Packing.{fits}
+use Rattle.fields.proofs.Bools.{and-right}
+use Rattle.layouts.specs.declared.bodies.Body.{Body}
+use Rattle.layouts.specs.declared.bodies.Body.the-variants as body
+use Rattle.layouts.specs.Bodies.{bodyFits}
+use Rattle.readings.specs.Bodies.{identificationMeans, surfaceMeans, airborneMeans, groundMeans, airMeans, bodyReadings, readingsOf}
+use Rattle.readings.specs.declared.bodies.Readings.{Readings}
+use Rattle.readings.specs.Altitude.{altitudeOf}
+use Rattle.readings.proofs.Promised.{altitude-known, fitting-given}
+use Rattle.readings.proofs.Whole.{read}
+use Rattle.entries.proofs.Refusing.{altitude-given, speed-given, rate-given, difference-given, heading-given, movement-given, set-given, text-given}
+use Rattle.messages.specs.declared.Message.{Message}
+use Rattle.messages.specs.declared.Decoded.the-variants as decode
+use Rattle.messages.specs.Message.{headWidths, headFields, formatTaken, messageFits, decoded}
+use Rattle.messages.proofs.BothWays.{decoded-good}
+use Rattle.track.specs.declared.Track.{Track}
+use Rattle.rows.specs.declared.message.Four.{Four}
+use Rattle.rows.specs.Rows.{rowOf, bodyRow, fourOf, messageRow, NoneRefused}
+use Rattle.rows.specs.Tracks.{trackRow}
+use Rattle.rows.proofs.message.message_values.Kinds as message-values-kinds
+use Rattle.rows.proofs.message.message_values.Reads as message-values
+
+-- what each of four readings is
+abbrev Given4 : Four → Type 0
+Given4 f = (f .first .what < 5) × (f .second .what < 5) × (f .third .what < 5) × (f .fourth .what < 5)
+
+given : (b : Body) → bodyFits b ≡ true → Given4 (fourOf (bodyReadings b))
+given (body.Identification b) e =
+    let g = fitting-given (body.Identification b) e in
+    let r = identificationMeans b in
+    (set-given (r .set) (g .0), text-given (r .text) (g .1), omega arith, omega arith)
+given (body.Surface b) e =
+    let g = fitting-given (body.Surface b) e in
+    let r = surfaceMeans b in
+    (movement-given (r .movement) (g .0), heading-given (r .heading) (g .1), omega arith, omega arith)
+given (body.Airborne b) e =
+    let r = airborneMeans b in
+    (altitude-given (r .altitude) (fitting-given (body.Airborne b) e), omega arith, omega arith, omega arith)
+given (body.Ground b) e =
+    let g = fitting-given (body.Ground b) e in
+    let r = groundMeans b in
+    (speed-given (r .east) (g .0), speed-given (r .north) (g .1), rate-given (r .rate) (g .2), difference-given (r .difference) (g .3))
+given (body.Air b) e =
+    let g = fitting-given (body.Air b) e in
+    let r = airMeans b in
+    (heading-given (r .heading) (g .0), speed-given (r .airspeed) (g .1), rate-given (r .rate) (g .2), difference-given (r .difference) (g .3))
+
+-- where the readings stand in a row
+in-row : (m : Message) (b : Body) (f : Four) → Given4 f → NoneRefused (bodyRow m b f)
+unfolding rowOf
+in-row m (body.Identification b) f g = g
+in-row m (body.Surface b) f g = g
+in-row m (body.Airborne b) f g = g
+in-row m (body.Ground b) f g = g
+in-row m (body.Air b) f g = g
+
+pub never-refused : (s : List ℕ) (m : Message) → Bytes s → decoded s ≡ decode.Message m → NoneRefused (messageRow m)
+never-refused s m h d =
+    let a = fits headWidths (headFields m) && formatTaken (m .format) (m .control) in
+    let e = and-right a (bodyFits (m .body)) (decoded-good s m h d .0) in
+    in-row m (m .body) (fourOf (readingsOf (m .body))) (subst⁻¹ (λ (r : Readings). Given4 (fourOf r)) (read (m .body) true (sym e) refl) (given (m .body) e))
+
+-- and so of whatever meets the contract of `message_values`
+pub message-values-never-refused : (κs : Lfts 0) (args : Dens κs message-values-kinds.ps) (x : resT message-values-kinds.r κs .Denot)
+    (left : AtExit (endedOf 0 message-values-kinds.ps message-values-kinds.r) κs) → message-values.Post κs args x left
+    → (s : List ℕ) → Bytes s → decoded s ≡ decode.Message (args .0) → NoneRefused x
+message-values-never-refused κs args x left p s h d = subst⁻¹ NoneRefused p (never-refused s (args .0) h d)
+
+pub track-never-refused : (t : Track) → t .groups .pressure < 4096 → t .groups .height < 4096 → (getD (trackRow t) 19 0 < 5) × (getD (trackRow t) 21 0 < 5)
+unfolding trackRow
+track-never-refused t p h =
+    let pressure = t .groups .pressure in
+    let height = t .groups .height in
+    (altitude-given (altitudeOf pressure) (altitude-known pressure p), altitude-given (altitudeOf height) (altitude-known height h))

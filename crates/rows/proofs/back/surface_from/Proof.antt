@@ -1,0 +1,46 @@
+-- `rows::back::surface_from` meets its contract: each number is the definition's.
+-- Assumes nothing.
+use borrow.Author.Needs.{needs}
+use Rattle.rows.proofs.back.surface_from.Statement.{statement}
+use Rattle.rows.proofs.back.surface_from.Tie as tie
+
+byte-at-requires : tie.Need-byte-at-requires
+byte-at-requires c κs = search needs
+
+byte-at-requires-2 : tie.Need-byte-at-requires-2
+byte-at-requires-2 c κs = search needs
+
+byte-at-requires-3 : tie.Need-byte-at-requires-3
+byte-at-requires-3 c κs = search needs
+
+byte-at-requires-4 : tie.Need-byte-at-requires-4
+byte-at-requires-4 c κs = search needs
+
+byte-at-requires-5 : tie.Need-byte-at-requires-5
+byte-at-requires-5 c κs = search needs
+
+byte-at-requires-6 : tie.Need-byte-at-requires-6
+byte-at-requires-6 c κs = search needs
+
+word-at-requires : tie.Need-word-at-requires
+word-at-requires c κs = search needs
+
+word-at-requires-2 : tie.Need-word-at-requires-2
+word-at-requires-2 c κs = search needs
+
+returns : tie.Need-returns
+returns c = rw (c .word-at2 .ensures, c .before .word-at .ensures, c .before .before .byte-at6 .ensures, c .before .before .before .byte-at5 .ensures, c .before .before .before .before .byte-at4 .ensures, c .before .before .before .before .before .byte-at3 .ensures, c .before .before .before .before .before .before .byte-at2 .ensures, c .before .before .before .before .before .before .before .byte-at .ensures)
+
+pub surface-from-spec : {M : Type 1} → statement M
+surface-from-spec =
+    tie.close
+    (tie.spec
+    byte-at-requires
+    byte-at-requires-2
+    byte-at-requires-3
+    byte-at-requires-4
+    byte-at-requires-5
+    byte-at-requires-6
+    word-at-requires
+    word-at-requires-2
+    returns)

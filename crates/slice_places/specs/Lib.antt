@@ -1,0 +1,4 @@
+pub mod Arrivals
+pub mod Decided
+pub mod Head
+pub mod Ranges

@@ -1,0 +1,82 @@
+// Whether a place is held: each of its values in its range, and its track in date.
+use crate::Place;
+use positions::Counts;
+use positions::Spot;
+use track::Groups;
+use track::Track;
+ghost use mathlib.Core.Path.{_≡_};
+ghost use Rattle.memory.specs.Ranges.{inDate};
+ghost use Rattle.positions.specs.Positions.{poleToPole};
+ghost use Rattle.slice_places.specs.Ranges.{groupsFit, countsFit, trackFits, inRange, isHeld, holds};
+
+fn groups_fit(g: Groups) -> bool
+    ensures { λ r. ⌜ r ≡ groupsFit g ⌝ }
+{
+    (g.identification < 72057594037927936)
+        & (g.velocity < 72057594037927936)
+        & (g.surface < 72057594037927936)
+        & (g.pressure < 4096)
+        & (g.height < 4096)
+}
+
+fn counts_fit(c: Counts) -> bool
+    ensures { λ r. ⌜ r ≡ countsFit c ⌝ }
+{
+    (c.latitude.0 < 131072) & (c.longitude.0 < 131072)
+}
+
+pub(crate) fn pole_to_pole(spot: Spot) -> bool
+    ensures { λ r. ⌜ r ≡ poleToPole (spot .latitude) ⌝ }
+{
+    signs::size_of(signs::widen(spot.latitude)) <= 1073741824
+}
+
+fn track_fits(t: Track) -> bool
+    ensures { λ r. ⌜ r ≡ trackFits t ⌝ }
+{
+    let g = t.groups;
+    let p = t.position;
+    let spot = p.spot;
+    let saved = t.saved;
+    let even = saved[0];
+    let odd = saved[1];
+    let first = even.counts;
+    let second = odd.counts;
+    groups_fit(g) & pole_to_pole(spot) & counts_fit(first) & counts_fit(second)
+}
+
+fn in_range(p: Place) -> bool
+    ensures { λ r. ⌜ r ≡ inRange p ⌝ }
+{
+    let t = p.track;
+    keys::is_key(p.key) & track_fits(t)
+}
+
+// A time after the clock has age 0.
+fn is_in_date(clock: u64, heard: u64) -> bool
+    ensures { λ r. ⌜ r ≡ inDate clock heard ⌝ }
+{
+    if clock < heard {
+        true
+    } else {
+        clock - heard < 125000
+    }
+}
+
+pub fn is_held(clock: u64, p: Place) -> bool
+    ensures { λ r. ⌜ r ≡ isHeld clock p ⌝ }
+{
+    let t = p.track;
+    in_range(p) & is_in_date(clock, t.heard)
+}
+
+// Ranges and age are tested only where the key is equal.
+pub fn has_key(clock: u64, key: u32, p: Place) -> bool
+    ensures { λ r. ⌜ r ≡ holds clock key p ⌝ }
+{
+    if p.key == key {
+        is_held(clock, p)
+    } else {
+        false
+    }
+}

@@ -1,0 +1,37 @@
+-- The scan of the places: the lowest one held with a key, and the lowest free one.
+use Prim.Native.Nat.{ℕ, suc}
+use mathlib.Core.Bool.{Bool, cond, not}
+use mathlib.Core.List.{List}
+use lib.Dec.{ltb}
+use lib.ListN.{getD}
+use Rattle.rules.specs.Search.{lowest}
+use Rattle.slice_places.specs.declared.Place.{Place}
+use Rattle.slice_places.specs.declared.Sought.{Sought}
+use Rattle.slice_places.specs.Ranges.{noPlace, isHeld, holds}
+use Rattle.slice_table.specs.declared.Found.{Found}
+
+abbrev pub noneFound : Found
+noneFound = record { own = 0; free = 0 }
+
+-- the lowest number so far, or else the next one if it passes
+abbrev pub further : ℕ → ℕ → Bool → ℕ
+further best i passes = cond (ltb best i) best (cond passes i (suc i))
+
+unfoldable pub visited : Found → Place → ℕ → Sought → Found
+visited found p i s =
+    record {
+      own = further (found .own) i (holds (s .clock) (s .key) p);
+      free = further (found .free) i (not (isHeld (s .clock) p));
+    }
+
+-- the lowest of the first n places held with the key, and the lowest free one
+unfoldable pub scanned : List Place → Sought → ℕ → Found
+scanned ps s n =
+    record {
+      own = lowest (λ i. holds (s .clock) (s .key) (getD ps i noPlace)) n;
+      free = lowest (λ i. not (isHeld (s .clock) (getD ps i noPlace))) n;
+    }
+
+-- of n places the key's, or else a free one
+abbrev pub chosen : Found → ℕ → ℕ
+chosen found n = cond (ltb (found .own) n) (found .own) (found .free)

@@ -1,0 +1,27 @@
+-- What the scan tests, some places at a time, and where a message goes.
+use Prim.Native.Nat.{ℕ, zero, suc, _+_, _*_}
+use mathlib.Core.Bool.{Bool, true, false, cond, not, _&&_}
+use mathlib.Core.List.{List}
+use lib.Dec.{eqb, ltb}
+use Rattle.memory.specs.Offsets.{keySize}
+use Rattle.memory.specs.Bytes.{numberAt}
+pub use Rattle.rules.specs.Search.{lowest}
+use Rattle.table_bytes.specs.declared.scan.Target.{Target}
+use Rattle.table_bytes.specs.Layout.{Place, isHeld, holds}
+
+-- none of m keys from an offset on is the key
+abbrev pub noneOf : ℕ → List ℕ → ℕ → ℕ → Bool
+noneOf zero s at key = true
+noneOf (suc m) s at key = noneOf m s at key && not (eqb (numberAt 4 s (at + keySize * m)) key)
+
+-- each of m places from i on is held
+abbrev pub allHeld : ℕ → (ℕ → Place) → ℕ → ℕ → Bool
+allHeld zero f i clock = true
+allHeld (suc m) f i clock = allHeld m f i clock && isHeld clock (f (i + m))
+
+-- the key's place, else the lowest free one; n if there is none
+abbrev pub target : (ℕ → Place) → ℕ → ℕ → ℕ → Target
+target f n clock i = cond (ltb i n) (record { held = true; at = i }) (record { held = false; at = lowest (λ j. not (isHeld clock (f j))) n })
+
+abbrev pub targetOf : (ℕ → Place) → ℕ → ℕ → ℕ → Target
+targetOf f n clock key = target f n clock (lowest (λ j. holds clock key (f j)) n)

@@ -1,0 +1,45 @@
+-- `whereabouts::after_pair` meets its contract: each arm is the definition's.
+-- Assumes nothing.
+use mathlib.Core.Path.{sym, ap, _∙_}
+use Rattle.positions.specs.declared.Found.{Found}
+use Rattle.whereabouts.specs.declared.Placed.the-variants as placed
+use Rattle.whereabouts.specs.Located.{afterPair}
+use borrow.Author.Needs.{needs}
+use Rattle.whereabouts.proofs.after_pair.Statement.{statement}
+use Rattle.whereabouts.proofs.after_pair.Tie as tie
+
+enum-known-found : tie.Need-enum-known-found
+enum-known-found c = search needs
+
+found-at-requires : tie.Need-found-at-requires
+found-at-requires c κs = search needs
+
+enum-known-found-2 : tie.Need-enum-known-found-2
+enum-known-found-2 c = search needs
+
+read-singly-requires : tie.Need-read-singly-requires
+read-singly-requires c κs = search needs
+
+pass-on-requires : tie.Need-pass-on-requires
+pass-on-requires c κs = search needs
+
+returns : tie.Need-returns
+returns c =
+    let a = c .before .before .before .before .args in
+    ap placed.At (c .found-at .ensures)
+    ∙ sym (ap (λ (x : Found). afterPair x (a .p) (a .counts) (a .format) (a .time)) (c .before .before .found .given .1))
+
+returns-2 : tie.Need-returns-2
+returns-2 c = rw (c .pass-on .ensures, c .before .read-singly .ensures, c .before .before .before .found2 .given .1)
+
+pub after-pair-spec : {M : Type 1} → statement M
+after-pair-spec =
+    tie.close
+    (tie.spec
+    enum-known-found
+    found-at-requires
+    enum-known-found-2
+    read-singly-requires
+    pass-on-requires
+    returns
+    returns-2)

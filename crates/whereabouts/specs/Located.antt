@@ -1,0 +1,80 @@
+-- Where a message puts its aircraft: by its partner, by one reference, or nowhere new. Values out of their range earn 8 where they are read, and it is passed on.
+use Prim.Native.Nat.{ℕ, _-_}
+use mathlib.Core.Bool.{Bool, true, false, cond, _&&_}
+use lib.Dec.{leb, eqb}
+use lib.IntN.{pos}
+use Rattle.refusals.specs.declared.Refusal.{Refusal}
+use Rattle.refusals.specs.Numbers.{numberOf}
+use Rattle.positions.specs.declared.Counts.{Counts}
+use Rattle.positions.specs.declared.Spot.{Spot}
+use Rattle.positions.specs.declared.Turn.{Turn}
+use Rattle.positions.specs.declared.Turn.the-variants.{Airborne, Surface}
+use Rattle.positions.specs.declared.Format.{Format}
+use Rattle.positions.specs.declared.Format.the-variants.{Even, Odd}
+use Rattle.positions.specs.declared.Found.{Found}
+use Rattle.positions.specs.declared.Found.the-variants.{At, Refused}
+use Rattle.positions.specs.Positions.{paired, singly}
+use Rattle.whereabouts.specs.declared.Saved.{Saved}
+use Rattle.whereabouts.specs.declared.Position.{Position}
+use Rattle.whereabouts.specs.declared.Site.{Site}
+use Rattle.whereabouts.specs.declared.Placed.{Placed}
+use Rattle.whereabouts.specs.declared.Placed.the-variants as placed
+
+abbrev pub noPosition : Position
+noPosition = record { known = false; spot = record { latitude = pos 0; longitude = 0 }; time = 0 }
+
+abbrev pub noSite : Site
+noSite = record { known = false; spot = record { latitude = pos 0; longitude = 0 } }
+
+-- a time is at most so old; one after the clock has age 0
+abbrev pub isWithin : ℕ → ℕ → ℕ → Bool
+isWithin most clock time = leb (clock - time) most
+
+-- the track's position, if at most 120,000 old
+abbrev pub isFresh : Position → ℕ → Bool
+isFresh p clock = p .known && isWithin 120000 clock (p .time)
+
+-- a position found takes the message's time
+abbrev pub foundAt : Spot → ℕ → Position
+foundAt spot time = record { known = true; spot = spot; time = time }
+
+-- 8 is passed on; of another number something else comes
+abbrev pub passedOn : Refusal → Placed → Placed
+passedOn r other = cond (eqb (numberOf r) 8) (placed.Refused r) other
+
+-- on 9 the position stays
+abbrev pub settled : Found → Position → ℕ → Placed
+settled (At spot) p time = placed.At (foundAt spot time)
+settled (Refused r) p time = passedOn r (placed.At p)
+
+-- read singly against a reference
+unfoldable pub readNear : Spot → Position → Counts → Turn → Format → ℕ → Placed
+readNear reference p counts turn format time = settled (singly 131072 reference counts turn format) p time
+
+-- an airborne message is read singly against the track's position if at most 120,000 old; otherwise the position stays
+unfoldable pub readSingly : Position → Counts → Format → ℕ → Placed
+readSingly p counts format time = cond (isFresh p time) (readNear (p .spot) p counts Airborne format time) (placed.At p)
+
+-- the later message is the one being processed
+unfoldable pub pairedWith : Counts → Counts → Format → Found
+pairedWith partner counts Even = paired 131072 counts partner Even
+pairedWith partner counts Odd = paired 131072 partner counts Odd
+
+-- on 9 or 10 it is read singly
+abbrev pub afterPair : Found → Position → Counts → Format → ℕ → Placed
+afterPair (At spot) p counts format time = placed.At (foundAt spot time)
+afterPair (Refused r) p counts format time = passedOn r (readSingly p counts format time)
+
+-- an airborne message is paired with the other one if that is at most 10,000 old; failing that it is read singly
+unfoldable pub airbornePosition : Position → Saved → Counts → Format → ℕ → Placed
+airbornePosition p partner counts format time =
+    cond (partner .known && isWithin 10000 time (partner .time))
+    (afterPair (pairedWith (partner .counts) counts format) p counts format time)
+    (readSingly p counts format time)
+
+-- a surface message is read singly against the track's position within 120,000, else the site, else not at all; on 9 the position stays
+unfoldable pub surfacePosition : Position → Site → Counts → Format → ℕ → Placed
+surfacePosition p site counts format time =
+    cond (isFresh p time) (readNear (p .spot) p counts Surface format time)
+    (cond (site .known) (readNear (site .spot) p counts Surface format time)
+    (placed.At p))
