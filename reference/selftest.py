@@ -84,6 +84,17 @@ def parity_laws():
         rest = chance.getrandbits(24)
         whole = (product ^ rest).to_bytes(length + 4, "big")
         equal("quotient x generator + rest", remainder(whole), rest)
+        equal("zero bytes", remainder(bytes(length)), 0)
+        for cut in range(length + 1):
+            equal("in halves", remainder(one[:cut] + bytes(length - cut)) ^ remainder(one[cut:]), remainder(one))
+
+
+def flipped_bits():
+    """An acceptable message with any one of its 112 bits flipped is refused with 3."""
+    for text, _ in published.FIELD_ROWS:
+        message = bytes.fromhex(text)
+        for bit in range(1, 113):
+            refused(3, messages.decode, (int.from_bytes(message, "big") ^ 1 << 112 - bit).to_bytes(14, "big"))
 
 
 # Readings
@@ -736,6 +747,7 @@ def receiver_lines():
 TESTS = [
     parity_rows,
     parity_laws,
+    flipped_bits,
     coding_rows,
     altitudes,
     wide_codes,

@@ -12,8 +12,7 @@ use Rattle.messages.specs.declared.Message.{Message}
 use Rattle.messages.specs.declared.Decoded.{Decoded}
 use Rattle.messages.specs.declared.Decoded.the-variants as decoding
 use Rattle.messages.specs.Message.{decoded}
-use Rattle.messages.proofs.decode.Kinds as decode-kinds
-use Rattle.messages.proofs.decode.Reads as decode
+use Rattle.messages.proofs.OfCode.{DecodeMet, decodes}
 use Rattle.encoder.specs.declared.Encoded.{Encoded}
 use Rattle.encoder.specs.declared.Encoded.the-variants as encoding
 use Rattle.encoder.specs.Encoded.{encoded, encodedBytes}
@@ -22,14 +21,6 @@ use Rattle.encoder.proofs.encode.Kinds as encode-kinds
 use Rattle.encoder.proofs.encode.Reads as encode
 
 -- ---- calls that met their contracts
-
--- `decode` was lent the bytes s and answered x
-pub record DecodeMet (s : List ℕ) (x : Decoded) : Type 0 where
-  pub κs : Lfts 1
-  pub args : Dens κs decode-kinds.ps
-  pub left : AtExit (endedOf 1 decode-kinds.ps decode-kinds.r) κs
-  pub lent : args .0 .now ≡ s
-  pub meets : decode.Post κs args x left
 
 -- `encode` was given a message and lent a buffer, answered x, and left the bytes s
 pub record EncodeMet (m : Message) (out : List ℕ) (x : Encoded) (s : List ℕ) : Type 0 where
@@ -40,9 +31,6 @@ pub record EncodeMet (m : Message) (out : List ℕ) (x : Encoded) (s : List ℕ)
   pub lent : args .1 .0 .now ≡ out
   pub leaves : left .1 .0 .now ≡ s
   pub meets : encode.Post κs args x left
-
-decodes : {s : List ℕ} {x : Decoded} → DecodeMet s x → x ≡ decoded s
-decodes d = d .meets ∙ ap decoded (d .lent)
 
 encodes : {m : Message} {out : List ℕ} {x : Encoded} {s : List ℕ} → EncodeMet m out x s → (x ≡ encoded m out) × (s ≡ encodedBytes m out)
 encodes {m} {out} e = (

@@ -23,6 +23,7 @@ use Rattle.layouts.specs.declared.bodies.Layout.{Layout}
 use Rattle.layouts.specs.declared.bodies.Layout.the-variants as layout
 use Rattle.layouts.specs.declared.velocity.Ground.{Ground}
 use Rattle.layouts.specs.declared.velocity.Air.{Air}
+use Rattle.messages.specs.Accepted.{Acceptable}
 use Rattle.messages.specs.Message.{bits, withBody, opened, decoded, headWidths}
 use Rattle.messages.specs.Said.{said, earns1, earns3, earns4, layoutIn, earns5, valuesIn, table}
 use Rattle.messages.specs.declared.Message.{Message}
@@ -179,8 +180,8 @@ module _ (s : List ℕ) where
     λ p. says-the-table s ∙ rw (p .0, p .1, p .2, p .3),
   )
 
-  -- accepted exactly when it earns none of the four
-  pub accepted-exactly : ((m : Message) × (decoded s ≡ decode.Message m)) ↔ (earns1 s ≡ false) × (earns3 s ≡ false) × (earns4 s ≡ false) × (earns5 s ≡ false)
+  -- acceptable exactly when it earns none of the four
+  pub accepted-exactly : Acceptable s ↔ (earns1 s ≡ false) × (earns3 s ≡ false) × (earns4 s ≡ false) × (earns5 s ≡ false)
   accepted-exactly = (
     λ p.
         let e = none (earns1 s) (earns3 s) (earns4 s) (earns5 s) (valuesIn s) _ (sym (says-the-table s) ∙ ap said (p .1)) in

@@ -4,13 +4,16 @@ use Prim.Native.Nat.{ℕ}
 use mathlib.Core.Path.{_≡_, refl, sym, ap, _∙_}
 use mathlib.Core.List.{List, [], _∷_}
 use native.Mathlib.Omega.{arith}
+use lib.Dec.{lit≤}
 use Rattle.refusals.specs.Said.{Said, number, gives}
 use Rattle.parity.specs.Division.{remainderFrom, reduce}
-use Rattle.parity.specs.Parity.{remainder}
+use Rattle.parity.specs.Parity.{remainder, flipped}
 use Rattle.layouts.specs.Said.{Values, values}
 use Rattle.layouts.specs.declared.bodies.Layout.the-variants as layout
+use Rattle.messages.specs.Damaged.{Damaged}
 use Rattle.messages.specs.Message.{decoded, opened}
 use Rattle.messages.specs.Said.{said}
+use Rattle.messages.proofs.Exactly.{accepted-exactly}
 
 -- 8D4840D6202CC371C32CE0576098
 abbrev identification : List ℕ
@@ -57,3 +60,16 @@ told-apart e =
     ap fieldsIn (sym (examples .0) ∙ ap said e ∙ examples .1) in
     let z : _≡_ {A = ℕ} 4 11 = cc in
     omega arith
+
+-- a damaged message: the first of them with bit 88 flipped
+pub damaged : Damaged (flipped 88 identification)
+unfolding remainder remainderFrom reduce
+damaged =
+    record {
+      sent = identification;
+      acceptable = accepted-exactly identification .1 (refl, refl, refl, refl);
+      bit = 88;
+      from = lit≤ tt;
+      to = lit≤ tt;
+      heard = refl;
+    }

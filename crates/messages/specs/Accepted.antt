@@ -10,11 +10,12 @@ use Rattle.keys.specs.Keys.{keyFor}
 use Rattle.parity.specs.Parity.{remainder}
 use Rattle.layouts.specs.Bodies.{layoutOf, isTaken}
 use Rattle.messages.specs.declared.Frame.{Frame}
+use Rattle.messages.specs.declared.Message.{Message}
 use Rattle.messages.specs.declared.Accepted.{Accepted}
 use Rattle.messages.specs.declared.Accepted.the-variants as accept
 use Rattle.messages.specs.declared.Decoded.{Decoded}
 use Rattle.messages.specs.declared.Decoded.the-variants as decode
-use Rattle.messages.specs.Message.{bits, formatTaken, opened, kindOf}
+use Rattle.messages.specs.Message.{bits, formatTaken, opened, decoded, kindOf}
 
 -- DF, CA or CF, AA and ME
 abbrev pub frameOf : List ℕ → Frame
@@ -42,6 +43,10 @@ openedAs (accept.Refused r) = decode.Refused r
 -- the key of its track
 abbrev pub frameKey : Frame → ℕ
 frameKey f = keyFor (kindOf (f .format) (f .control)) (f .address)
+
+-- the decoder takes it
+abbrev pub Acceptable : List ℕ → Type 0
+Acceptable s = (m : Message) × (decoded s ≡ decode.Message m)
 
 -- the frame of some acceptable message
 abbrev pub IsAccepted : Frame → Type 0

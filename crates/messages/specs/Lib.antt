@@ -1,3 +1,4 @@
 pub mod Accepted
+pub mod Damaged
 pub mod Message
 pub mod Said

@@ -1,5 +1,8 @@
 pub mod Entries
+pub mod Flipped
+pub mod Halves
 pub mod Linear
+pub mod OfCode
 pub mod Seal
 pub mod Small
 pub mod Unique

@@ -1,14 +1,14 @@
 -- The division is linear: the remainder of an exclusive-or is the exclusive-or of the remainders, at every length. One bit is
 -- `reduce`, by the two cases of its term x^24; the bits follow by induction, and the bytes by their bits.
 -- Assumes nothing.
-use Prim.Native.Nat.{ℕ, suc, _+_, _-_, _*_, _/_, _%_, _^_, _<_, _≤_}
+use Prim.Native.Nat.{ℕ, zero, suc, _+_, _-_, _*_, _/_, _%_, _^_, _<_, _≤_}
 use mathlib.Core.Path.{_≡_, refl, sym, ap, ap₂, subst, _∙_}
 use mathlib.Core.Bool.{Bool, true, false}
 use mathlib.Core.List.{List, [], _∷_, _++_, append-assoc}
 use native.Mathlib.Nat.{mod-lt}
 use native.Mathlib.Omega.{arith}
 use lib.Dec.{ltb, lit<}
-use lib.ListN.{length, replicate}
+use lib.ListN.{length, replicate, length-replicate}
 use lib.Bits.{bitXor, xor-block, xor-lt, xor-comm, xor-shr, xor-mod, xor-zero-l}
 use borrow.Author.Tests.{ltb-true, ltb-false, lt-ltb, le-ltb}
 use Rattle.fields.specs.Packing.{unpack}
@@ -129,7 +129,7 @@ more-bytes r xs ys = ap (remainderFrom r) (bits-append xs ys) ∙ more-bits r (b
 bit : (x y k : ℕ) → bitXor x y / 2 ^ k % 2 ≡ bitXor (x / 2 ^ k % 2) (y / 2 ^ k % 2)
 bit x y k = ap (λ (n : ℕ). n % 2) (xor-shr x y k) ∙ xor-mod (x / 2 ^ k) (y / 2 ^ k) 1
 
-cons : {x y : ℕ} {xs ys : List ℕ} → x ≡ y → xs ≡ ys → x ∷ xs ≡ y ∷ ys
+pub cons : {x y : ℕ} {xs ys : List ℕ} → x ≡ y → xs ≡ ys → x ∷ xs ≡ y ∷ ys
 cons p q = ap₂ (λ (d : ℕ) (ds : List ℕ). d ∷ ds) p q
 
 pub bits-xor : (xs ys : List ℕ) → length xs ≡ length ys → bitsOf (xorAll xs ys) ≡ xorAll (bitsOf xs) (bitsOf ys)
@@ -148,26 +148,19 @@ bits-length (x ∷ xs) (y ∷ ys) e = omega (arith, bits-length xs ys (omega ari
 
 -- ---- what bits more do to the remainder: they add what they leave by themselves
 
-zeros : List ℕ → List ℕ
-zeros bs = replicate (length bs) 0
+-- so many zeros
+abbrev pub zeros : ℕ → List ℕ
+zeros n = replicate n 0
 
-length-zeros : (bs : List ℕ) → length (zeros bs) ≡ length bs
-unfolding zeros
-length-zeros [] = refl
-length-zeros (b ∷ bs) = ap suc (length-zeros bs)
+bits-zeros : (n : ℕ) → Bits (zeros n)
+bits-zeros zero = tt
+bits-zeros (suc n) = (lit< tt, bits-zeros n)
 
-bits-zeros : (bs : List ℕ) → Bits (zeros bs)
-unfolding zeros
-bits-zeros [] = tt
-bits-zeros (b ∷ bs) = (lit< tt, bits-zeros bs)
-
-xor-zeros : (bs : List ℕ) → xorAll (zeros bs) bs ≡ bs
-unfolding zeros
-xor-zeros [] = refl
-xor-zeros (b ∷ bs) = ap₂ (λ (d : ℕ) (ds : List ℕ). d ∷ ds) (xor-zero-l b) (xor-zeros bs)
+pub zeros-xor : (bs : List ℕ) → xorAll (zeros (length bs)) bs ≡ bs
+zeros-xor [] = refl
+zeros-xor (b ∷ bs) = cons (xor-zero-l b) (zeros-xor bs)
 
 pub added : (bs : List ℕ) (r s : ℕ) → r < 2 ^ 24 → s < 2 ^ 24 → Bits bs
-    → remainderFrom (bitXor r s) bs ≡ bitXor (remainderFrom r (replicate (length bs) 0)) (remainderFrom s bs)
-unfolding zeros
+    → remainderFrom (bitXor r s) bs ≡ bitXor (remainderFrom r (zeros (length bs))) (remainderFrom s bs)
 added bs r s hr hs g =
-    ap (remainderFrom (bitXor r s)) (sym (xor-zeros bs)) ∙ linear (zeros bs) bs r s (length-zeros bs) hr hs (bits-zeros bs) g
+    ap (remainderFrom (bitXor r s)) (sym (zeros-xor bs)) ∙ linear (zeros (length bs)) bs r s (length-replicate (length bs) 0) hr hs (bits-zeros (length bs)) g

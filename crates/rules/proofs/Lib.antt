@@ -1,4 +1,5 @@
 pub mod Agreed
+pub mod Damaged
 pub mod Delivered
 pub mod Exactly
 pub mod KeyOrder

@@ -15,12 +15,14 @@ use denote.Triple.Entry.{Args, Res}
 use denote.Triple.Clauses.{Ended, Clauses, AtExit}
 use Rattle.refusals.specs.declared.Refusal.{Refusal}
 use Rattle.messages.specs.declared.Decoded.{Decoded}
+use Rattle.messages.specs.Damaged.{Damaged}
 use Rattle.messages.specs.Said.{said}
 use Rattle.rules.specs.declared.answers.SetUp.{SetUp}
 use Rattle.rules.specs.declared.answers.SetUp.the-variants as setting
 use Rattle.rules.specs.View.{view}
 use Rattle.refusals.specs.Said.{number, gives}
-use Rattle.rules.specs.Said.{setUpSaid, lookedSaid, nextSaid, keyAbove, earns7, setUpTable, receiveTable}
+use Rattle.rules.specs.Said.{setUpSaid, lookedSaid, nextSaid, keyAbove, earns2, earns7, setUpTable, receiveTable}
+use Rattle.rules.proofs.Damaged.{else-3, damaged-table}
 use Rattle.rules.proofs.Exactly.{says-the-table}
 use Rattle.rules.proofs.Says.{set-up-says, look-says, next-says}
 use Rattle.rules.proofs.Laws.{set-up-unchanged}
@@ -55,6 +57,15 @@ module _ {M : Type 1} (𝓤 : URA M) (H : Heap 𝓤) (A : Atoms 𝓤) (mem : Mem
       (λ κs a x. said (x .answer) ≡ receiveTable slice (sliceOf (a .1 .0) (now (a .0))) (now (a .1 .1 .0)) (a .1 .1 .1 .0))
   receive-promised κs a g x left =
       so-too 𝓤 _ _ (λ p. ap (λ (y : After Decoded). said (y .answer)) p ∙ says-the-table slice slice-lawful (sliceOf (a .1 .0) (now (a .0))) (now (a .1 .1 .0)) (a .1 .1 .1 .0))
+
+  -- a damaged message: if it is not refused with 7 or 2, then with 3
+  pub receive-damaged : Promised 𝓤 receive.ended (receive.clauses 𝓤 H A mem run)
+      (λ κs a x. Damaged (now (a .1 .1 .0)) → (said (x .answer) ≡ number 7 → ⊥) → (said (x .answer) ≡ number 2 → ⊥) → said (x .answer) ≡ number 3)
+  receive-damaged κs a g x left =
+      so-too 𝓤 _ _ (λ p d.
+      let s = sliceOf (a .1 .0) (now (a .0)) in
+      else-3 (earns7 slice s) (earns2 slice s (a .1 .1 .1 .0)) (said (x .answer))
+      (ap (λ (y : After Decoded). said (y .answer)) p ∙ says-the-table slice slice-lawful s (now (a .1 .1 .0)) (a .1 .1 .1 .0) ∙ damaged-table slice s (now (a .1 .1 .0)) (a .1 .1 .1 .0) d))
 
   -- what is read: 7, or what the slice holds
   pub look-up-promised : Promised 𝓤 look-up.ended (look-up.clauses 𝓤 H A mem run)

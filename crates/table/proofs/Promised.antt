@@ -2,15 +2,19 @@
 -- of the head, which only the bytes have within, by the test.
 -- Assumes nothing.
 use Prim.Native.Nat.{ℕ}
-use mathlib.Core.Path.{_≡_, refl, ap, _∙_}
+use mathlib.Core.Path.{_≡_, refl, sym, ap, _∙_}
 use mathlib.Core.Bool.{Bool, true, false, cond, not}
 use mathlib.Core.List.{List}
+use native.Mathlib.Omega.{arith}
 use lib.ListN.{length}
 use contract.Lifetimes.{Lfts}
 use denote.Triple.Clauses.{AtExit}
 use borrow.Fn.Kinds.{Dens, resT, endedOf}
 use Rattle.refusals.specs.declared.Refusal.the-variants.{Places}
-use Rattle.refusals.specs.Said.{number, gives}
+use Rattle.refusals.specs.Said.{Said, number, gives}
+use Rattle.layouts.specs.Said.{Values}
+use Rattle.messages.specs.Accepted.{Acceptable}
+use Rattle.messages.specs.Damaged.{Damaged}
 use Rattle.messages.specs.declared.Decoded.{Decoded}
 use Rattle.messages.specs.declared.Decoded.the-variants as decode
 use Rattle.messages.specs.Said.{said}
@@ -20,7 +24,8 @@ use Rattle.rules.specs.declared.answers.Heard.{Heard}
 use Rattle.rules.specs.declared.answers.SetUp.{SetUp}
 use Rattle.rules.specs.declared.answers.Clock.the-variants as clocked
 use Rattle.rules.specs.declared.answers.Sited.the-variants as sited
-use Rattle.rules.specs.Said.{setUpSaid, heardSaid, doneOr, lookedSaid, nextSaid, clockSaid, spotIn, sitedSaid, keyAbove, earns7, setUpTable, receiveTable}
+use Rattle.rules.specs.Said.{done, setUpSaid, heardSaid, doneOr, lookedSaid, nextSaid, clockSaid, spotIn, sitedSaid, keyAbove, earns2, earns7, setUpTable, receiveTable}
+use Rattle.rules.proofs.Damaged.{else-3, damaged-table, taken-acceptable}
 use Rattle.rules.proofs.Exactly.{says-the-table}
 use Rattle.rules.proofs.Says.{set-up-says, look-says, next-says}
 use Rattle.memory.specs.Offsets.{wholePlaces}
@@ -78,6 +83,47 @@ hear-promised κs args x left p =
     ap (λ (y : After Heard). heardSaid (y .answer)) p
     ∙ heard-says (a .answer)
     ∙ ap doneOr (says-the-table bytes bytes-lawful (args .0 .now) (args .1 .0 .now) (args .1 .1 .0))
+
+-- ---- a damaged message, to any table at any time: if it is not refused with 7 or 2, then with 3; and what was accepted is acceptable
+
+pub receive-damaged : (κs : Lfts 2) (args : Dens κs receive-kinds.ps) (x : resT receive-kinds.r κs .Denot)
+    (left : AtExit (endedOf 2 receive-kinds.ps receive-kinds.r) κs) → receive.Post κs args x left
+    → Damaged (args .1 .0 .now) → (said x ≡ number 7 → ⊥) → (said x ≡ number 2 → ⊥) → said x ≡ number 3
+receive-damaged κs args x left p d =
+    let s : List ℕ = args .0 .now in
+    let t : ℕ = args .1 .1 .0 in
+    else-3 (earns7 bytes s) (earns2 bytes s t) (said x) (receive-promised κs args x left p ∙ damaged-table bytes s (args .1 .0 .now) t d)
+
+pub hear-damaged : (κs : Lfts 2) (args : Dens κs hear-kinds.ps) (x : resT hear-kinds.r κs .Denot)
+    (left : AtExit (endedOf 2 hear-kinds.ps hear-kinds.r) κs) → hear.Post κs args x left
+    → Damaged (args .1 .0 .now) → (heardSaid x ≡ number 7 → ⊥) → (heardSaid x ≡ number 2 → ⊥) → heardSaid x ≡ number 3
+hear-damaged κs args x left p d =
+    let s : List ℕ = args .0 .now in
+    let t : ℕ = args .1 .1 .0 in
+    else-3 (earns7 bytes s) (earns2 bytes s t) (heardSaid x)
+    (hear-promised κs args x left p ∙ ap doneOr (damaged-table bytes s (args .1 .0 .now) t d) ∙ as-numbers (earns7 bytes s) (earns2 bytes s t))
+  where
+    as-numbers : (b c : Bool) → doneOr (cond b (number 7) (cond c (number 2) (number 3))) ≡ cond b (number 7) (cond c (number 2) (number 3))
+    as-numbers true c = refl
+    as-numbers false true = refl
+    as-numbers false false = refl
+
+pub receive-took : (κs : Lfts 2) (args : Dens κs receive-kinds.ps) (x : resT receive-kinds.r κs .Denot)
+    (left : AtExit (endedOf 2 receive-kinds.ps receive-kinds.r) κs) → receive.Post κs args x left
+    → (v : Values) → said x ≡ gives v → Acceptable (args .1 .0 .now)
+receive-took κs args x left p v e =
+    taken-acceptable bytes (args .0 .now) (args .1 .0 .now) (args .1 .1 .0) v (sym (receive-promised κs args x left p) ∙ e)
+
+pub hear-took : (κs : Lfts 2) (args : Dens κs hear-kinds.ps) (x : resT hear-kinds.r κs .Denot)
+    (left : AtExit (endedOf 2 hear-kinds.ps hear-kinds.r) κs) → hear.Post κs args x left
+    → heardSaid x ≡ done → Acceptable (args .1 .0 .now)
+hear-took κs args x left p e =
+    let y = values-of (receiveTable bytes (args .0 .now) (args .1 .0 .now) (args .1 .1 .0)) (sym (hear-promised κs args x left p) ∙ e) in
+    taken-acceptable bytes (args .0 .now) (args .1 .0 .now) (args .1 .1 .0) (y .0) (y .1)
+  where
+    values-of : (y : Said Values) → doneOr y ≡ done → (v : Values) × (y ≡ gives v)
+    values-of (gives v) e = (v, refl)
+    values-of (number n) e = let y : _≡_ {A = ℕ} 0 1 = cc in let w : ⊥ = omega arith in absurd w
 
 -- ---- what is read: 7, or what the table holds
 
