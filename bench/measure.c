@@ -42,9 +42,9 @@ static uint32_t listing(const struct record *record) {
     uint64_t key[1] = {0};
     size_t lines = 0;
     (void)record;
-    addercoil_header(table, length, 0, text, sizeof text);
+    addercoil_header(table, length, 0, 1, text, sizeof text);
     while (addercoil_next(table, length, (uint32_t)key[0], key, 1) == ADDERCOIL_OK && key[0] != 0) {
-        addercoil_line(table, length, (uint32_t)key[0], text, sizeof text);
+        addercoil_line(table, length, (uint32_t)key[0], 1, text, sizeof text);
         lines += text[0] == 'I';
     }
     return lines != places;

@@ -47,7 +47,7 @@ enum {
     ADDERCOIL_TYPE = 5,      /* a TYPE or subtype that is not taken */
     ADDERCOIL_FULL = 6,      /* a new aircraft, and no place is free */
     ADDERCOIL_PLACES = 7,    /* a table that is not of 1 to 1,024 whole places */
-    ADDERCOIL_FIELD = 8,     /* a field wider than its bits, a field that no such message has, a latitude beyond a pole */
+    ADDERCOIL_FIELD = 8,     /* a field wider than its bits or that no such message has, a latitude beyond a pole, a choice above 1 */
     ADDERCOIL_LATITUDE = 9,  /* a decoded latitude beyond a pole */
     ADDERCOIL_ZONES = 10     /* two latitudes in different longitude zones */
 };
@@ -140,23 +140,31 @@ enum {
  */
 uint32_t addercoil_look_up(const uint8_t *table, size_t table_len, uint32_t key, uint64_t *out, size_t out_len);
 
-/* ---- The listing: a header, then a line for each key ---- */
+/*
+ * ---- The listing: a header, then a line for each key ----
+ *
+ * Both calls are told which tracks it shows: all is 0 for those with a known position, whatever its age, and 1 for all.
+ */
 
 /* Bytes of a buffer for one line: 96 of text at most, and a zero, so that it is always a C string. */
 #define ADDERCOIL_LINE 97
 
 /*
  * The listing's first line, "clock C tracks T bad-blocks B" and a newline, then zeros, into out of ADDERCOIL_LINE bytes;
- * bad is the number that it prints. Or ADDERCOIL_LENGTH, ADDERCOIL_PLACES.
+ * T is how many lines the listing has below it, bad is the number B. Or ADDERCOIL_LENGTH, ADDERCOIL_PLACES,
+ * ADDERCOIL_FIELD for all above 1.
  */
-uint32_t addercoil_header(const uint8_t *table, size_t table_len, uint64_t bad, uint8_t *out, size_t out_len);
+uint32_t addercoil_header(const uint8_t *table, size_t table_len, uint64_t bad, uint32_t all, uint8_t *out,
+                          size_t out_len);
 
 /*
  * The line of a key, "I ABCDEF 1400 536870912 1073741824 10000" and a newline, then zeros, into out of ADDERCOIL_LINE
  * bytes: kind I or O, address, last heard, latitude, longitude, pressure altitude, "-" for what is unknown. All zeros,
- * the empty string, if the key is not held. Or ADDERCOIL_LENGTH, ADDERCOIL_PLACES.
+ * the empty string, if the key is not held or its track is not shown. Or ADDERCOIL_LENGTH, ADDERCOIL_PLACES,
+ * ADDERCOIL_FIELD for all above 1.
  */
-uint32_t addercoil_line(const uint8_t *table, size_t table_len, uint32_t key, uint8_t *out, size_t out_len);
+uint32_t addercoil_line(const uint8_t *table, size_t table_len, uint32_t key, uint32_t all, uint8_t *out,
+                        size_t out_len);
 
 /* Bytes of a block of a capture. */
 #define ADDERCOIL_BLOCK 512

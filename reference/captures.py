@@ -1,4 +1,4 @@
-"""The paper, "Captures and the listing"."""
+"""The paper, "Captures and the listing", and R-1 of document 02: which tracks the listing shows."""
 
 import readings
 import table
@@ -106,13 +106,27 @@ def line(key, track):
     return f"{KINDS[key >> 24]} {key % 2**24:06X} {track.heard} {place} {altitude}"
 
 
-def listing_of(made, bad):
-    """The lines of a table, by kind, I first, then address."""
-    held = table.walk(made)
-    head = f"clock {table.clock_of(made)} tracks {len(held)} bad-blocks {bad}"
-    return "".join(f"{text}\n" for text in [head, *(line(key, track) for key, track in held)])
+def is_shown(track, every):
+    """Positioned tracks are shown unless all are asked for; one that was positioned and is silent, until it is dropped."""
+    return every or track.position.known
 
 
-def listing(whole):
-    """What the program "listing" prints."""
-    return listing_of(*fold(whole))
+def shown(made, every):
+    """The keys and tracks that the listing of a table shows, by kind, I first, then address."""
+    return [(key, track) for key, track in table.walk(made) if is_shown(track, every)]
+
+
+def header(made, bad, every):
+    """The clock; "tracks" counts the lines shown."""
+    return f"clock {table.clock_of(made)} tracks {len(shown(made, every))} bad-blocks {bad}"
+
+
+def listing_of(made, bad, every):
+    """The lines of a table."""
+    lines = [header(made, bad, every), *(line(key, track) for key, track in shown(made, every))]
+    return "".join(f"{text}\n" for text in lines)
+
+
+def listing(whole, every):
+    """What the program "listing" prints, with all tracks asked for or not."""
+    return listing_of(*fold(whole), every)

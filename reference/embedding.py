@@ -222,16 +222,24 @@ def text_bytes(text):
     return text.encode("ascii").ljust(AT["LINE"], b"\0")
 
 
-def header(table, bad):
+def asks_for_all(table, every):
+    """Whether all tracks are asked for; 7, then 8 for a number that is neither 0 nor 1."""
+    tables.places(table)
+    fits(every % 2**32, 1)
+    return every % 2**32 == 1
+
+
+def header(table, bad, every):
     """The listing's first line."""
-    return text_bytes(f"clock {tables.clock_of(table)} tracks {len(tables.walk(table))} bad-blocks {bad}\n")
+    return text_bytes(captures.header(table, bad, asks_for_all(table, every)) + "\n")
 
 
-def line(table, key):
-    """The line of a key, empty if it is not held."""
-    key %= 2**32
+def line(table, key, every):
+    """The line of a key, empty if it is not held or not shown."""
+    every, key = asks_for_all(table, every), key % 2**32
     track = tables.look_up(table, key)
-    return text_bytes("" if track is None else captures.line(key, track) + "\n")
+    has_line = track is not None and captures.is_shown(track, every)
+    return text_bytes(captures.line(key, track) + "\n" if has_line else "")
 
 
 def feed_block(table, block, bad):

@@ -1,5 +1,6 @@
-"""Writes the samples, each with the listing that it must give, or compares them with those that stand: captures, one of
-which the program listing is run on, and lines in hex for the example in C.
+"""Writes the samples, each with the listings that it must give, or compares them with those that stand: captures, one of
+which the program listing is run on, and lines in hex for the example in C. NAME.listing has all tracks, NAME.positioned
+those with a position.
 
     python3 reference/make_samples.py [--check] [--root FOLDER]
 
@@ -192,31 +193,33 @@ def hex_lines(strings):
     return "".join(f"*{string.hex().upper()};\n" for string in strings).encode("ascii")
 
 
-def hex_listing(strings, step):
-    """What the example in C prints, message k, from 0, arriving at k times the step; and how many are refused."""
+def hex_listing(strings, step, every):
+    """The listing of messages, message k, from 0, arriving at k times the step; and how many are refused."""
     made, refused = bytearray(table.length_of(PLACES)), 0
     for k, string in enumerate(strings):
         refused += not offer(made, string, k * step)
-    return listing_of(made, 0).encode("ascii"), refused
+    return listing_of(made, 0, every).encode("ascii"), refused
 
 
 SAMPLES = {"example": example, "busy-hour": busy_hour, "crowd": crowd}
-RUN = "example"
+RUN = "example"  # its two listings are the same
+LISTINGS = {"listing": True, "positioned": False}  # the ending of a sample's listing, and whether all are asked for
 
 
 def files():
     """Every file, by its path in the repository, with what it holds."""
     for name, made in SAMPLES.items():
         whole = made()
-        text = listing(whole).encode("ascii")
         yield f"samples/{name}.capture", whole
-        yield f"samples/{name}.listing", text
+        for ending, every in LISTINGS.items():
+            yield f"samples/{name}.{ending}", listing(whole, every).encode("ascii")
         if name == RUN:
             yield "crates/listing/stdin", whole
-            yield "crates/listing/stdout", text
+            yield "crates/listing/stdout", listing(whole, False).encode("ascii")
     strings = list(minute())
     yield "samples/minute.hex", hex_lines(strings)
-    yield "samples/minute.listing", hex_listing(strings, STEP)[0]
+    for ending, every in LISTINGS.items():
+        yield f"samples/minute.{ending}", hex_listing(strings, STEP, every)[0]
 
 
 def main():

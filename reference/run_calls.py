@@ -199,11 +199,15 @@ def pair_counts(chance):
 
 def numbers_for(name, chance, table):
     """The plain numbers of a call."""
-    if name in ("next", "look_up", "line"):
+    if name in ("next", "look_up"):
         return [key(chance, table)]
+    if name == "line":
+        return [key(chance, table), bit(chance)]
     if name == "receive":
         return [time_for(chance, table)]
-    if name in ("header", "feed_block"):
+    if name == "header":
+        return [number(chance), bit(chance)]
+    if name == "feed_block":
         return [number(chance)]
     if name == "table_bytes":
         return [chance.choice((chance.randrange(1_100), 1, 1_024, 1_025, number(chance)))]
@@ -261,7 +265,8 @@ def difference(asked, given):
 PAPER = "OK LENGTH LATE PARITY FORMAT TYPE FULL PLACES FIELD LATITUDE ZONES".split()  # 0 to 10, by the header's names
 READS = {0, 1, 7}
 NUMBERS = {
-    **{name: READS for name in ("clock", "site", "next", "look_up", "header", "line", "feed_block")},
+    **{name: READS for name in ("clock", "site", "next", "look_up", "feed_block")},
+    **{name: {*READS, 8} for name in ("header", "line")},
     **{"set_up": {0, 7}, "set_up_at": {0, 7, 8}, "receive": {0, 1, 2, 3, 4, 5, 6, 7}},
     **{"encode_position": {0, 1, 8}, "pair": {0, 1, 8, 9, 10}, "single": {0, 1, 8, 9}},
     **{"decode": {0, 1, 3, 4, 5}, "encode": {0, 1, 8}},

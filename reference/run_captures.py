@@ -1,5 +1,5 @@
-"""Runs the program "listing" on the samples and on 200 random captures, and compares with the model; then where its input
-or its output fails, which it has to say.
+"""Runs the program "listing" on the samples and on 200 random captures, with all tracks asked for and without, and compares
+with the model; then where its input or its output fails, and with words that it does not know, which it has to say.
 
     python3 reference/run_captures.py
 
@@ -81,6 +81,9 @@ def captures():
         yield f"random capture {number}", random_capture(chance)
 
 
+# With all tracks asked for or not: the words of the program
+ASKED = {True: ["all"], False: []}
+
 # How a shell makes the input or the output fail, and what the program then says on standard error.
 FAILURES = {
     "< /": b"listing: the input cannot be read to its end\n",
@@ -99,18 +102,52 @@ def failures_are_said():
     return True
 
 
+# Words that ask for nothing: misspelt, too many, empty, too long for any room.
+UNKNOWN = ["al"], ["ALL"], ["alL"], ["all "], [" all"], ["alla"], [""], ["--all"], ["-"], ["0"], ["1"], ["a" * 5000]
+UNKNOWN += ["all", "all"], ["all", ""], ["", "all"], ["al", "all"], ["samples/example.capture"], ["all", "samples/example.capture"]
+
+
+def unknown_words_are_said():
+    """A usage line, nothing on standard output, and the input is not read."""
+    for words in UNKNOWN:
+        with (ROOT / "samples/example.capture").open("rb", buffering=0) as given:
+            command = [ROOT / "tools/run", ROOT / "target/bin/listing", *words]
+            done = subprocess.run(command, stdin=given, capture_output=True, timeout=60, check=False)
+            found = done.returncode, done.stdout, done.stderr, given.tell()
+        if found != (0, b"", b"usage: listing [all]\n", 0):
+            print(f"listing {words}: {found}")
+            return False
+    return True
+
+
+# Words that the script ./listing does not take: it ends before it proves anything.
+WRONG = ["al"], ["ALL"], [""], ["all", "al"], ["samples"], ["samples/example.capture", "all"], ["all", "samples/example.capture", "all"]
+
+
+def script_says_usage():
+    """The script ends with 2, and prints nothing on standard output."""
+    for words in WRONG:
+        done = subprocess.run([ROOT / "listing", *words], stdin=subprocess.DEVNULL, capture_output=True, timeout=60, check=False)
+        if (done.returncode, done.stdout, done.stderr) != (2, b"", b"usage: ./listing [all] [CAPTURE]\n"):
+            print(f"./listing {words}: status {done.returncode}, {done.stdout + done.stderr}")
+            return False
+    return True
+
+
 def main():
-    count = 0
+    count = differ = 0
     for name, whole in captures():
-        done = ran("bin/listing", given=whole, seconds=60)
-        expected = listing(whole).encode("ascii")
-        if done.returncode != 0 or done.stdout != expected:
-            print(f"{name}: status {done.returncode}; the model says\n{expected.decode()}and the program")
-            print((done.stdout + done.stderr).decode("ascii", errors="replace"))
-            return 1
+        texts = [listing(whole, every).encode("ascii") for every in ASKED]
+        for words, expected in zip(ASKED.values(), texts):
+            done = ran("bin/listing", *words, given=whole, seconds=60)
+            if done.returncode != 0 or done.stdout != expected:
+                print(f"{name}, {words}: status {done.returncode}; the model says\n{expected.decode()}and the program")
+                print((done.stdout + done.stderr).decode("ascii", errors="replace"))
+                return 1
         count += 1
-    print(f"{count} captures: the program prints what the model says")
-    return 0 if failures_are_said() else 1
+        differ += texts[0] != texts[1]
+    print(f"{count} captures, {differ} with tracks that have no position: the program prints what the model says, both ways")
+    return 0 if differ and failures_are_said() and unknown_words_are_said() and script_says_usage() else 1
 
 
 if __name__ == "__main__":

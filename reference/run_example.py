@@ -1,4 +1,5 @@
-"""Runs the example in C on its sample, and on lines that no receiver prints, and compares with the model.
+"""Runs the example in C on its sample, and on lines that no receiver prints, and compares with the model: of all tracks,
+with and without being asked, and of those with a position. A choice that is neither is a usage line.
 
     python3 reference/run_example.py
 
@@ -6,6 +7,7 @@ tools/build-c must have built target/c/listing.
 """
 
 import sys
+from itertools import product
 
 from make_samples import STEP, hex_lines, hex_listing, minute
 from programs import ran
@@ -29,6 +31,9 @@ def odd_lines():
     ]
 
 
+CHOICES = {(): True, (1,): True, (0,): False}  # the word for the choice, and whether all are listed
+
+
 def cases():
     """Each case: its input, the bytes of its lines, and the step."""
     strings = list(minute())
@@ -39,14 +44,18 @@ def cases():
 
 
 def main():
-    for given, strings, step in cases():
-        done = ran("c/listing", step, given=given)
-        listing, refused = hex_listing(strings, step)
+    for (given, strings, step), (words, every) in product(cases(), CHOICES.items()):
+        done = ran("c/listing", step, *words, given=given)
+        listing, refused = hex_listing(strings, step, every)
         if (done.returncode, done.stdout, done.stderr) != (0, listing, f"{refused} refused\n".encode("ascii")):
             print(f"status {done.returncode}; the model says {refused} refused and\n{listing.decode()}and the example")
             print((done.stderr + done.stdout).decode())
             return 1
-    print("the example prints what the model says")
+    done = ran("c/listing", 1, 2, given=b"")
+    if (done.returncode, done.stdout) != (2, b"") or b"usage" not in done.stderr:
+        print(f"a choice that is neither: status {done.returncode}, {done.stdout}, {done.stderr}")
+        return 1
+    print("the example prints what the model says, both ways")
     return 0
 
 

@@ -662,24 +662,45 @@ LISTED = "clock 1400 tracks 1 bad-blocks 0\nI ABCDEF 1400 536870912 1073741824 1
 
 def listings():
     """The paper's listing; order, unknown values, bad blocks, refused records."""
-    equal("the paper's listing", captures.listing(make_samples.example()), LISTED)
-    equal("an empty capture", captures.listing(b""), "clock 0 tracks 0 bad-blocks 0\n")
-    equal("zeros", captures.listing(bytes(512)), "clock 0 tracks 0 bad-blocks 1\n")
-    equal("a part block", captures.listing(make_samples.example() + bytes(3)), LISTED.replace("blocks 0", "blocks 1"))
+    for every in (False, True):
+        equal("the paper's listing", captures.listing(make_samples.example(), every), LISTED)
+        equal("an empty capture", captures.listing(b"", every), "clock 0 tracks 0 bad-blocks 0\n")
+        equal("zeros", captures.listing(bytes(512), every), "clock 0 tracks 0 bad-blocks 1\n")
+        part = captures.listing(make_samples.example() + bytes(3), every)
+        equal("a part block", part, LISTED.replace("blocks 0", "blocks 1"))
     rows = [(5, from_air(EVEN, aa=7, head=OTHER)), (6, from_air(EVEN)), (7, from_air(EVEN, aa=7))]
     rows += [(8, traffic.airborne(TRANSPONDER, 0xA, EVEN, HERE, 20)), (7, from_air(ODD)), (9, bytes(14))]
     due = ["clock 9 tracks 4 bad-blocks 0", "I 000007 7 - - 10000", "I 00000A 8 - - -"]
     due += ["I ABCDEF 6 - - 10000", "O 000007 5 - - 10000"]
-    equal("order and unknown", captures.listing(captures.capture(rows)).splitlines(), due)
+    equal("order and unknown", captures.listing(captures.capture(rows), True).splitlines(), due)
+    equal("none has a position", captures.listing(captures.capture(rows), False), "clock 9 tracks 0 bad-blocks 0\n")
     last = 2**64 - 1, message_vectors.flipped(from_air(EVEN), 60)
-    emptied = captures.listing(captures.capture([*rows, last]))
+    emptied = captures.listing(captures.capture([*rows, last]), True)
     equal("bad parity at the last time", emptied, f"clock {2**64 - 1} tracks 0 bad-blocks 0\n")
     south = -(2**29), 2**32 - 2**29
     low = [(time, traffic.airborne(TRANSPONDER, 1, i, south, 11, 16)) for time, i in ((1, ODD), (2, EVEN))]
-    lines = captures.listing(captures.capture(low)).splitlines()
+    lines = captures.listing(captures.capture(low), False).splitlines()
     equal("below zero", lines[1], "I 000001 2 -536870912 3758096384 -1000")
     for feet in range(-1000, 50176, 25):
         equal("the code of an altitude", readings.altitude(traffic.altitude_code(feet)), feet)
+
+
+def positioned():
+    """R-1: what has a position is shown, whatever its age, until the track is dropped, at 125,000 since last heard."""
+    pair = [(1_000, from_air(EVEN)), (1_400, from_air(ODD))]
+    stranger = 1_400, traffic.identification(TRANSPONDER, 7, "ADDER7")
+    for age in (120_000, 120_001, 10**6):
+        times = [*range(1_400, 1_400 + age, 60_000), 1_400 + age]
+        calls = [(time, traffic.identification(TRANSPONDER, 0xABCDEF, "ADDER1")) for time in times]
+        due = f"clock {times[-1]} tracks 1 bad-blocks 0\nI ABCDEF {times[-1]} 536870912 1073741824 10000\n"
+        equal(f"a position {age} old", captures.listing(captures.capture([*pair, *calls]), False), due)
+    for silent, due in ((124_999, 1), (125_000, 0)):
+        clock = 1_400 + silent
+        lines = captures.listing(captures.capture([*pair, stranger, (clock, bytes(14))]), False).splitlines()
+        equal(f"silent for {silent}", (lines[0], len(lines)), (f"clock {clock} tracks {due} bad-blocks 0", 1 + due))
+    both = [captures.listing(captures.capture([*pair, stranger]), every).splitlines() for every in (False, True)]
+    equal("the lines shown are counted", [len(lines) - int(lines[0].split()[3]) for lines in both], [1, 1])
+    equal("all asked for", both[1][1:], ["I 000007 1400 - - -", *both[0][1:]])
 
 
 def blocks():
@@ -726,7 +747,7 @@ def receiver_lines():
     equal("no times", made_capture(plain), ([(0, one), (1, other), (2, one)], "3 taken, 0 short, 0 other lines"))
     timed = [(1_000, one), (1_400, other), (1_800, one)]
     equal("start and step", made_capture(plain, "--start", "1000", "--step", "400")[0], timed)
-    equal("the paper's listing", captures.listing(captures.capture(timed[:2])), LISTED)
+    equal("the paper's listing", captures.listing(captures.capture(timed[:2]), False), LISTED)
     stamps = {0: 0, 12_000 * 1_400 - 1: 1_399, 12_000 * 1_400: 1_400, 2**48 - 1: (2**48 - 1) // 12_000}
     counted = "".join(f"@{stamp:012X}{second};\n" for stamp in stamps)
     equal("a counter", made_capture(counted)[0], [(time, other) for time in stamps.values()])
@@ -765,6 +786,7 @@ TESTS = [
     bytes_of_tracks,
     swept_tables,
     listings,
+    positioned,
     blocks,
     receiver_lines,
 ]

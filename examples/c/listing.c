@@ -1,6 +1,7 @@
 /*
  * Reads messages in hex on standard input, one a line as *HEX; or HEX, keeps a table of 256 places and prints the
- * listing at the end. Message k, from 0, arrives at k times STEP milliseconds; STEP is the argument, or 1.
+ * listing at the end: listing [STEP [ALL]]. Message k, from 0, arrives at k times STEP milliseconds, or k. The listing
+ * has all tracks, or with 0 for ALL those whose position is known.
  *
  * tools/archive && gcc -std=c99 -Iinclude examples/c/listing.c target/staticlib/libaddercoil.a -o c-listing
  *
@@ -60,12 +61,16 @@ int main(int count, char **arguments) {
     uint8_t text[ADDERCOIL_LINE];
     uint64_t key[1] = {0};
     uint64_t step = count > 1 ? strtoull(arguments[1], NULL, 10) : 1;
+    uint32_t all = count > 2 ? (uint32_t)strtoul(arguments[2], NULL, 10) : 1;
     addercoil_set_up(table, sizeof table);
     fprintf(stderr, "%lu refused\n", receive_all(stdin, step));
-    addercoil_header(table, sizeof table, 0, text, sizeof text);
+    if (addercoil_header(table, sizeof table, 0, all, text, sizeof text) != ADDERCOIL_OK) {
+        fputs("usage: listing [STEP [ALL]], with 0 or 1 for ALL\n", stderr);
+        return 2;
+    }
     fputs((const char *)text, stdout);
     while (addercoil_next(table, sizeof table, (uint32_t)key[0], key, 1) == ADDERCOIL_OK && key[0] != 0) {
-        addercoil_line(table, sizeof table, (uint32_t)key[0], text, sizeof text);
+        addercoil_line(table, sizeof table, (uint32_t)key[0], all, text, sizeof text);
         fputs((const char *)text, stdout);
     }
     return 0;

@@ -13,8 +13,8 @@ const struct shape shapes[FUNCTIONS] = {
     {"site", READS_TABLE, NOTHING, 0, WORDS},
     {"next", READS_TABLE, NOTHING, 1, WORDS},
     {"look_up", READS_TABLE, NOTHING, 1, WORDS},
-    {"header", READS_TABLE, NOTHING, 1, BYTES},
-    {"line", READS_TABLE, NOTHING, 1, BYTES},
+    {"header", READS_TABLE, NOTHING, 2, BYTES},
+    {"line", READS_TABLE, NOTHING, 2, BYTES},
     {"feed_block", WRITES_TABLE, BYTES, 1, WORDS},
     {"encode_position", NO_TABLE, NOTHING, 4, WORDS},
     {"pair", NO_TABLE, NOTHING, 5, WORDS},
@@ -58,9 +58,9 @@ static uint64_t with_table(const struct call *call) {
     case LOOK_UP:
         return addercoil_look_up(t, size, (uint32_t)n[0], words, length);
     case HEADER:
-        return addercoil_header(t, size, n[0], result.at, length);
+        return addercoil_header(t, size, n[0], (uint32_t)n[1], result.at, length);
     case LINE:
-        return addercoil_line(t, size, (uint32_t)n[0], result.at, length);
+        return addercoil_line(t, size, (uint32_t)n[0], (uint32_t)n[1], result.at, length);
     default:
         return addercoil_feed_block(t, size, given.at, call->given_size, n[0], words, length);
     }

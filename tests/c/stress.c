@@ -273,8 +273,13 @@ static uint64_t make_number(enum function function, int i, uint64_t time) {
         return time;
     case NEXT:
     case LOOK_UP:
-    case LINE:
         return below(8) == 0 ? number() : key;
+    case HEADER:
+    case LINE:
+        if (i == 1) {
+            return below(16) == 0 ? number() : below(2);
+        }
+        return function == HEADER || below(8) == 0 ? number() : key;
     case PAIR:
         return below(32) == 0 ? number() : below(i == 4 ? 2 : 131072);
     case ENCODE_POSITION:

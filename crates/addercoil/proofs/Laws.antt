@@ -17,7 +17,6 @@ use Rattle.entries.specs.Arrays.{filled}
 use Rattle.entries.proofs.Filling.{filled-at}
 use Rattle.fields.specs.Bytes.{Bytes}
 use Rattle.fields.proofs.Bools.{by-test}
-use Rattle.keys.specs.Keys.{endOfKeys}
 use Rattle.layouts.specs.declared.bodies.Body.{Body}
 use Rattle.layouts.specs.declared.bodies.Body.the-variants as body
 use Rattle.readings.specs.Bodies.{readingsOf}
@@ -30,9 +29,11 @@ use Rattle.encoder.specs.Encoded.{encodedBytes}
 use Rattle.messages.proofs.BothWays as messages
 use Rattle.encoder.proofs.BothWays as encoder
 use Rattle.track.specs.declared.Track.{Track}
+use Rattle.text.specs.declared.Row.{Row}
+use Rattle.text.specs.Lines.{rowText}
 use Rattle.text.proofs.Fits.{header-most, row-most}
 use Rattle.table_bytes.specs.Layout.{clockOf}
-use Rattle.report.specs.Listing.{rowOf as lineRow, counted, headerFor, lineFor}
+use Rattle.report.specs.Listing.{rowFor, rowsIn, lineText, lineFor, headerFor}
 use Rattle.rows.specs.From.{messageFrom}
 use Rattle.rows.specs.declared.message.Four.{Four}
 use Rattle.rows.specs.Rows.{rowOf, bodyRow, fourOf, messageRow}
@@ -121,11 +122,13 @@ module _ (fields out other : List ℕ) (h : length other ≡ 28) where
 ends : (text : List ℕ) → length text ≤ 96 → getD (filled 97 text) 96 0 ≡ 0
 ends text h = filled-at 97 text 96 (omega arith) ∙ List·getD-eq-default text 0 h
 
-pub header-ends : (s : List ℕ) (bad : ℕ) → getD (filled 97 (headerFor s bad)) 96 0 ≡ 0
+pub header-ends : (all : Bool) (s : List ℕ) (bad : ℕ) → getD (filled 97 (headerFor all s bad)) 96 0 ≡ 0
 unfolding headerFor
-header-ends s bad = ends (headerFor s bad) (omega (arith, header-most (clockOf s) (counted s endOfKeys) bad))
+header-ends all s bad = ends (headerFor all s bad) (omega (arith, header-most (clockOf s) (length (rowsIn all s)) bad))
 
-pub line-ends : (key : ℕ) (v : Option Track) → getD (filled 97 (lineFor key v)) 96 0 ≡ 0
-unfolding lineFor
-line-ends key none = ends [] (omega arith)
-line-ends key (some t) = ends (lineFor key (some t)) (row-most (lineRow key t))
+row-ends : (v : Option Row) → getD (filled 97 (lineText v)) 96 0 ≡ 0
+row-ends none = ends [] (omega arith)
+row-ends (some r) = ends (rowText r) (row-most r)
+
+pub line-ends : (all : Bool) (key : ℕ) (v : Option Track) → getD (filled 97 (lineFor all key v)) 96 0 ≡ 0
+line-ends all key v = row-ends (rowFor all key v)

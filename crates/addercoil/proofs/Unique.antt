@@ -58,10 +58,10 @@ site-once κs args x y left left′ p q = p ∙ sym q
 pub next-once : OneOutcome 2 next-kinds.ps next-kinds.r Sent (λ κs x left. sent x (left .1 .1 .0 .now)) next.Post
 next-once κs args x y left left′ p q = p ∙ sym q
 
-pub header-once : OneOutcome 2 header-kinds.ps header-kinds.r Sent (λ κs x left. sent x (left .1 .1 .0 .now)) header.Post
+pub header-once : OneOutcome 2 header-kinds.ps header-kinds.r Sent (λ κs x left. sent x (left .1 .1 .1 .0 .now)) header.Post
 header-once κs args x y left left′ p q = p ∙ sym q
 
-pub line-once : OneOutcome 2 line-kinds.ps line-kinds.r Sent (λ κs x left. sent x (left .1 .1 .0 .now)) line.Post
+pub line-once : OneOutcome 2 line-kinds.ps line-kinds.r Sent (λ κs x left. sent x (left .1 .1 .1 .0 .now)) line.Post
 line-once κs args x y left left′ p q = p ∙ sym q
 
 pub encode-position-once : OneOutcome 1 encode-position-kinds.ps encode-position-kinds.r Sent (λ κs x left. sent x (left .1 .1 .1 .1 .0 .now)) encode-position.Post

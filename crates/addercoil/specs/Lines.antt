@@ -1,7 +1,8 @@
 -- The listing's lines and a capture's blocks for another language.
 use Prim.Native.Nat.{ℕ}
-use mathlib.Core.Bool.{cond, not}
+use mathlib.Core.Bool.{Bool, cond, not}
 use mathlib.Core.List.{List, [], _∷_}
+use lib.Dec.{eqb, ltb}
 use lib.ListN.{length}
 use Rattle.refusals.specs.Numbers.{numberOf}
 use Rattle.refusals.specs.Said.{Said, number, gives}
@@ -18,13 +19,25 @@ use Rattle.addercoil.specs.Sent.{Sent, given}
 
 -- ---- lines: a buffer holds the text, then zeros
 
--- 7, or the header of the listing
-unfoldable pub headerSaid : List ℕ → ℕ → Said (List ℕ)
-headerSaid s bad = cond (not (wholePlaces (length s))) (number 7) (gives (headerFor s bad))
+-- all tracks are asked for by 1, those with a position by 0
+abbrev pub chosen : ℕ → Bool
+chosen all = eqb all 1
 
--- 7, or the line of a key; no text for one that is not held
-unfoldable pub lineSaid : List ℕ → ℕ → Said (List ℕ)
-lineSaid s key = cond (not (wholePlaces (length s))) (number 7) (gives (lineFor key (view s key)))
+-- what a choice that is neither earns: 7 comes before 8
+abbrev pub noChoice : List ℕ → ℕ
+noChoice s = cond (not (wholePlaces (length s))) 7 8
+
+-- 7, 8 for a choice that is neither 0 nor 1, or the text
+abbrev pub linesSaid : ℕ → List ℕ → List ℕ → Said (List ℕ)
+linesSaid all s text = cond (not (wholePlaces (length s))) (number 7) (cond (ltb 1 all) (number 8) (gives text))
+
+-- the header of the listing
+unfoldable pub headerSaid : ℕ → List ℕ → ℕ → Said (List ℕ)
+headerSaid all s bad = linesSaid all s (headerFor (chosen all) s bad)
+
+-- the line of a key; no text for one that is not held or not shown
+unfoldable pub lineSaid : ℕ → List ℕ → ℕ → Said (List ℕ)
+lineSaid all s key = linesSaid all s (lineFor (chosen all) key (view s key))
 
 -- what a report says, by its line of 96 bytes
 abbrev pub printedSaid : Printed → List ℕ → Said (List ℕ)

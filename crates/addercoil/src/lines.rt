@@ -11,7 +11,7 @@ ghost use lib.ListN.{length};
 ghost use Rattle.refusals.specs.Said.{gives};
 ghost use Rattle.feed.specs.Feed.{fedBlock};
 ghost use Rattle.addercoil.specs.Sent.{sent, given, into};
-ghost use Rattle.addercoil.specs.Lines.{headerSaid, lineSaid, reportSaid, both, fedSaid, fedInto};
+ghost use Rattle.addercoil.specs.Lines.{noChoice, headerSaid, lineSaid, reportSaid, both, fedSaid, fedInto};
 
 fn give_line(out: &mut [u8], line: Line) -> u32
     ensures { λ r. ⌜ sent r (now (out .exit)) ≡ given (now (out .entry)) (gives (line .bytes)) ⌝ }
@@ -33,26 +33,43 @@ fn give_report(out: &mut [u8], report: Report) -> u32
     }
 }
 
-// The listing's first line, of the table as it stands and a number of bad blocks, into 97 bytes. Or 1, then 7.
-#[no_mangle]
-pub extern "C" fn addercoil_header(table: &[u8], bad: u64, out: &mut [u8]) -> u32
-    ensures { λ r. ⌜ sent r (now (out .exit)) ≡ into 97 (now (out .entry)) (headerSaid (now (table .entry)) bad) ⌝ }
+// What a choice that is neither 0 nor 1 earns: 7 comes before 8.
+fn no_choice(table: &[u8]) -> u32
+    ensures { λ r. ⌜ r ≡ noChoice (now (table .entry)) ⌝ }
 {
-    if out.len() != 97 {
-        return 1;
+    if table_bytes::whole_places(table.len()) {
+        8
+    } else {
+        7
     }
-    give_report(out, report::header_of(table, bad))
 }
 
-// The line of a key, none if it is not held, into 97 bytes. Or 1, then 7.
+// The listing's first line, of the table as it stands and a number of bad blocks, into 97 bytes: all 0 counts the tracks with a position, 1 all. Or 1, then 7, 8.
 #[no_mangle]
-pub extern "C" fn addercoil_line(table: &[u8], key: u32, out: &mut [u8]) -> u32
-    ensures { λ r. ⌜ sent r (now (out .exit)) ≡ into 97 (now (out .entry)) (lineSaid (now (table .entry)) key) ⌝ }
+pub extern "C" fn addercoil_header(table: &[u8], bad: u64, all: u32, out: &mut [u8]) -> u32
+    ensures { λ r. ⌜ sent r (now (out .exit)) ≡ into 97 (now (out .entry)) (headerSaid all (now (table .entry)) bad) ⌝ }
 {
     if out.len() != 97 {
         return 1;
     }
-    give_report(out, report::line_of(table, key))
+    if 1 < all {
+        return no_choice(table);
+    }
+    give_report(out, report::header_of(table, bad, all == 1))
+}
+
+// The line of a key, none if it is not held or not shown, into 97 bytes: all 0 shows the tracks with a position, 1 all. Or 1, then 7, 8.
+#[no_mangle]
+pub extern "C" fn addercoil_line(table: &[u8], key: u32, all: u32, out: &mut [u8]) -> u32
+    ensures { λ r. ⌜ sent r (now (out .exit)) ≡ into 97 (now (out .entry)) (lineSaid all (now (table .entry)) key) ⌝ }
+{
+    if out.len() != 97 {
+        return 1;
+    }
+    if 1 < all {
+        return no_choice(table);
+    }
+    give_report(out, report::line_of(table, key, all == 1))
 }
 
 fn give_fed(out: &mut [u64], answer: Fed) -> u32

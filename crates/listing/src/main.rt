@@ -1,10 +1,13 @@
-// Reads a capture on standard input to its end and prints the listing: 256 places, no site. It keeps one block at a time, so that memory does not grow with the capture.
+// Reads a capture on standard input to its end and prints the listing: 256 places, no site. The word `all` asks for every track, no word for those with a position. It keeps one block at a time, so that memory does not grow with the capture.
+mod words;
+
 use feed::Fed;
 use libc::STDERR_FILENO;
 use libc::STDIN_FILENO;
 use libc::STDOUT_FILENO;
 use rules::NextKey;
 use text::Line;
+use words::Asked;
 ghost use mathlib.Core.Path.{_≡_};
 ghost use lib.ListN.{length};
 ghost use Rattle.memory.specs.Offsets.{tableSize};
@@ -59,14 +62,14 @@ fn print(line: Line) -> bool {
     print_first(&bytes, line.len)
 }
 
-// The lines, in the order of the keys, and whether all were written.
-fn print_tracks(table: &[u8]) -> bool {
+// The lines, in the order of the keys, and whether all were written. A key that is not shown has an empty line.
+fn print_tracks(table: &[u8], all: bool) -> bool {
     let mut key: u32 = 0;
     loop {
         let NextKey::Key(next) = table::next(table, key) else {
             return true;
         };
-        let r = report::line_of(table, next);
+        let r = report::line_of(table, next, all);
         if !print(r.line) {
             return false;
         }
@@ -74,15 +77,15 @@ fn print_tracks(table: &[u8]) -> bool {
     }
 }
 
-fn print_all(table: &[u8], bad: u64) -> bool {
-    let r = report::header_of(table, bad);
+fn print_all(table: &[u8], bad: u64, all: bool) -> bool {
+    let r = report::header_of(table, bad, all);
     if !print(r.line) {
         return false;
     }
-    print_tracks(table)
+    print_tracks(table, all)
 }
 
-fn main() {
+fn run(all: bool) {
     let mut table = [0u8; TABLE];
     let mut block = [0u8; 512];
     let bad = read_all(&mut table, &mut block);
@@ -93,7 +96,18 @@ fn main() {
         );
         return;
     }
-    if !print_all(&table, bad) {
+    if !print_all(&table, bad, all) {
         io::write_all(STDERR_FILENO, b"listing: the output cannot be written\n");
+    }
+}
+
+fn main() {
+    let asked = words::read_words();
+    match asked {
+        Asked::Positioned => run(false),
+        Asked::All => run(true),
+        Asked::Unclear => {
+            io::write_all(STDERR_FILENO, b"usage: listing [all]\n");
+        }
     }
 }

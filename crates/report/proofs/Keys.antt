@@ -1,16 +1,17 @@
--- From one key held to the next nothing is counted or listed: what two keys enclose is not held, so the definitions over all keys skip it.
+-- From one key held to the next no row is added: what two keys enclose is not held, so the definitions over all keys skip it. A key held adds its row, if it is shown.
 -- Assumes nothing.
 use Prim.Native.Nat.{ℕ, zero, suc, _+_, _-_, _≤_, _<_}
 use native.Mathlib.Nat.{add-zero, add-suc}
 use native.Mathlib.Omega.{arith}
-use mathlib.Core.Bool.{true}
-use mathlib.Core.List.{List, _++_, append-nil}
+use mathlib.Core.Bool.{Bool, true, false}
+use mathlib.Core.List.{List, [], _∷_, _++_, append-nil, append-assoc}
 use mathlib.Core.Option.{Option, some, none}
 use mathlib.Core.Path.{_≡_, refl, sym, ap, _∙_}
-use lib.ListN.{length}
+use lib.ListN.{length, length-append}
 use Rattle.keys.specs.Keys.{endOfKeys}
 use Rattle.keys.proofs.Laws.{before-end, never-zero}
 use Rattle.track.specs.declared.Track.{Track}
+use Rattle.text.specs.declared.Row.{Row}
 use Rattle.text.specs.Lines.{rowText}
 use Rattle.memory.specs.Offsets.{wholePlaces}
 use Rattle.rules.specs.declared.answers.NextKey.{NextKey}
@@ -19,7 +20,7 @@ use Rattle.rules.proofs.KeyOrder.{next-follows}
 use Rattle.table.specs.Bytes.{bytes}
 use Rattle.table.specs.Table.{nextAbove}
 use Rattle.table.specs.View.{view, Follows}
-use Rattle.report.specs.Listing.{rowOf, lineFor, listed, one, counted}
+use Rattle.report.specs.Listing.{shown, rowFor, asList, rowsBelow, texts}
 use Rattle.report.specs.Walked.{keyOrLimit}
 use Rattle.report.proofs.Held.{held-seen, unheld-unseen, held-is-key}
 
@@ -75,22 +76,36 @@ module _ {A : Type 0} (g : ℕ → A) (s : List ℕ) (keeps : (k : ℕ) → view
   pub skipped-first : {r : ℕ} → Least s 0 r → g 0 ≡ g r
   skipped-first p = sym (keeps 0 (none-zero s)) ∙ skipped p
 
-pub counted-none : (s : List ℕ) → 0 ≡ counted s 0
-unfolding counted
-counted-none s = refl
+module _ (all : Bool) (s : List ℕ) where
+  pub rows-none : rowsBelow all s 0 ≡ []
+  unfolding rowsBelow
+  rows-none = refl
 
-pub counted-keeps : (s : List ℕ) (k : ℕ) → view s k ≡ none → counted s (suc k) ≡ counted s k
-unfolding counted one
-counted-keeps s k e = ap (λ (v : Option Track). counted s k + one v) e ∙ add-zero (counted s k)
+  pub rows-next : (k : ℕ) → rowsBelow all s (suc k) ≡ rowsBelow all s k ++ asList (rowFor all k (view s k))
+  unfolding rowsBelow
+  rows-next k = refl
 
-pub counted-more : (s : List ℕ) (k : ℕ) → Seen s k → counted s (suc k) ≡ counted s k + 1
-unfolding counted one
-counted-more s k h = ap (λ (v : Option Track). counted s k + one v) (h .1)
+  pub rows-keep : (k : ℕ) → view s k ≡ none → rowsBelow all s (suc k) ≡ rowsBelow all s k
+  unfolding rowFor
+  rows-keep k e = rows-next k ∙ ap (λ (v : Option Track). rowsBelow all s k ++ asList (rowFor all k v)) e ∙ append-nil (rowsBelow all s k)
 
-pub listed-keeps : (s : List ℕ) (k : ℕ) → view s k ≡ none → listed s (suc k) ≡ listed s k
-unfolding listed lineFor
-listed-keeps s k e = ap (λ (v : Option Track). listed s k ++ lineFor k v) e ∙ append-nil (listed s k)
+  -- a key held adds its row, if it is shown
+  pub rows-more : {k r : ℕ} → Least s k r → rowsBelow all s r ≡ rowsBelow all s k ++ asList (rowFor all k (view s k))
+  rows-more {k} p = sym (skipped (rowsBelow all s) s rows-keep p) ∙ rows-next k
 
-pub listed-more : (s : List ℕ) (k : ℕ) (h : Seen s k) → listed s (suc k) ≡ listed s k ++ rowText (rowOf k (h .0))
-unfolding listed lineFor
-listed-more s k h = ap (λ (v : Option Track). listed s k ++ lineFor k v) (h .1)
+  counted-more : {k r : ℕ} (p : Least s k r) (h : Seen s k) → length (rowsBelow all s r) ≡ length (rowsBelow all s k) + length (asList (rowFor all k (some (h .0))))
+  counted-more {k} p h = ap length (rows-more p ∙ ap (λ (v : Option Track). rowsBelow all s k ++ asList (rowFor all k v)) (h .1)) ∙ length-append (rowsBelow all s k) _
+
+  pub counted-shown : {k r : ℕ} (p : Least s k r) (h : Seen s k) → shown all (h .0 .position) ≡ true → length (rowsBelow all s r) ≡ length (rowsBelow all s k) + 1
+  unfolding rowFor
+  counted-shown p h e = counted-more p h ∙ rw e
+
+  pub counted-hidden : {k r : ℕ} (p : Least s k r) (h : Seen s k) → shown all (h .0 .position) ≡ false → length (rowsBelow all s r) ≡ length (rowsBelow all s k)
+  unfolding rowFor
+  counted-hidden {k} p h e = counted-more p h ∙ rw e (add-zero (length (rowsBelow all s k)))
+
+-- the texts of two lists of rows
+pub texts-append : (a b : List Row) → texts (a ++ b) ≡ texts a ++ texts b
+unfolding texts
+texts-append [] b = refl
+texts-append (r ∷ a) b = ap (λ (l : List ℕ). rowText r ++ l) (texts-append a b) ∙ sym (append-assoc (rowText r) (texts a) (texts b))

@@ -1,43 +1,54 @@
--- The header's line and those that a walk prints are the listing, and as many as the header says; and every walk ends. By the calls of the walk: each skips what is not held.
+-- The header's line and those that a walk prints are the listing, and the header counts those that have text; and every walk ends. By the calls of the walk: each skips what is not held, and adds the row of a key that is shown.
 -- Assumes nothing.
 use Prim.Native.Nat.{ℕ, zero, suc, _+_, _≤_, _<_}
 use native.Mathlib.Omega.{arith}
-use mathlib.Core.Bool.{true}
+use mathlib.Core.Bool.{Bool, true}
 use mathlib.Core.List.{List, [], _++_, append-nil, append-assoc}
-use mathlib.Core.Path.{_≡_, refl, sym, ap, _∙_}
-use lib.ListN.{length}
+use mathlib.Core.Option.{Option, some, none}
+use mathlib.Core.Path.{_≡_, refl, sym, ap, ap₂, _∙_}
+use lib.ListN.{length, length-append}
 use Rattle.keys.specs.Keys.{endOfKeys}
 use Rattle.keys.proofs.Laws.{before-end}
-use Rattle.text.specs.Lines.{rowText, textIn}
+use Rattle.text.specs.declared.Row.{Row}
+use Rattle.text.specs.Lines.{headerText, keyText, rowText, textIn}
 use Rattle.text.proofs.Fits.{line-text}
 use Rattle.memory.specs.Offsets.{wholePlaces}
+use Rattle.table_bytes.specs.Layout.{clockOf}
 use Rattle.rules.specs.declared.answers.NextKey.{NextKey}
 use Rattle.rules.specs.declared.answers.NextKey.the-variants as next
 use Rattle.rules.proofs.KeyOrder.{next-follows}
 use Rattle.table.specs.Bytes.{bytes}
 use Rattle.table.specs.Table.{nextAbove}
-use Rattle.table.specs.View.{Follows}
-use Rattle.report.specs.Listing.{rowOf, listed, counted, headerFor, listing, headerIn, reported, lineIn}
-use Rattle.report.specs.Walked.{Walked, ended, then, keyOrLimit}
+use Rattle.table.specs.View.{view, Follows}
+use Rattle.report.specs.Listing.{rowFor, asList, rowsBelow, rowsIn, texts, headerFor, listing, headerIn, reported, lineIn}
+use Rattle.report.specs.Walked.{someText, Walked, ended, then, keyOrLimit}
 use Rattle.report.proofs.Held.{held-is-key}
-use Rattle.report.proofs.Keys.{Seen, Least, least, skipped, none-zero, counted-none, counted-keeps, counted-more, listed-keeps, listed-more}
+use Rattle.report.proofs.Keys.{Least, least, skipped, none-zero, rows-none, rows-next, rows-keep, texts-append}
 
-module _ (s : List ℕ) (whole : wholePlaces (length s) ≡ true) where
-  header-text : (bad : ℕ) → textIn (headerIn s bad .line) ≡ headerFor s bad
+-- a row's text is not empty
+row-some : (r : Option Row) → someText (texts (asList r)) ≡ length (asList r)
+unfolding someText texts rowText keyText
+row-some none = refl
+row-some (some r) = refl
+
+module _ (all : Bool) (s : List ℕ) (whole : wholePlaces (length s) ≡ true) where
+  header-text : (bad : ℕ) → textIn (headerIn all s bad .line) ≡ headerFor all s bad
   unfolding headerIn
-  header-text bad = rw whole (line-text (headerFor s bad))
+  header-text bad = rw whole (line-text (headerFor all s bad))
 
-  line-shown : (key : ℕ) (h : Seen s key) → textIn (lineIn s key .line) ≡ rowText (rowOf key (h .0))
-  unfolding lineIn reported
-  line-shown key h = rw (whole, h .1) (line-text (rowText (rowOf key (h .0))))
+  row-text : (r : Option Row) → textIn (reported r .line) ≡ texts (asList r)
+  unfolding texts
+  row-text none = line-text []
+  row-text (some r) = line-text (rowText r) ∙ sym (append-nil (rowText r))
+
+  -- the line of a key is the text of its row
+  line-shown : (key : ℕ) → textIn (lineIn all s key .line) ≡ texts (asList (rowFor all key (view s key)))
+  unfolding lineIn
+  line-shown key = rw whole (row-text (rowFor all key (view s key)))
 
   -- the answer of a call, as the least key
   least-as : (above : ℕ) {a : NextKey} → above < endOfKeys → nextAbove s above ≡ a → Least s above (keyOrLimit a)
   least-as above {a} h e = rw e at (least s above whole h)
-
-  at-end : (above : ℕ) → above < endOfKeys → nextAbove s above ≡ next.End → listed s endOfKeys ≡ listed s (suc above) ++ []
-  unfolding keyOrLimit
-  at-end above h e = sym (append-nil (listed s (suc above)) ∙ skipped (listed s) s (listed-keeps s) (least-as above h e))
 
   least-key : (above key : ℕ) → above < endOfKeys → nextAbove s above ≡ next.Key key → Least s above key × (key < endOfKeys)
   unfolding keyOrLimit
@@ -45,50 +56,58 @@ module _ (s : List ℕ) (whole : wholePlaces (length s) ≡ true) where
       let f : Follows s above (next.Key key) = rw e at (next-follows bytes s above whole) in
       (least-as above h e, before-end key (held-is-key s key (f .0)))
 
-  at-key : (above key : ℕ) (text : List ℕ) → Least s above key → key < endOfKeys → listed s endOfKeys ≡ listed s (suc key) ++ text → listed s endOfKeys ≡ listed s (suc above) ++ (textIn (lineIn s key .line) ++ text)
-  at-key above key text p h rest =
-      let v : Seen s key = p .held h in
-      let e : listed s (suc key) ≡ listed s (suc above) ++ textIn (lineIn s key .line)
-      = listed-more s key v ∙ ap (λ (l : List ℕ). l ++ rowText (rowOf key (v .0))) (sym (skipped (listed s) s (listed-keeps s) p)) ∙ ap (λ (l : List ℕ). listed s (suc above) ++ l) (sym (line-shown key v)) in
-      rest ∙ ap (λ (l : List ℕ). l ++ text) e ∙ append-assoc (listed s (suc above)) (textIn (lineIn s key .line)) text
+  -- what a walk from a key on prints: the rows after that key, their texts, and as many lines with text
+  record Rest (above n : ℕ) (text : List ℕ) : Type 0 where
+    pub left : List Row
+    pub rows : rowsIn all s ≡ rowsBelow all s (suc above) ++ left
+    pub many : length left ≡ n
+    pub said : texts left ≡ text
 
-  -- what a walk from a key on prints is what the listing has after that key
-  walk-lists : {above n : ℕ} {text : List ℕ} → above < endOfKeys → Walked s above n text → listed s endOfKeys ≡ listed s (suc above) ++ text
-  walk-lists {above} h (ended e) = at-end above h e
-  walk-lists {above} h (then {key = key} {text = text} e w) =
+  walk-rest : {above n : ℕ} {text : List ℕ} → above < endOfKeys → Walked all s above n text → Rest above n text
+  unfolding keyOrLimit texts
+  walk-rest {above} h (ended e) =
+      record {
+        left = [];
+        rows = sym (append-nil (rowsBelow all s (suc above)) ∙ skipped (rowsBelow all s) s (rows-keep all s) (least-as above h e));
+        many = refl;
+        said = refl;
+      }
+  walk-rest {above} h (then {key = key} e w) =
       let p = least-key above key h e in
-      at-key above key text (p .0) (p .1) (walk-lists (p .1) w)
+      let q = walk-rest (p .1) w in
+      let own = asList (rowFor all key (view s key)) in
+      let before : rowsBelow all s (suc key) ≡ rowsBelow all s (suc above) ++ own
+      = rows-next all s key ∙ ap (λ (l : List Row). l ++ own) (sym (skipped (rowsBelow all s) s (rows-keep all s) (p .0))) in
+      record {
+        left = own ++ q .left;
+        rows = q .rows ∙ ap (λ (l : List Row). l ++ q .left) before ∙ append-assoc (rowsBelow all s (suc above)) own (q .left);
+        many = length-append own (q .left) ∙ ap₂ _+_ (sym (ap someText (line-shown key) ∙ row-some (rowFor all key (view s key)))) (q .many);
+        said = texts-append own (q .left) ∙ ap₂ _++_ (sym (line-shown key)) (q .said);
+      }
 
-  -- .. and as many lines as there are keys
-  walk-counts : {above n : ℕ} {text : List ℕ} → above < endOfKeys → Walked s above n text → counted s endOfKeys ≡ counted s (suc above) + n
-  unfolding keyOrLimit
-  walk-counts {above} h (ended e) = omega (arith, skipped (counted s) s (counted-keeps s) (least-as above h e))
-  walk-counts {above} h (then {key = key} e w) =
-      let p = least-key above key h e in
-      omega (arith, walk-counts (p .1) w, counted-more s key (p .0 .held (p .1)), skipped (counted s) s (counted-keeps s) (p .0))
-
-  none-listed : listed s 1 ≡ []
-  unfolding listed
-  none-listed = listed-keeps s 0 (none-zero s)
+  -- a walk from 0 on has all rows
+  whole-walk : {n : ℕ} {text : List ℕ} (w : Walked all s 0 n text) → rowsIn all s ≡ walk-rest (omega arith) w .left
+  whole-walk w =
+      let r = walk-rest (omega arith) w in
+      r .rows ∙ ap (λ (l : List Row). l ++ r .left) (rows-keep all s 0 (none-zero s) ∙ rows-none all s)
 
   -- the header, then the lines of a walk from 0 on, is the listing
-  pub walk-prints : (bad : ℕ) {n : ℕ} {text : List ℕ} → Walked s 0 n text → textIn (headerIn s bad .line) ++ text ≡ listing s bad
+  pub walk-prints : (bad : ℕ) {n : ℕ} {text : List ℕ} → Walked all s 0 n text → textIn (headerIn all s bad .line) ++ text ≡ listing all s bad
   unfolding listing
-  walk-prints bad {n} {text} w =
-      ap (λ (l : List ℕ). l ++ text) (header-text bad)
-      ∙ ap (λ (l : List ℕ). headerFor s bad ++ l) (sym (walk-lists (omega arith) w ∙ ap (λ (l : List ℕ). l ++ text) none-listed))
+  walk-prints bad w = ap₂ _++_ (header-text bad) (sym (ap texts (whole-walk w) ∙ walk-rest (omega arith) w .said))
 
-  -- the number of tracks in the header is that of the lines below it
-  pub walk-tracks : {n : ℕ} {text : List ℕ} → Walked s 0 n text → counted s endOfKeys ≡ n
-  walk-tracks w = omega (arith, walk-counts (omega arith) w, counted-keeps s 0 (none-zero s), counted-none s)
+  -- the number of tracks in the header is that of the lines below it that have text
+  pub walk-tracks : (bad : ℕ) {n : ℕ} {text : List ℕ} → Walked all s 0 n text → textIn (headerIn all s bad .line) ≡ headerText (clockOf s) n bad
+  unfolding headerFor
+  walk-tracks bad w = header-text bad ∙ ap (λ (k : ℕ). headerText (clockOf s) k bad) (ap length (whole-walk w) ∙ walk-rest (omega arith) w .many)
 
-  ends : (d above : ℕ) → endOfKeys ≤ above + d → above < endOfKeys → (n : ℕ) × ((text : List ℕ) × Walked s above n text)
+  ends : (d above : ℕ) → endOfKeys ≤ above + d → above < endOfKeys → (n : ℕ) × ((text : List ℕ) × Walked all s above n text)
   ends zero above m h = absurd (omega arith)
   ends (suc d) above m h = by-answer (nextAbove s above) refl (next-follows bytes s above whole) (ends d)
     where
       by-answer : (a : NextKey) → nextAbove s above ≡ a → Follows s above a
-          → ((k : ℕ) → endOfKeys ≤ k + d → k < endOfKeys → (n : ℕ) × ((text : List ℕ) × Walked s k n text))
-          → (n : ℕ) × ((text : List ℕ) × Walked s above n text)
+          → ((k : ℕ) → endOfKeys ≤ k + d → k < endOfKeys → (n : ℕ) × ((text : List ℕ) × Walked all s k n text))
+          → (n : ℕ) × ((text : List ℕ) × Walked all s above n text)
       by-answer (next.Key key) e f rest =
           let l = f .1 .0 in
           let w = rest key (omega arith) (before-end key (held-is-key s key (f .0))) in
@@ -97,5 +116,5 @@ module _ (s : List ℕ) (whole : wholePlaces (length s) ≡ true) where
       by-answer (next.Refused r) e f rest = absurd f
 
   -- every walk ends
-  pub walk-ends : (n : ℕ) × ((text : List ℕ) × Walked s 0 n text)
+  pub walk-ends : (n : ℕ) × ((text : List ℕ) × Walked all s 0 n text)
   walk-ends = ends endOfKeys 0 (omega arith) (omega arith)

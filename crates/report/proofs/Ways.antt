@@ -7,7 +7,6 @@ use mathlib.Core.Option.{some, none}
 use mathlib.Core.Path.{_≡_, refl, sym, ap, _∙_}
 use lib.Dec.{ltb}
 use lib.ListN.{length}
-use Rattle.keys.specs.Keys.{endOfKeys}
 use Rattle.refusals.specs.declared.Refusal.{Refusal}
 use Rattle.refusals.specs.declared.Refusal.the-variants.{Places}
 use Rattle.track.specs.declared.Track.{Track}
@@ -28,9 +27,10 @@ use Rattle.rules.specs.Rules as rules
 use Rattle.rules.specs.View.{trackIn, viewAt}
 use Rattle.table.specs.Bytes.{bytes}
 use Rattle.table.specs.Table.{lookedUp, clockIn}
+use Rattle.table.specs.View.{view}
 use Rattle.report.specs.declared.Printed.the-variants.{Text, Refused, Nothing}
 use Rattle.report.specs.declared.Report.{Report}
-use Rattle.report.specs.Listing.{rowOf, counted, headerFor, without, with, headerIn, reported, lineIn}
+use Rattle.report.specs.Listing.{rowOf, shown, rowFor, rowsIn, headerFor, without, with, headerIn, reported, lineIn}
 
 -- ---- the header, by the clock
 
@@ -43,14 +43,6 @@ isAt (clock.At time) = true
 isAt (clock.Refused r) = false
 
 module _ (s : List ℕ) {c : Clock} (e : c ≡ clockIn s) where
-  told : (bad : ℕ) → headed (counted s endOfKeys) bad c ≡ headerIn s bad
-  unfolding clockIn headerIn headerFor
-  told bad = ap (headed (counted s endOfKeys) bad) e ∙ by-test (wholePlaces (length s))
-    where
-      by-test : (b : Bool) → headed (counted s endOfKeys) bad (cond b (clock.At (clockOf s)) (clock.Refused Places)) ≡ cond (not b) (without (Refused Places)) (with (headerFor s bad))
-      by-test true = refl
-      by-test false = refl
-
   pub clock-whole : {time : ℕ} → c ≡ clock.At time → wholePlaces (length s) ≡ true
   unfolding clockIn
   clock-whole q = sym (sym (ap isAt q) ∙ ap isAt e ∙ by-test (wholePlaces (length s)))
@@ -59,50 +51,81 @@ module _ (s : List ℕ) {c : Clock} (e : c ≡ clockIn s) where
       by-test true = refl
       by-test false = refl
 
-  pub header-known : (bad : ℕ) {time n : ℕ} {l : Line} → c ≡ clock.At time → n ≡ counted s endOfKeys → l ≡ lineOf (headerText time n bad) → _≡_ {A = Report} (record { answer = Text; line = l }) (headerIn s bad)
-  header-known bad {time} {n} q m f =
-      ap (λ (x : Line). record { answer = Text; line = x }) f
-      ∙ ap (λ (k : ℕ). with (headerText time k bad)) m
-      ∙ sym (ap (headed (counted s endOfKeys) bad) q)
-      ∙ told bad
+  module _ (all : Bool) (bad : ℕ) where
+    told : headed (length (rowsIn all s)) bad c ≡ headerIn all s bad
+    unfolding clockIn headerIn headerFor
+    told = ap (headed (length (rowsIn all s)) bad) e ∙ by-test (wholePlaces (length s))
+      where
+        by-test : (b : Bool) → headed (length (rowsIn all s)) bad (cond b (clock.At (clockOf s)) (clock.Refused Places)) ≡ cond (not b) (without (Refused Places)) (with (headerFor all s bad))
+        by-test true = refl
+        by-test false = refl
 
-  pub header-refused : (bad : ℕ) {r : Refusal} → c ≡ clock.Refused r → without (Refused r) ≡ headerIn s bad
-  header-refused bad q = sym (ap (headed (counted s endOfKeys) bad) q) ∙ told bad
+    pub header-known : {time n : ℕ} {l : Line} → c ≡ clock.At time → n ≡ length (rowsIn all s) → l ≡ lineOf (headerText time n bad) → _≡_ {A = Report} (record { answer = Text; line = l }) (headerIn all s bad)
+    header-known {time} q m f =
+        ap (λ (x : Line). record { answer = Text; line = x }) f
+        ∙ ap (λ (k : ℕ). with (headerText time k bad)) m
+        ∙ sym (ap (headed (length (rowsIn all s)) bad) q)
+        ∙ told
 
--- ---- a line, by what was looked up
+    pub header-refused : {r : Refusal} → c ≡ clock.Refused r → without (Refused r) ≡ headerIn all s bad
+    header-refused q = sym (ap (headed (length (rowsIn all s)) bad) q) ∙ told
 
-abbrev answered : ℕ → Holding → Track → Report
-answered key holding.Held t = with (rowText (rowOf key t))
-answered key holding.Unheld t = without Nothing
-answered key (holding.Refused r) t = without (Refused r)
+-- ---- a line, by the track
 
-abbrev shownOf : ℕ → Looked → Report
-shownOf key x = answered key (x .answer) (x .track)
+module _ (all : Bool) (key : ℕ) (t : Track) where
+  pub track-shown : {r : Row} {x : Line} → shown all (t .position) ≡ true → r ≡ rowOf key t → x ≡ lineOf (rowText r) → _≡_ {A = Report} (record { answer = Text; line = x }) (reported (rowFor all key (some t)))
+  unfolding rowFor
+  track-shown h f g = ap (λ (y : Line). record { answer = Text; line = y }) g ∙ ap (λ (y : Row). with (rowText y)) f ∙ rw h
+
+  pub track-hidden : shown all (t .position) ≡ false → without Nothing ≡ reported (rowFor all key (some t))
+  unfolding rowFor
+  track-hidden h = rw h
+
+-- ---- .. by what was looked up
+
+abbrev answered : Bool → ℕ → Holding → Track → Report
+answered all key holding.Held t = reported (rowFor all key (some t))
+answered all key holding.Unheld t = without Nothing
+answered all key (holding.Refused r) t = without (Refused r)
+
+abbrev trackAt : Looked → Track
+trackAt x = x .track
+
+abbrev shownOf : Bool → ℕ → Looked → Report
+shownOf all key x = answered all key (x .answer) (x .track)
 
 module _ (s : List ℕ) (key : ℕ) {l : Looked} (e : l ≡ lookedUp s key) where
-  looked : shownOf key l ≡ lineIn s key
-  unfolding rules.lookedUp placeOf lineIn viewAt reported
-  looked = ap (shownOf key) e ∙ by-tests (wholePlaces (length s)) (ltb (placeOf bytes s (clockOf s) key) (placesIn s))
+  found : Looked
+  found = record { answer = holding.Held; track = trackOf (bodyAt s (placesIn s) (placeOf bytes s (clockOf s) key)) }
+
+  -- the track of a key that is held
+  pub looked-track : wholePlaces (length s) ≡ true → (t : Track) → view s key ≡ some t → l .track ≡ t
+  unfolding rules.lookedUp placeOf viewAt found
+  looked-track w t v = ap trackAt e ∙ by-tests (wholePlaces (length s)) (ltb (placeOf bytes s (clockOf s) key) (placesIn s)) w v
     where
-      found : Looked
-      found = record { answer = holding.Held; track = trackOf (bodyAt s (placesIn s) (placeOf bytes s (clockOf s) key)) }
+      by-tests : (a b : Bool) → a ≡ true → trackIn (cond b (some (bytes .cell s (placeOf bytes s (clockOf s) key))) none) ≡ some t
+          → trackAt (cond (not a) (record { answer = holding.Refused Places; track = newTrack }) (cond b found (record { answer = holding.Unheld; track = newTrack }))) ≡ t
+      by-tests true true h q = cc
+      by-tests true false h q = cc
+      by-tests false b h q = cc
 
-      by-tests : (a b : Bool) →
-          shownOf key (cond (not a) (record { answer = holding.Refused Places; track = newTrack }) (cond b found (record { answer = holding.Unheld; track = newTrack })))
-          ≡ cond (not a) (without (Refused Places)) (reported key (trackIn (cond b (some (bytes .cell s (placeOf bytes s (clockOf s) key))) none)))
-      by-tests true true = refl
-      by-tests true false = refl
-      by-tests false b = refl
+  module _ (all : Bool) where
+    looked : shownOf all key l ≡ lineIn all s key
+    unfolding rules.lookedUp placeOf lineIn viewAt rowFor found
+    looked = ap (shownOf all key) e ∙ by-tests (wholePlaces (length s)) (ltb (placeOf bytes s (clockOf s) key) (placesIn s))
+      where
+        by-tests : (a b : Bool) →
+            shownOf all key (cond (not a) (record { answer = holding.Refused Places; track = newTrack }) (cond b found (record { answer = holding.Unheld; track = newTrack })))
+            ≡ cond (not a) (without (Refused Places)) (reported (rowFor all key (trackIn (cond b (some (bytes .cell s (placeOf bytes s (clockOf s) key))) none))))
+        by-tests true true = refl
+        by-tests true false = refl
+        by-tests false b = refl
 
-  pub line-held : {r : Row} {x : Line} → l .answer ≡ holding.Held → r ≡ rowOf key (l .track) → x ≡ lineOf (rowText r) → _≡_ {A = Report} (record { answer = Text; line = x }) (lineIn s key)
-  line-held q f g =
-      ap (λ (y : Line). record { answer = Text; line = y }) g
-      ∙ ap (λ (y : Row). with (rowText y)) f
-      ∙ sym (ap (λ (a : Holding). answered key a (l .track)) q)
-      ∙ looked
+    pub line-held : {x : Report} → l .answer ≡ holding.Held → x ≡ reported (rowFor all key (some (l .track))) → x ≡ lineIn all s key
+    line-held q f = f ∙ sym (ap (λ (a : Holding). answered all key a (l .track)) q) ∙ looked
 
-  pub line-unheld : l .answer ≡ holding.Unheld → without Nothing ≡ lineIn s key
-  line-unheld q = sym (ap (λ (a : Holding). answered key a (l .track)) q) ∙ looked
+    pub line-unheld : l .answer ≡ holding.Unheld → without Nothing ≡ lineIn all s key
+    line-unheld q = sym (ap (λ (a : Holding). answered all key a (l .track)) q) ∙ looked
 
-  pub line-refused : {r : Refusal} → l .answer ≡ holding.Refused r → without (Refused r) ≡ lineIn s key
-  line-refused q = sym (ap (λ (a : Holding). answered key a (l .track)) q) ∙ looked
+    pub line-refused : {r : Refusal} → l .answer ≡ holding.Refused r → without (Refused r) ≡ lineIn all s key
+    line-refused q = sym (ap (λ (a : Holding). answered all key a (l .track)) q) ∙ looked

@@ -1,7 +1,7 @@
--- The listing of a table, as document 01 has it: the header, then a line for each key held, I first, then by address.
-use Prim.Native.Nat.{ℕ, zero, suc, _+_}
-use mathlib.Core.Bool.{cond, not}
-use mathlib.Core.List.{List, [], _++_}
+-- The listing of a table, as documents 01 and 02 have it: the header, then the lines of a list of rows, those of the keys held, I first, then by address; of all, or of those with a known position.
+use Prim.Native.Nat.{ℕ, zero, suc}
+use mathlib.Core.Bool.{Bool, cond, not, _||_}
+use mathlib.Core.List.{List, [], _∷_, _++_}
 use mathlib.Core.Option.{Option, some, none}
 use lib.IntN.{pos}
 use lib.ListN.{length}
@@ -51,30 +51,47 @@ rowOf key t =
 
 -- ---- the whole listing, over all keys, whose order is by kind and then by address
 
--- a key's line, if it is held
-unfoldable pub lineFor : ℕ → Option Track → List ℕ
-lineFor key none = []
-lineFor key (some t) = rowText (rowOf key t)
+-- a track is shown if all are asked for, or if its position is known, whatever its age
+abbrev pub shown : Bool → Position → Bool
+shown all p = all || p .known
 
--- the lines of the keys below k, one key after the other
-unfoldable pub listed : List ℕ → ℕ → List ℕ
-listed s zero = []
-listed s (suc k) = listed s k ++ lineFor k (view s k)
+-- a key's row, if it is held and shown
+unfoldable pub rowFor : Bool → ℕ → Option Track → Option Row
+rowFor all key none = none
+rowFor all key (some t) = cond (shown all (t .position)) (some (rowOf key t)) none
 
-unfoldable pub one : Option Track → ℕ
-one none = 0
-one (some t) = 1
+abbrev pub asList : Option Row → List Row
+asList none = []
+asList (some r) = r ∷ []
 
--- how many of the keys below k are held
-unfoldable pub counted : List ℕ → ℕ → ℕ
-counted s zero = 0
-counted s (suc k) = counted s k + one (view s k)
+-- the rows of the keys below k, one key after the other
+unfoldable pub rowsBelow : Bool → List ℕ → ℕ → List Row
+rowsBelow all s zero = []
+rowsBelow all s (suc k) = rowsBelow all s k ++ asList (rowFor all k (view s k))
 
-unfoldable pub headerFor : List ℕ → ℕ → List ℕ
-headerFor s bad = headerText (clockOf s) (counted s endOfKeys) bad
+-- the rows of a table: the keys that it holds, in order; without those that have no position, unless all are asked for
+abbrev pub rowsIn : Bool → List ℕ → List Row
+rowsIn all s = rowsBelow all s endOfKeys
 
-unfoldable pub listing : List ℕ → ℕ → List ℕ
-listing s bad = headerFor s bad ++ listed s endOfKeys
+-- their texts, one after the other
+unfoldable pub texts : List Row → List ℕ
+texts [] = []
+texts (r ∷ rs) = rowText r ++ texts rs
+
+-- a key's line, empty if it has no row
+abbrev pub lineText : Option Row → List ℕ
+lineText none = []
+lineText (some r) = rowText r
+
+abbrev pub lineFor : Bool → ℕ → Option Track → List ℕ
+lineFor all key v = lineText (rowFor all key v)
+
+-- "tracks" counts the rows
+unfoldable pub headerFor : Bool → List ℕ → ℕ → List ℕ
+headerFor all s bad = headerText (clockOf s) (length (rowsIn all s)) bad
+
+unfoldable pub listing : Bool → List ℕ → ℕ → List ℕ
+listing all s bad = headerFor all s bad ++ texts (rowsIn all s)
 
 -- ---- what is answered, line by line
 
@@ -85,13 +102,14 @@ abbrev pub with : List ℕ → Report
 with text = record { answer = Text; line = lineOf text }
 
 -- 7, or the header
-unfoldable pub headerIn : List ℕ → ℕ → Report
-headerIn s bad = cond (not (wholePlaces (length s))) (without (Refused Places)) (with (headerFor s bad))
+unfoldable pub headerIn : Bool → List ℕ → ℕ → Report
+headerIn all s bad = cond (not (wholePlaces (length s))) (without (Refused Places)) (with (headerFor all s bad))
 
--- 7, or the line of a key; nothing for one that is not held
-unfoldable pub reported : ℕ → Option Track → Report
-reported key none = without Nothing
-reported key (some t) = with (rowText (rowOf key t))
+-- the line of a row; nothing where there is none
+abbrev pub reported : Option Row → Report
+reported none = without Nothing
+reported (some r) = with (rowText r)
 
-unfoldable pub lineIn : List ℕ → ℕ → Report
-lineIn s key = cond (not (wholePlaces (length s))) (without (Refused Places)) (reported key (view s key))
+-- 7, or the line of a key; nothing for one that is not held or not shown
+unfoldable pub lineIn : Bool → List ℕ → ℕ → Report
+lineIn all s key = cond (not (wholePlaces (length s))) (without (Refused Places)) (reported (rowFor all key (view s key)))

@@ -1,16 +1,15 @@
--- What the answers say in document 01's terms: a number of its table, or the text of a line; or nothing, of a key that is not held.
+-- What the answers say in document 01's terms: a number of its table, or the text of a line; or nothing, of a key that is not held or not shown.
 use Prim.Native.Nat.{ℕ}
 use mathlib.Core.List.{List}
 use mathlib.Core.Option.{Option, some, none}
 use Rattle.refusals.specs.Numbers.{numberOf}
 use Rattle.refusals.specs.Said.{Said, number, gives}
-use Rattle.track.specs.declared.Track.{Track}
 use Rattle.text.specs.declared.Line.{Line}
+use Rattle.text.specs.declared.Row.{Row}
 use Rattle.text.specs.Lines.{rowText, textIn}
 use Rattle.report.specs.declared.Printed.{Printed}
 use Rattle.report.specs.declared.Printed.the-variants.{Text, Nothing, Refused}
 use Rattle.report.specs.declared.Report.{Report}
-use Rattle.report.specs.Listing.{rowOf}
 
 -- the answer, with the line beside it
 abbrev pub printedSaid : Printed → Line → Said (Option (List ℕ))
@@ -21,7 +20,7 @@ printedSaid (Refused r) l = number (numberOf r)
 abbrev pub reportSaid : Report → Said (Option (List ℕ))
 reportSaid x = printedSaid (x .answer) (x .line)
 
--- what is due for a key, by its track: its line, or nothing where it is not held
-abbrev pub lineDue : ℕ → Option Track → Option (List ℕ)
-lineDue key none = none
-lineDue key (some t) = some (rowText (rowOf key t))
+-- what is due for a key, by its row: the row's text, or nothing where there is no row
+abbrev pub lineDue : Option Row → Option (List ℕ)
+lineDue none = none
+lineDue (some r) = some (rowText r)

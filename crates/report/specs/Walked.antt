@@ -1,7 +1,8 @@
 -- The walk of the keys: what a caller prints who asks for the next key again and again, and for the line of each.
-use Prim.Native.Nat.{ℕ, suc}
+use Prim.Native.Nat.{ℕ, _+_}
 use mathlib.Core.Path.{_≡_}
-use mathlib.Core.List.{List, [], _++_}
+use mathlib.Core.Bool.{Bool}
+use mathlib.Core.List.{List, [], _∷_, _++_}
 use Rattle.keys.specs.Keys.{endOfKeys}
 use Rattle.text.specs.Lines.{textIn}
 use Rattle.rules.specs.declared.answers.NextKey.{NextKey}
@@ -9,10 +10,16 @@ use Rattle.rules.specs.declared.answers.NextKey.the-variants.{Key, End, Refused
 use Rattle.table.specs.Table.{nextAbove}
 use Rattle.report.specs.Listing.{lineIn}
 
--- a walk of the table s from a key on, by the answers of `table::next`: how many keys came, and the text of their lines, by the answers of `report::line_of`
-pub data Walked (s : List ℕ) : ℕ → ℕ → List ℕ → Type 0 where
-  ended : {above : ℕ} → nextAbove s above ≡ End → Walked s above 0 []
-  then : {above key n : ℕ} {text : List ℕ} → nextAbove s above ≡ Key key → Walked s key n text → Walked s above (suc n) (textIn (lineIn s key .line) ++ text)
+-- 1 for a text, 0 for an empty one
+unfoldable pub someText : List ℕ → ℕ
+someText [] = 0
+someText (b ∷ bs) = 1
+
+-- a walk of the table s from a key on, by the answers of `table::next`: how many of the lines have text, and their text, by the answers of `report::line_of`
+pub data Walked (all : Bool) (s : List ℕ) : ℕ → ℕ → List ℕ → Type 0 where
+  ended : {above : ℕ} → nextAbove s above ≡ End → Walked all s above 0 []
+  then : {above key n : ℕ} {text : List ℕ} → nextAbove s above ≡ Key key → Walked all s key n text
+      → Walked all s above (someText (textIn (lineIn all s key .line)) + n) (textIn (lineIn all s key .line) ++ text)
 
 -- the key that a walk has come to; at its end the end of the keys
 unfoldable pub keyOrLimit : NextKey → ℕ

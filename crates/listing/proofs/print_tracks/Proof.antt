@@ -9,10 +9,10 @@ use Rattle.listing.proofs.print_tracks.Statement.{statement}
 use Rattle.listing.proofs.print_tracks.Tie as tie
 
 abbrev Inv-loop : tie.InvT-loop
-Inv-loop table key₀ key = key < 2 ^ 32
+Inv-loop table all key₀ key = key < 2 ^ 32
 
 abbrev μ-loop : tie.MeasureT-loop
-μ-loop table key₀ key = 2 ^ 32 - key
+μ-loop table all key₀ key = 2 ^ 32 - key
 
 loop-holds : tie.Need-loop-holds Inv-loop μ-loop
 loop-holds c = search needs

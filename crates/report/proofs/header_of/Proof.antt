@@ -25,10 +25,10 @@ without-requires : tie.Need-without-requires
 without-requires c κs = search needs
 
 returns : tie.Need-returns
-returns c = header-known _ (c .before .before .before .before .before .clock-of .ensures) _ (c .before .before .before .clock .given .1) (c .before .count .ensures) (c .header-line .ensures)
+returns c = header-known _ (c .before .before .before .before .before .clock-of .ensures) _ _ (c .before .before .before .clock .given .1) (c .before .count .ensures) (c .header-line .ensures)
 
 returns-2 : tie.Need-returns-2
-returns-2 c = c .without .ensures ∙ header-refused _ (c .before .before .before .before .clock-of .ensures) _ (c .before .before .clock2 .given .1)
+returns-2 c = c .without .ensures ∙ header-refused _ (c .before .before .before .before .clock-of .ensures) _ _ (c .before .before .clock2 .given .1)
 
 pub header-of-spec : {M : Type 1} → statement M
 header-of-spec =

@@ -12,11 +12,8 @@ look-up-requires c κs = search needs
 enum-told : tie.Need-enum-told
 enum-told c = search needs
 
-row-of-requires : tie.Need-row-of-requires
-row-of-requires c κs = search needs
-
-row-line-requires : tie.Need-row-line-requires
-row-line-requires c κs = search needs
+track-line-requires : tie.Need-track-line-requires
+track-line-requires c κs = search needs
 
 enum-told-2 : tie.Need-enum-told-2
 enum-told-2 c = search needs
@@ -31,13 +28,13 @@ without-requires-2 : tie.Need-without-requires-2
 without-requires-2 c κs = search needs
 
 returns : tie.Need-returns
-returns c = line-held _ _ (c .before .before .before .before .before .look-up .ensures) (c .before .before .enum-told .given .1) (c .before .row-of .ensures) (c .row-line .ensures)
+returns c = line-held _ _ (c .before .before .before .before .look-up .ensures) _ (c .before .enum-told .given .1) (c .track-line .ensures)
 
 returns-2 : tie.Need-returns-2
-returns-2 c = c .without .ensures ∙ line-unheld _ _ (c .before .before .before .before .look-up .ensures) (c .before .enum-told2 .given .1)
+returns-2 c = c .without .ensures ∙ line-unheld _ _ (c .before .before .before .before .look-up .ensures) _ (c .before .enum-told2 .given .1)
 
 returns-3 : tie.Need-returns-3
-returns-3 c = c .without2 .ensures ∙ line-refused _ _ (c .before .before .before .before .before .look-up .ensures) (c .before .before .answer .given .1)
+returns-3 c = c .without2 .ensures ∙ line-refused _ _ (c .before .before .before .before .before .look-up .ensures) _ (c .before .before .answer .given .1)
 
 pub line-of-spec : {M : Type 1} → statement M
 line-of-spec =
@@ -45,8 +42,7 @@ line-of-spec =
     (tie.spec
     look-up-requires
     enum-told
-    row-of-requires
-    row-line-requires
+    track-line-requires
     enum-told-2
     without-requires
     enum-known-answer

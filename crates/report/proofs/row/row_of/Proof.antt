@@ -1,10 +1,10 @@
--- `report::rows::row_of` meets its contract: each figure is the definition's.
+-- `report::row::row_of` meets its contract: each figure is the definition's.
 -- Assumes nothing.
 use mathlib.Core.Path.{ap, _∙_}
 use Rattle.report.specs.Listing.{feet, rowOf}
 use borrow.Author.Needs.{needs}
-use Rattle.report.proofs.rows.row_of.Statement.{statement}
-use Rattle.report.proofs.rows.row_of.Tie as tie
+use Rattle.report.proofs.row.row_of.Statement.{statement}
+use Rattle.report.proofs.row.row_of.Tie as tie
 
 latitude-in-requires : tie.Need-latitude-in-requires
 latitude-in-requires c κs = search needs

@@ -1,4 +1,4 @@
--- `report::rows::feet` meets its contract: by the cases of the altitude, and 32 bits with a sign fit 64.
+-- `report::row::feet` meets its contract: by the cases of the altitude, and 32 bits with a sign fit 64.
 -- Assumes nothing.
 use mathlib.Core.Path.{sym, ap}
 use mir.Val.{SFits}
@@ -6,8 +6,8 @@ use mir.Syntax.{w32, w64}
 use mir.Facts.{toZ-ofZ, sfits-widen}
 use Rattle.report.specs.Listing.{feet}
 use borrow.Author.Needs.{needs}
-use Rattle.report.proofs.rows.feet.Statement.{statement}
-use Rattle.report.proofs.rows.feet.Tie as tie
+use Rattle.report.proofs.row.feet.Statement.{statement}
+use Rattle.report.proofs.row.feet.Tie as tie
 
 narrow : (c : tie.After-known-told) → SFits w32 (c .before .a .given .0 .0)
 narrow c = record { sfits = c .known-told .given .0 .1 }

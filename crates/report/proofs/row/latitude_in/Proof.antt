@@ -1,12 +1,12 @@
--- `report::rows::latitude_in` meets its contract: by the test, and 32 bits with a sign fit 64.
+-- `report::row::latitude_in` meets its contract: by the test, and 32 bits with a sign fit 64.
 -- Assumes nothing.
 use native.Mathlib.Omega.{arith}
 use mir.Val.{SFits}
 use mir.Syntax.{w32, w64}
 use mir.Facts.{toZ-ofZ, sfits-widen}
 use Rattle.report.specs.Listing.{latitudeIn}
-use Rattle.report.proofs.rows.latitude_in.Statement.{statement}
-use Rattle.report.proofs.rows.latitude_in.Tie as tie
+use Rattle.report.proofs.row.latitude_in.Statement.{statement}
+use Rattle.report.proofs.row.latitude_in.Tie as tie
 
 narrow : (c : tie.After-struct-told) → SFits w32 (c .before .before .before .args .p .spot .latitude)
 narrow c = record { sfits = omega (arith, c .struct-told .given) }

@@ -1,12 +1,12 @@
--- `report::rows::longitude_in` meets its contract: by the test, and 32 bits fit 64 with a sign.
+-- `report::row::longitude_in` meets its contract: by the test, and 32 bits fit 64 with a sign.
 -- Assumes nothing.
 use native.Mathlib.Omega.{arith}
 use mir.Syntax.{w64}
 use mir.Facts.{toZ-pos}
 use borrow.Author.Needs.{needs}
 use Rattle.report.specs.Listing.{longitudeIn}
-use Rattle.report.proofs.rows.longitude_in.Statement.{statement}
-use Rattle.report.proofs.rows.longitude_in.Tie as tie
+use Rattle.report.proofs.row.longitude_in.Statement.{statement}
+use Rattle.report.proofs.row.longitude_in.Tie as tie
 
 cast-t4 : tie.Need-cast-t4
 cast-t4 c = search needs
