@@ -49,7 +49,8 @@ enum {
     ADDERCOIL_PLACES = 7,    /* a table that is not of 1 to 1,024 whole places */
     ADDERCOIL_FIELD = 8,     /* a field wider than its bits or that no such message has, a latitude beyond a pole, a choice above 1 */
     ADDERCOIL_LATITUDE = 9,  /* a decoded latitude beyond a pole */
-    ADDERCOIL_ZONES = 10     /* two latitudes in different longitude zones */
+    ADDERCOIL_ZONES = 10,    /* two latitudes in different longitude zones */
+    ADDERCOIL_NO_TRACK = 12  /* TYPE 0, an altitude alone, of an aircraft that is not held: it starts no track */
 };
 
 /* ---- The table: tracks in bytes that the caller lends ---- */
@@ -75,10 +76,11 @@ uint32_t addercoil_set_up_at(uint8_t *table, size_t table_len, int32_t latitude,
 
 /*
  * A message of 14 bytes received at a time: starts or updates its aircraft's track, and moves the clock to the time.
- * A track goes when it was last heard 125,000 ms ago.
+ * A track goes when it was last heard 125,000 ms ago. TYPE 0 starts no track, and of one that is held it updates when it
+ * was last heard and, unless the altitude code is 0, the pressure altitude.
  * Or ADDERCOIL_LENGTH, ADDERCOIL_PLACES, ADDERCOIL_LATE, which leave the table as it was;
- * or ADDERCOIL_PARITY, ADDERCOIL_FORMAT, ADDERCOIL_TYPE, ADDERCOIL_FULL, which move the clock, so that tracks out of date
- * go, and leave the other tracks as they were.
+ * or ADDERCOIL_PARITY, ADDERCOIL_FORMAT, ADDERCOIL_TYPE, and last ADDERCOIL_FULL, or of TYPE 0 ADDERCOIL_NO_TRACK, which
+ * move the clock, so that tracks out of date go, and leave the other tracks as they were.
  */
 uint32_t addercoil_receive(uint8_t *table, size_t table_len, const uint8_t *message, size_t message_len, uint64_t time);
 
@@ -228,7 +230,7 @@ enum {
 enum {
     ADDERCOIL_IDENTIFICATION = 1,  /* TYPE 1-4 */
     ADDERCOIL_SURFACE = 2,         /* TYPE 5-8 */
-    ADDERCOIL_AIRBORNE = 3,        /* TYPE 9-18 and 20-22 */
+    ADDERCOIL_AIRBORNE = 3,        /* TYPE 9-18 and 20-22; TYPE 0, whose F and counts mean nothing */
     ADDERCOIL_GROUND = 4,          /* TYPE 19, subtypes 1 and 2: velocity over ground */
     ADDERCOIL_AIR = 5              /* TYPE 19, subtypes 3 and 4: velocity through air */
 };

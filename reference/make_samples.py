@@ -160,6 +160,38 @@ def crowd():
     return capture([(time, traffic.identification(TRANSPONDER, time, "CROWD")) for time in range(1, PLACES + 3)])
 
 
+# Gliders whose GPS drops out
+
+
+def glider(head, aa, spot, back=4 * MINUTE):
+    """Climbs 100 feet every 5 seconds, for 4 minutes. It knows its position in the first, and once its GPS is back."""
+    for time in range(0, 4 * MINUTE, 5_000):
+        code = traffic.altitude_code(3_000 + time // 50)
+        if MINUTE <= time < back:
+            yield time, traffic.no_position(head, aa, code)
+        else:
+            yield time, traffic.airborne(head, aa, time // 5_000 % 2, spot, 11, code)
+
+
+def once_placed(head, aa, spot, code, type_code=11):
+    """A pair of messages with its position and 10,000 feet; then TYPE 0 with this code, every minute."""
+    for time, i in ((100, EVEN), (600, ODD)):
+        yield time, traffic.airborne(head, aa, i, spot, type_code)
+    for time in range(MINUTE, 4 * MINUTE, MINUTE):
+        yield time, traffic.no_position(head, aa, code)
+
+
+def gliders():
+    """TYPE 0: without it all would be dropped but the one whose GPS is back. Who sends nothing else is not listed."""
+    north, east, high = 47 * DEGREE, 12 * DEGREE, traffic.altitude_code(7_800)
+    rows = [*glider(TRANSPONDER, 0x3D2A41, (north, east)), *glider(OTHER, 0x3D2A41, (north, 2 * east), back=3 * MINUTE)]
+    rows += once_placed(TRANSPONDER, 0x3D0000, (north, 3 * east), 0)  # a field of zeros: 10,000 feet stays
+    rows += once_placed(NO_TRANSPONDER, 0x3D0001, (north, 4 * east), 2688)  # a code that reads unknown
+    rows += once_placed(OTHER, 0x3D0002, (north, 5 * east), high, 20)  # GNSS height, then pressure altitude
+    rows += [(time, traffic.no_position(TRANSPONDER, 0x3D0003, high)) for time in range(0, 4 * MINUTE, MINUTE)]
+    return capture(sorted(rows))
+
+
 # A minute, in hex
 
 
@@ -201,7 +233,7 @@ def hex_listing(strings, step, every):
     return listing_of(made, 0, every).encode("ascii"), refused
 
 
-SAMPLES = {"example": example, "busy-hour": busy_hour, "crowd": crowd}
+SAMPLES = {"example": example, "busy-hour": busy_hour, "crowd": crowd, "gliders": gliders}
 RUN = "example"  # its two listings are the same
 LISTINGS = {"listing": True, "positioned": False}  # the ending of a sample's listing, and whether all are asked for
 

@@ -1,4 +1,4 @@
-"""The paper, "What the decoder covers" and "ME fields, by bit numbers of ME".
+"""The paper, "What the decoder covers" and "ME fields, by bit numbers of ME"; of TYPE 0 the request R-2.
 
 A message is its fields by name, in the order of their bits; those the paper leaves without a
 name are called by their bit numbers. All bits, reserved ones included, are kept.
@@ -54,12 +54,12 @@ def df_taken(df, ca_or_cf):
 
 
 def layout(type_code, subtype):
-    """The fields of ME after TYPE, or none: TYPE 0, 23-31 and TYPE 19 but for subtypes 1-4."""
+    """The fields of ME after TYPE, or none: TYPE 23-31, and TYPE 19 but for subtypes 1-4. TYPE 0 has the airborne layout."""
     if 1 <= type_code <= 4:
         return IDENTIFICATION
     if 5 <= type_code <= 8:
         return SURFACE
-    if 9 <= type_code <= 18 or 20 <= type_code <= 22:
+    if type_code == 0 or 9 <= type_code <= 18 or 20 <= type_code <= 22:
         return AIRBORNE
     if type_code == 19 and subtype in (1, 2):
         return OVER_GROUND

@@ -142,6 +142,15 @@ FIELD_ROWS = [
     ),
 ]
 
+# TYPE 0, by source 003, note 3 to its tables of TYPE: the pressure altitude in bits 9 to 20, and all zeros if there is none
+NO_POSITION_ROWS = [
+    ("8DABCDEF00378000000000006F9E", {"AA": 0xABCDEF, "TYPE": 0, "altitude": 888, "F": 0, "latitude": 0, "longitude": 0}),
+    ("8DABCDEF00000000000000B8A543", {"AA": 0xABCDEF, "TYPE": 0, "altitude": 0, "F": 0, "latitude": 0, "longitude": 0}),
+]
+
+# The TYPEs with an altitude, by source 003's table A: whether it is a GNSS height
+GNSS_HEIGHTS = {0: False, **dict.fromkeys(range(9, 19), False), **dict.fromkeys(range(20, 23), True)}
+
 # Operational status, TYPE 31: refused with 5
 STATUS_MESSAGES = [
     "8DABCDEFF8000000004000B0CA3C",

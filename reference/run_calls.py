@@ -17,11 +17,12 @@ from embedding import AT, BYTES, FUNCTIONS, WORDS, WRITES, array_of, call_text, 
 from positions import AIRBORNE, EVEN, ODD
 from positions import encode as counts_of
 from programs import ran
+from readings import UNKNOWN, altitude
 from refusals import Refused
 from run_captures import damaged, message
 from tracks import I, O, Track
 from traffic import OTHER, TRANSPONDER
-from vectors.message_vectors import random_valid, sealed_message
+from vectors.message_vectors import random_acceptable, sealed_message
 from vectors.position_vectors import random_counts, random_latitude, random_longitude
 from vectors.table_vectors import random_track
 
@@ -143,7 +144,7 @@ def edge(chance, bits):
     return max(0, chance.choice((0, 1, last - 3, last - 1, last, chance.getrandbits(bits))))
 
 
-LAYOUTS = [(1, None), (4, None), (5, None), (11, None), (21, None), (19, 1), (19, 2), (19, 3), (19, 4)]
+LAYOUTS = [(0, None), (1, None), (4, None), (5, None), (11, None), (21, None), (19, 1), (19, 2), (19, 3), (19, 4)]
 
 
 def edge_message(chance):
@@ -165,7 +166,7 @@ def some_message(chance):
 
 def some_fields(chance):
     """The fields of a message, often with one changed, or a wrong length. What the encoder does not read is anything."""
-    entries = row(AT["FIELDS"], message_row(messages.decode(random_valid(chance))))
+    entries = row(AT["FIELDS"], message_row(messages.decode(random_acceptable(chance))))
     for at in (AT["KEY"], *range(FIRST_READING, AT["FIELDS"])):
         entries[at] = number(chance)
     if chance.randrange(2):
@@ -262,12 +263,13 @@ def difference(asked, given):
 
 # What must have been tried
 
-PAPER = "OK LENGTH LATE PARITY FORMAT TYPE FULL PLACES FIELD LATITUDE ZONES".split()  # 0 to 10, by the header's names
+PAPER = dict(enumerate("OK LENGTH LATE PARITY FORMAT TYPE FULL PLACES FIELD LATITUDE ZONES".split()))  # by the header's names
+PAPER |= {12: "NO_TRACK"}
 READS = {0, 1, 7}
 NUMBERS = {
     **{name: READS for name in ("clock", "site", "next", "look_up", "feed_block")},
     **{name: {*READS, 8} for name in ("header", "line")},
-    **{"set_up": {0, 7}, "set_up_at": {0, 7, 8}, "receive": {0, 1, 2, 3, 4, 5, 6, 7}},
+    **{"set_up": {0, 7}, "set_up_at": {0, 7, 8}, "receive": {0, 1, 2, 3, 4, 5, 6, 7, 12}},
     **{"encode_position": {0, 1, 8}, "pair": {0, 1, 8, 9, 10}, "single": {0, 1, 8, 9}},
     **{"decode": {0, 1, 3, 4, 5}, "encode": {0, 1, 8}},
 }
@@ -285,7 +287,7 @@ KINDS = {
 
 def header_faults():
     """The header's numbers that are not the paper's."""
-    wrong = [name for number, name in enumerate(PAPER) if AT[name] != number]
+    wrong = [name for number, name in PAPER.items() if AT[name] != number]
     return wrong + [name for name, size in (("BLOCK", BLOCK), ("MESSAGE", 14)) if AT[name] != size]
 
 
@@ -307,6 +309,19 @@ def kinds_missing(asked):
     }
 
 
+def lost_missing(asked):
+    """What was never tried of TYPE 0: accepted and 12, with the altitude zero, one that reads unknown, and a known one."""
+    seen = set()
+    for call, outcome in asked:
+        if not call.startswith("receive "):
+            continue
+        string = array_of(call.split()[2], BYTES)
+        if len(string) == 14 and string[4] >> 3 == 0:
+            code = messages.field(string[4:11], 9, 20)
+            seen.add((outcome.split()[1], "zero" if code == 0 else "unknown" if altitude(code) == UNKNOWN else "known"))
+    return {(number, code) for number in ("0", "12") for code in ("zero", "unknown", "known")} - seen
+
+
 def full_missing(asked):
     """Whether a table of 1,024 places was never full for a stranger."""
     length = 2 * tables.length_of(1024)
@@ -322,7 +337,7 @@ def main():
     if done.returncode != 0 or found:
         print(f"status {done.returncode} {done.stderr.decode()}\n{found}")
         return 1
-    untried = [header_faults(), numbers_missing(asked), kinds_missing(asked), full_missing(asked)]
+    untried = [header_faults(), numbers_missing(asked), kinds_missing(asked), lost_missing(asked), full_missing(asked)]
     if any(untried):
         print(f"the header has other numbers than the paper, or these were never tried: {untried}")
         return 1

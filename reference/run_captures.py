@@ -16,7 +16,7 @@ from make_samples import SAMPLES, resealed
 from positions import EVEN, ODD
 from programs import ROOT, ran
 from traffic import NO_TRANSPONDER, OTHER, TRANSPONDER
-from vectors.message_vectors import flipped, random_valid
+from vectors.message_vectors import flipped, random_acceptable, random_no_position
 
 RANDOM_CAPTURES = 200
 
@@ -31,8 +31,9 @@ def message(chance):
         lambda: traffic.airborne(head, aa, chance.choice((EVEN, ODD)), place, chance.choice((9, 18, 20)), chance.getrandbits(12)),
         lambda: traffic.surface(head, aa, chance.choice((EVEN, ODD)), near),
         lambda: traffic.identification(head, aa, "ADDER1"),
-        lambda: random_valid(chance),
-        lambda: flipped(random_valid(chance), chance.randrange(1, 113)),
+        lambda: random_no_position(chance, head, aa),
+        lambda: random_acceptable(chance),
+        lambda: flipped(random_acceptable(chance), chance.randrange(1, 113)),
         lambda: chance.randbytes(14),
     ))()
 

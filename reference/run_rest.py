@@ -447,6 +447,13 @@ def step_on_surface(bench, position, site, i):
     step_me(bench, track, me_of(7, i, counts), site)
 
 
+def step_lost(bench, position, site, i, code):
+    """The same of TYPE 0 with an altitude code: no value of a place is read, so none is out of its range."""
+    track = Track(1, 2, 3, 4, 5, 6, position, saved_of(i, Saved(1, 2**32 - 1, 6, NOW)))
+    bench.tried.add(("step", ("lost", code)))
+    step_me(bench, track, me_of(0, i, counts_by(AIRBORNE, i)[0]) | code << 36, site)
+
+
 def saved_of(i, partner):
     """The two saved ones of a track: the partner of F, and what F itself replaces."""
     mine = Saved(1, 2**32 - 1, 5, NOW)
@@ -464,6 +471,8 @@ def hand_made_edges(bench):
             step_airborne(bench, position, partner, i)
         for site in SITES:
             step_on_surface(bench, position, site, i)
+    for position, site, i, code in product(POSITIONS, SITES, (EVEN, ODD), (0, 888, 2688)):
+        step_lost(bench, position, site, i, code)
     for type_code, beyond in product(range(32), (0, 2**56, 2**63)):
         step_me(bench, Track(position=POSITIONS[0]), beyond + me_of(type_code, ODD, (5, 6)), SITES[0])
 
@@ -523,7 +532,7 @@ PUT = "new", "as it was", "refused 8"
 READ = {*product((True,), (False, True), PUT), *product((False,), (True,), PUT), (False, False, "as it was")}
 ANSWERS = {
     "S": {"done", "refused 7", "refused 8"},
-    "R": {"a value", *(f"refused {number}" for number in range(1, 8))},
+    "R": {"a value", *(f"refused {number}" for number in (*range(1, 8), 12))},
     "K": {"held", "unheld", "refused 7"},
     "N": {"a value", "end", "refused 7"},
     "C": {"good", "refused 11"},
@@ -535,7 +544,7 @@ ANSWERS = {
     "G": {"at", "refused 8"},
     "airborne": READ,
     "surface": READ,
-    "step": {*product(("airborne", "surface"), PUT), "not taken"},
+    "step": {*product(("airborne", "surface"), PUT), *product(("lost",), (0, 888, 2688)), "not taken"},
 }
 
 

@@ -17,6 +17,7 @@ import messages
 import positions
 import published
 import readings
+import run_captures
 import table as lent_table
 import tracks
 import traffic
@@ -170,10 +171,13 @@ def whole_bodies():
             own = [code for code, _ in kinds]
             taken = [code for code in range(256) if answer(readings.body, fields, good | {"TYPE": code}) != "refused 8"]
             true(f"TYPE {own}", set(own) <= set(taken) and all(messages.layout(code, subtype) is fields for code in taken))
-    gnss = [code for code in range(32) if messages.layout(code, 0) is messages.AIRBORNE]
+    airborne = [code for code in range(32) if messages.layout(code, 0) is messages.AIRBORNE]
     blank = dict.fromkeys(readings_vectors.widths(messages.AIRBORNE), 0)
-    heights = [readings.body(messages.AIRBORNE, blank | {"TYPE": code})["GNSS"] for code in gnss]
-    equal("TYPEs with GNSS height", heights, [False] * 10 + [True] * 3)
+    heights = {code: readings.body(messages.AIRBORNE, blank | {"TYPE": code})["GNSS"] for code in airborne}
+    equal("TYPEs with GNSS height", heights, published.GNSS_HEIGHTS)
+    for code in range(4096):
+        meant = readings.body(messages.AIRBORNE, blank | {"altitude": code})
+        equal(f"TYPE 0, altitude {code}", meant, {"altitude": readings.altitude(code), "GNSS": False})
 
 
 # Messages
@@ -187,7 +191,7 @@ def message_rows():
             refused(number, messages.decode, string)
         else:
             equal(text, messages.encode(messages.decode(string)), string)
-    for text, fields in published.FIELD_ROWS:
+    for text, fields in published.FIELD_ROWS + published.NO_POSITION_ROWS:
         message = messages.decode(bytes.fromhex(text))
         for name, due in fields.items():
             equal(f"{text} {name}", message[name], due)
@@ -228,7 +232,8 @@ def layouts():
         equal("bits in order", [first for _, first, _ in fields], [last + 1 for last in ends[:-1]])
         equal("last bit", ends[-1], 56)
     taken = {type_code for (type_code, _), fields in of_type.items() if fields}
-    equal("TYPEs taken", taken, set(range(1, 23)))
+    equal("TYPEs taken", taken, set(range(23)))
+    equal("TYPE 0, whatever bits 6-8 are", {id(of_type[0, subtype]) for subtype in range(8)}, {id(messages.AIRBORNE)})
     equal("subtypes taken", [s for s in range(8) if of_type[19, s]], [1, 2, 3, 4])
 
 
@@ -243,7 +248,7 @@ def message_laws():
             due = 3
         elif bits[:5] != "10001" and bits[:8] not in ("10010000", "10010001"):
             due = 4
-        elif not "00001" <= bits[32:37] <= "10110":
+        elif bits[32:37] > "10110":
             due = 5
         elif bits[32:37] == "10011" and not "001" <= bits[37:40] <= "100":
             due = 5
@@ -260,8 +265,12 @@ def message_laws():
         name, first, last = chance.choice(fields)
         refused(8, messages.encode, message | {name: message[name] + (1 << last - first + 1)})
         refused(8, messages.encode, message | {"DF": 18, "CA or CF": 2})
-        refused(8, messages.encode, message | {"TYPE": chance.choice([0, *range(23, 32)])})
+        refused(8, messages.encode, message | {"TYPE": chance.choice(range(23, 32))})
         refused(8, messages.encode, message | {"TYPE": 4 if message["TYPE"] > 4 else 5})
+        if fields[4:] == messages.AIRBORNE:
+            equal("TYPE 0 encoded", messages.decode(messages.encode(message | {"TYPE": 0})), message | {"TYPE": 0})
+        else:
+            refused(8, messages.encode, message | {"TYPE": 0})
 
 
 # Positions
@@ -561,6 +570,40 @@ def track_rules():
         equal("one that is not read", tracks.surface_position(unread, None, EVEN, (0, 0), 100), unread)
 
 
+FULL = Track(5, 1 << 51, 19 << 51 | 1 << 48, 5 << 51, 888, 77, Position(1, *HERE, 3), (Saved(1, 1, 2, 3), Saved(1, 4, 5, 4)))
+
+
+def lost_positions():
+    """R-2: what TYPE 0 does to a track that is held, and that it starts none."""
+    for head in (TRANSPONDER, traffic.NO_TRANSPONDER, OTHER):
+        for code in range(4096):
+            lost = traffic.no_position(head, ONE, code, F=code % 2, latitude=code, longitude=65536, T=1)
+            after = tracks.step(FULL, lost, HERE, 9)
+            equal("last heard and the altitude, nothing else", after, FULL._replace(heard=9, pressure=code or 888))
+    first, second = from_air(EVEN), from_air(ODD)
+    lost, none = traffic.no_position(TRANSPONDER, ONE, 2688), traffic.no_position(TRANSPONDER, ONE, 0)
+    for string, listed in ((lost, "-"), (none, "10000"), (traffic.no_position(TRANSPONDER, ONE, 16), "-1000")):
+        made = heard(new_table(1), (first, 1_000), (string, 1_200), (second, 1_400), (string, 1_500))
+        line = f"I ABCDEF 1500 536870912 1073741824 {listed}"
+        equal("paired across it, and listed", captures.line(KEY, lent_table.look_up(made, KEY)), line)
+    for gap, held in ((124_999, True), (125_000, False)):
+        made = heard(new_table(2), (first, 1_000), (none, 100_000), (from_air(EVEN, aa=TWO), 100_000 + gap))
+        equal("it refreshes", lent_table.look_up(made, KEY) is not None, held)
+        made = heard(new_table(2), (first, 1_000))
+        given = answer(lent_table.receive, made, lost, 1_000 + gap)
+        equal("held, or made stale by this very call", given == "refused 12", not held)
+        equal("the clock is moved", lent_table.clock_of(made), 1_000 + gap)
+    strangers = [(head, ONE) for head in (TRANSPONDER, traffic.NO_TRANSPONDER, OTHER)] + [(OTHER, TWO)]
+    for places, (head, aa) in ((places, one) for places in (1, 2) for one in strangers):
+        made = heard(new_table(places), (from_air(EVEN, aa=TWO), 1_000))
+        before = dict(lent_table.walk(made))
+        refused(12, lent_table.receive, made, traffic.no_position(head, aa), 2_000)
+        equal("12 leaves the tracks", dict(lent_table.walk(made)), before)
+        equal("a newcomer", answer(lent_table.receive, made, from_air(ODD, aa=aa, head=head), 2_000) == "refused 6", places == 1)
+    refused(2, lent_table.receive, made, lost, 1_999)
+    refused(3, lent_table.receive, made, message_vectors.flipped(lost, 60), 2_000)
+
+
 def bytes_of_tracks():
     """A body of a track, read again; the layout's offsets; a table that no set-up made."""
     chance = Random(16)
@@ -617,6 +660,8 @@ class Swept:
         self.places = [at if at and time - at[1].heard < 125_000 else None for at in self.places]
         key = tracks.key_of(messages.decode(string))
         mine = [at[0] if at else None for at in self.places]
+        if key not in mine and string[4] < 8:  # TYPE 0
+            raise Refused(12)
         if key not in mine and None not in mine:
             raise Refused(6)
         place = mine.index(key) if key in mine else mine.index(None)
@@ -630,7 +675,7 @@ class Swept:
 
 def swept_tables():
     """Random traffic: the bytes against the places that are swept; a message touches no other key."""
-    chance = Random(17)
+    chance, answers = Random(17), set()
     for places in (1, 2, 3, 6):
         site = chance.choice((None, HERE))
         made, swept, time = new_table(places, site), Swept(places, site), 0
@@ -639,6 +684,8 @@ def swept_tables():
             time += chance.choices(table_vectors.STEPS, table_vectors.WEIGHTS)[0]
             head, aa = chance.choice((TRANSPONDER, OTHER)), chance.choice(addresses)
             string = table_vectors.random_message(chance, head, aa, table_vectors.moved(chance, HERE))
+            if chance.randrange(4) == 0:
+                string = message_vectors.random_no_position(chance, head, aa)
             if chance.randrange(12) == 0:
                 string = message_vectors.flipped(string, chance.randrange(1, 113))
             now = time - chance.randrange(2) * chance.randrange(2) if time else 0
@@ -646,12 +693,15 @@ def swept_tables():
             given = answer(lent_table.receive, made, string, now)
             due = answer(swept.receive, string, now)
             equal("refused or not", given if given.startswith("refused") else "None", due)
+            answers.add(("TYPE 0" if string[4] < 8 else "other", due))
             equal("the tracks held", lent_table.walk(made), swept.held())
             mine = int.from_bytes(string[1:4], "big") if not given.startswith("refused") else -1
             for key, track in lent_table.walk(made):
                 if key % 2**24 != mine:
                     equal("a stranger's message does nothing", track, before[key])
             equal("the first key", lent_table.next_key(made, 0), min(dict(swept.held()), default=None))
+    equal("6 and 12", {row for row in answers if row[1][-2:] in (" 6", "12")}, {("other", "refused 6"), ("TYPE 0", "refused 12")})
+    true("TYPE 0 accepted", ("TYPE 0", "None") in answers)
 
 
 # Captures and the listing
@@ -701,6 +751,19 @@ def positioned():
     both = [captures.listing(captures.capture([*pair, stranger]), every).splitlines() for every in (False, True)]
     equal("the lines shown are counted", [len(lines) - int(lines[0].split()[3]) for lines in both], [1, 1])
     equal("all asked for", both[1][1:], ["I 000007 1400 - - -", *both[0][1:]])
+
+
+def random_captures():
+    """Among the records of the random captures are TYPE 0s that are accepted, and some that earn 12."""
+    chance, seen = Random(11), set()
+    for whole in [run_captures.random_capture(chance) for _ in range(20)]:
+        made = new_table(captures.PLACES)
+        for one in captures.blocks(whole):
+            records = [] if answer(captures.records_of, one) == "refused 11" else captures.records_of(one)
+            for time, string in records:
+                given = answer(lent_table.receive, made, string, time)
+                seen |= {given if given.startswith("refused") else "accepted"} if string[4] < 8 else set()
+    equal("TYPE 0 in captures", {"accepted", "refused 12", "refused 2"} - seen, set())
 
 
 def blocks():
@@ -783,10 +846,12 @@ TESTS = [
     refusals_of_positions,
     track_edges,
     track_rules,
+    lost_positions,
     bytes_of_tracks,
     swept_tables,
     listings,
     positioned,
+    random_captures,
     blocks,
     receiver_lines,
 ]

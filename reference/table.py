@@ -7,7 +7,7 @@ Numbers are low byte first. A call changes the table in place, or raises Refused
 from messages import IDENTIFICATION, OVER_GROUND, SURFACE, THROUGH_AIR, decode, layout
 from positions import latitude_test
 from refusals import Refused
-from tracks import I, O, Position, Saved, Track, is_stale, key_of, step
+from tracks import I, O, Position, Saved, Track, is_stale, key_of, starts, step
 
 HEAD, KEY, BODY = 16, 4, 75
 HEARD, LATITUDE = 0, 33  # in a body; the latitude is the only value of it that has a range
@@ -159,16 +159,19 @@ def set_up(table, site=None):
         put(table, 12, 4, site[1])
 
 
-def place_for(keys, key):
-    """The lowest place with the key, else the lowest free place; 6 if there is none."""
-    for wanted in (key, None):
-        if wanted in keys:
-            return keys.index(wanted)
-    raise Refused(6)
+def place_for(keys, key, may_start):
+    """The lowest place with the key; else the lowest free place, 6 if there is none, or 12 if the message starts no track."""
+    if key in keys:
+        return keys.index(key)
+    if not may_start:
+        raise Refused(12)
+    if None not in keys:
+        raise Refused(6)
+    return keys.index(None)
 
 
 def receive(table, string, time):
-    """The decoded message, its track updated or started; or 1, 7, 2, 3, 4, 5, 6 in that order."""
+    """The decoded message, its track updated or started; or 1, 7, 2, 3, 4, 5 in that order, then 6 or 12."""
     if len(string) != 14:
         raise Refused(1)
     if time < clock_of(table):
@@ -176,7 +179,7 @@ def receive(table, string, time):
     put(table, 0, 8, time)  # between 2 and 3 the clock takes the time and stale tracks go
     message = decode(string)
     key, keys = key_of(message), held_keys(table)
-    place = place_for(keys, key)
+    place = place_for(keys, key, starts(message))
     track = Track() if keys[place] is None else track_of(body_in(table, place))
     put(table, key_at(place), KEY, key)
     at = body_at(table, place)

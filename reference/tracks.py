@@ -1,4 +1,4 @@
-"""The paper, "Tracks": one track, and its step by one message. Times are whole milliseconds."""
+"""The paper, "Tracks": one track, and its step by one message; of TYPE 0 the request R-2. Times are whole milliseconds."""
 
 from typing import NamedTuple
 
@@ -50,6 +50,11 @@ def key_of(message):
     """A track's key is AA with its kind: I for DF 17 and for DF 18 CF 0, O for CF 1."""
     kind = O if message["DF"] == 18 and message["CA or CF"] == 1 else I
     return kind << 24 | message["AA"]
+
+
+def starts(message):
+    """Whether a message may start a track: TYPE 0 never does."""
+    return message["TYPE"] != 0
 
 
 def age(time, clock):
@@ -135,6 +140,11 @@ def airborne(track, message, time):
     return track._replace(saved=saved, position=position, **group)
 
 
+def without_position(track, message):
+    """TYPE 0: unless the altitude field is zero, the pressure altitude; nothing else."""
+    return track if message["altitude"] == 0 else track._replace(pressure=message["altitude"])
+
+
 def on_surface(track, message, me, site, time):
     """Clears the two saved ones; read against the track's position within 120,000, else the site."""
     counts = message["latitude"], message["longitude"]
@@ -148,6 +158,8 @@ def step(track, string, site, time):
     me = int.from_bytes(string[4:11], "big")  # ME is bits 33-88
     track = track._replace(heard=time)
     fields = layout(message["TYPE"], message.get("subtype"))
+    if message["TYPE"] == 0:
+        return without_position(track, message)
     if fields is AIRBORNE_FIELDS:
         return airborne(track, message, time)
     if fields is SURFACE_FIELDS:

@@ -32,6 +32,11 @@ def airborne_counts(head, aa, i, counts, type_code=11, altitude=888):
     return message(head, aa, type_code, altitude=altitude, F=i, latitude=counts[0], longitude=counts[1])
 
 
+def no_position(head, aa, altitude=888, **fields):
+    """TYPE 0: the altitude of an aircraft that does not know its position. A sender that conforms leaves the other fields 0."""
+    return message(head, aa, 0, altitude=altitude, **fields)
+
+
 def surface(head, aa, i, place, type_code=7, movement=42, heading=50):
     """A surface message from a place."""
     latitude, longitude = counts_of(SURFACE, i, *place)

@@ -11,7 +11,7 @@ from messages import decode, encode
 from parity import GENERATOR, sealed
 from refusals import answer
 
-TAKEN_TYPES = [*range(1, 23)]
+STARTING_TYPES = [*range(1, 23)]  # those that may start a track: all that are taken but TYPE 0
 
 
 def sealed_message(df, ca_or_cf, aa, type_code, rest):
@@ -29,10 +29,35 @@ def random_rest(chance, type_code):
 
 
 def random_valid(chance):
-    """An acceptable message."""
+    """An acceptable message of a TYPE that may start a track."""
     df, ca_or_cf = chance.choice([(17, chance.randrange(8)), (18, 0), (18, 1)])
-    type_code = chance.choice([*TAKEN_TYPES, 19, 19, 19])
+    type_code = chance.choice([*STARTING_TYPES, 19, 19, 19])
     return sealed_message(df, ca_or_cf, chance.getrandbits(24), type_code, random_rest(chance, type_code))
+
+
+def altitude_codes():
+    """The first and the last code of each class: all zeros, Q 1, and with Q 0 each of C1 C2 C4 with F even and odd."""
+    ends = {}
+    for code in range(4096):
+        hundreds = code & 0b101010000000
+        of_class = ("Q",) if code & 16 else (code == 0, hundreds, (code ^ hundreds).bit_count() % 2)
+        ends[of_class] = ends.get(of_class, (code,))[0], code
+    return sorted({code for both in ends.values() for code in both})
+
+
+def random_no_position(chance, head, aa):
+    """A message of TYPE 0: as a sender should make it, or with any bits."""
+    altitude = chance.choice((0, 888, *altitude_codes(), chance.getrandbits(12)))
+    rest = chance.choice((0, chance.getrandbits(51)))
+    return sealed_message(*head, aa, 0, rest & ~(4095 << 36) | altitude << 36)
+
+
+def random_acceptable(chance):
+    """An acceptable message of any TYPE, often of TYPE 0."""
+    if chance.randrange(4):
+        return random_valid(chance)
+    head = chance.choice([(17, chance.randrange(8)), (18, 0), (18, 1)])
+    return random_no_position(chance, head, chance.getrandbits(24))
 
 
 def flipped(string, *places):
@@ -102,6 +127,19 @@ def of_any_length(chance):
         yield (bytes(241) + random_valid(chance))[-length:] if length else b""
 
 
+def no_position(chance):
+    """TYPE 0: published ones, each class of altitude, each bit alone; a bit wrong at each place; random ones, all DFs and CFs."""
+    yield from (bytes.fromhex(text) for text, _ in published.NO_POSITION_ROWS)
+    for code in altitude_codes():
+        for rest in (0, chance.getrandbits(51)):
+            yield sealed_message(*chance.choice(((17, 5), (18, 0), (18, 1))), 0xABCDEF, 0, rest & ~(4095 << 36) | code << 36)
+    yield from (sealed_message(17, 5, 0, 0, 1 << place) for place in range(51))
+    good = sealed_message(18, 1, 0x123456, 0, 888 << 36)
+    yield from (flipped(good, place) for place in range(1, 113))
+    for _ in range(100):
+        yield random_no_position(chance, (chance.choice((17, 18, chance.randrange(32))), chance.randrange(8)), chance.getrandbits(24))
+
+
 def strings():
     """The byte strings decoded."""
     chance = Random(3)
@@ -114,6 +152,7 @@ def strings():
     yield from of_any_length(chance)
     for _ in range(800):
         yield random_valid(chance)
+    yield from no_position(Random(4))
 
 
 def answered(string):

@@ -11,6 +11,7 @@ import messages
 import published
 import readings
 from refusals import answer
+from vectors.message_vectors import altitude_codes
 
 # question: its name, the code's bits, the bits that a record can carry, the reading of (a, b, code)
 QUESTIONS = [
@@ -114,6 +115,26 @@ def bodies():
             yield number, good | {"subtype": wrong}
 
 
+def fitting_body(chance, fields, type_code, subtype):
+    """The same, each field within its bits."""
+    made = random_body(chance, fields, type_code, subtype)
+    return {name: made[name] % (1 << width) for name, width in widths(fields).items()}
+
+
+def bodies_without_position():
+    """Of TYPE 0 each class of altitude, and each field too wide; then of each layout a body that fits with every TYPE."""
+    chance = Random(4)
+    number, (_, fields, _) = next(row for row in enumerate(LAYOUTS) if row[1][1] is messages.AIRBORNE)
+    for code in altitude_codes():
+        yield number, fitting_body(chance, fields, 0, None) | {"altitude": code}
+    good = fitting_body(chance, fields, 0, None)
+    for name, width in widths(fields).items():
+        yield number, good | {name: 1 << width}
+    for other, (_, fields, kinds) in enumerate(LAYOUTS):
+        good = fitting_body(chance, fields, *kinds[0])
+        yield from ((other, good | {"TYPE": type_code}) for type_code in range(32))
+
+
 def body_reading(number, message):
     """The layout's name, and its readings with a comma after each but the last."""
     name, fields, _ = LAYOUTS[number]
@@ -131,7 +152,7 @@ def cases():
         question = NUMBER[name]
         record = bytes([question, a, b]) + code.to_bytes(2, "big")
         yield record, answer(QUESTIONS[question][3], a, b, code)
-    for number, message in bodies():
+    for number, message in (*bodies(), *bodies_without_position()):
         fields = [*message.values(), *[0] * (FIELDS - len(message))]
         record = bytes([BODY, number, 0, 0, 0]) + b"".join(value.to_bytes(8, "big") for value in fields)
         yield record, answer(body_reading, number, message)

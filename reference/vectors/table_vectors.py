@@ -17,11 +17,12 @@ from traffic import (
     airborne_counts,
     identification,
     message,
+    no_position,
     surface,
     velocity,
 )
 from vectors.bench import SPACE, Bench
-from vectors.message_vectors import flipped, random_valid, sealed_message
+from vectors.message_vectors import altitude_codes, flipped, random_no_position, random_valid, sealed_message
 from vectors.position_vectors import random_counts, random_latitude, random_longitude
 
 I, O = 1 << 24, 2 << 24  # the kinds, above the address
@@ -119,7 +120,7 @@ def nothing_refreshes(bench):
     """A refused message refreshes no track: bad parity, DF, TYPE, length, late."""
     good = airborne(TRANSPONDER, ONE, EVEN, NEAR)
     bad = [damaged(good), sealed_message(18, 2, ONE, 11, 0), sealed_message(17, 5, ONE, 31, 0)]
-    bad += [sealed_message(17, 5, ONE, 0, 0), sealed_message(17, 5, ONE, 19, 5 << 48), good[:13], good + b"\0"]
+    bad += [sealed_message(17, 5, ONE, 23, 0), sealed_message(17, 5, ONE, 19, 5 << 48), good[:13], good + b"\0"]
     for string, end in product(bad, (125_999, 126_000)):
         bench.set_up(2)
         both(bench, ONE, HERE, 600)
@@ -300,7 +301,7 @@ def published_runs(bench):
 
 def refused_message(bad_length, bad_parity, bad_df, bad_type):
     """A message with some of these faults."""
-    string = sealed_message(18 if bad_df else 17, 2, TWO, 0 if bad_type else 11, 12345)
+    string = sealed_message(18 if bad_df else 17, 2, TWO, 31 if bad_type else 11, 12345)
     if bad_parity:
         string = damaged(string)
     return string[:13] if bad_length else string
@@ -431,8 +432,8 @@ def moved(chance, place):
     return max(-POLE, min(POLE, latitude)), (place[1] + chance.randrange(-(2**20), 2**20)) % 2**32
 
 
-def random_run(bench, seed, places, steps):
-    """A few aircraft and fewer places; times that step by the edges; faults now and then."""
+def random_run(bench, seed, places, steps, lost=False):
+    """A few aircraft and fewer places; times that step by the edges; faults now and then; TYPE 0 if positions get lost."""
     chance = Random(seed)
     spots = {}
     for aa in chance.sample(range(2**24), places + 1):
@@ -455,6 +456,8 @@ def random_run(bench, seed, places, steps):
             string = sealed_message(18, chance.randrange(2, 8), aa, 11, 0)
         elif fault == 3:
             string = sealed_message(17, 0, aa, chance.randrange(23, 32), 0)
+        elif lost and fault < 14:
+            string = random_no_position(chance, head, aa)
         bench.receive(string, now)
         if step % 8 == 7:
             bench.whole()
@@ -700,6 +703,192 @@ def random_bytes(bench):
         bench.whole()
 
 
+# TYPE 0: an aircraft that does not know its position
+
+
+def every_value(bench, head, aa, place, time):
+    """A track that has every value: each group, a height, a position and both saved ones. It ends 600 later."""
+    bench.receive(surface(head, aa, EVEN, place), time)
+    bench.receive(identification(head, aa, "GLIDER"), time)
+    bench.receive(velocity(head, aa, 40, -30, 128), time)
+    bench.receive(airborne(head, aa, EVEN, place, 20, 1234), time + 100)
+    bench.receive(airborne(head, aa, ODD, place, 11, 888), time + 600)
+
+
+def every_altitude(bench):
+    """Each class of altitude after a known one, after an unknown one and after all zeros: of a field that is zero it stays."""
+    for head in HEADS:
+        bench.set_up_at(2, NEAR)
+        every_value(bench, OTHER if head != OTHER else TRANSPONDER, ONE, NEAR, 0)
+        every_value(bench, head, ONE, HERE, 1_000)
+        time = 2_000
+        for before, code in product((888, 2688, 0), altitude_codes()):
+            bench.receive(airborne(head, ONE, time // 400 % 2, HERE, 12, before), time)
+            bench.receive(no_position(head, ONE, code), time + 200)
+            time += 400
+        seen(bench)
+    bench.set_up(1)
+    every_value(bench, TRANSPONDER, ONE, HERE, 0)
+    for time, code in enumerate((0, 16, 0, 2688, 0, 4095, 5, 0, 888, 0), 10):
+        bench.receive(no_position(TRANSPONDER, ONE, code), 100 * time)
+        seen(bench)
+
+
+def nothing_else(bench):
+    """Each bit of TYPE 0, and all of them, in a track that has every value: but for last heard and the altitude all stays."""
+    bench.set_up_at(1, NEAR)
+    every_value(bench, TRANSPONDER, ONE, HERE, 0)
+    for place, rest in enumerate((0, 2**51 - 1, *(1 << bit for bit in range(51))), 1):
+        bench.receive(sealed_message(17, 5, ONE, 0, rest), 1_000 * place)
+        bench.whole()
+    bench.walk()
+
+
+def pairs_across(bench):
+    """An even and an odd message pair across a TYPE 0, which is itself neither: whatever its F, its counts and its time."""
+    counts = [(0, 0), (65536, 65536), (49152, 32768), (131_071, 131_071)]
+    for first, i, (latitude, longitude), altitude in product(BOTH, BOTH, counts, (0, 888)):
+        lost = no_position(TRANSPONDER, ONE, altitude, F=i, latitude=latitude, longitude=longitude)
+        for gap in (10_000, 10_001):
+            bench.set_up(1)
+            bench.receive(airborne(TRANSPONDER, ONE, first, HERE), 1_000)
+            bench.receive(lost, 5_000)
+            bench.receive(airborne(TRANSPONDER, ONE, 1 - first, HERE), 1_000 + gap)
+            bench.receive(lost, 1_000 + gap)
+            seen(bench)
+    for first in BOTH:  # nor does it pair with what was sent at another time, or with another TYPE 0
+        bench.set_up(1)
+        bench.receive(identification(TRANSPONDER, ONE, "GLIDER"), 500)
+        for i, (latitude, longitude) in enumerate(counts[1:3]):
+            bench.receive(no_position(TRANSPONDER, ONE, 888, F=first ^ i, latitude=latitude, longitude=longitude), 1_000)
+        bench.walk()
+        bench.receive(airborne(TRANSPONDER, ONE, first, HERE), 1_400)
+        seen(bench)
+
+
+def never_read_singly(bench):
+    """A position and its time stay, with a site and without; and they grow old, however often TYPE 0 refreshes the track."""
+    for site, i, gap in product((None, NEAR), BOTH, (0, 119_999, 120_000, 120_001)):
+        new(bench, 1, site)
+        both(bench, ONE, HERE, 1_000)
+        for time in range(1_400, 1_400 + gap + 1, 40_000):
+            bench.receive(no_position(TRANSPONDER, ONE, 900, F=i, latitude=5, longitude=6), time)
+        bench.receive(no_position(TRANSPONDER, ONE, 0, F=1 - i), 1_400 + gap)
+        bench.walk()
+        made = surface if i else airborne
+        bench.receive(made(TRANSPONDER, ONE, EVEN, NEAR), 1_400 + gap)
+        seen(bench)
+
+
+def it_refreshes(bench):
+    """TYPE 0 refreshes its track, altitude or not, and that alone: held at 124,999 after it, gone at 125,000."""
+    for altitude, gap in product((0, 888, 2688), (124_998, 124_999, 125_000, 125_001)):
+        bench.set_up(3)
+        both(bench, TWO, HERE, 0)
+        both(bench, ONE, HERE, 600)
+        bench.receive(no_position(TRANSPONDER, ONE, altitude), 100_000)
+        bench.walk()
+        bench.receive(no_position(OTHER, THREE, 0), 100_000 + gap)  # 12, of nobody
+        bench.look_up(I | ONE, I | TWO, O | THREE)
+        bench.receive(no_position(TRANSPONDER, ONE, altitude), 100_000 + gap)
+        seen(bench)
+        bench.receive(identification(OTHER, THREE, "NEW"), 100_000 + gap)
+        seen(bench)
+
+
+def it_starts_nothing(bench):
+    """12 for a key that is not held: in an empty table, beside others, in a full one, and of the other kind."""
+    for places, held in ((1, 0), (1, 1), (2, 1), (2, 2), (3, 2)):
+        for head, aa, altitude in product(HEADS, (ONE, TWO), (0, 888)):
+            bench.set_up(places)
+            for who in range(held):
+                both(bench, ONE, (-HERE[0], who), 1_000 * who, (TRANSPONDER, OTHER)[who])
+            bench.receive(no_position(head, aa, altitude), 5_000)
+            bench.look_up(I | ONE, O | ONE, I | TWO, O | TWO)
+            seen(bench)
+            bench.receive(airborne(head, aa, ODD, HERE), 6_000)  # a newcomer still finds the lowest place, or 6
+            bench.receive(no_position(head, aa, altitude, F=EVEN), 6_000)
+            seen(bench)
+
+
+def twelve_refreshes_nothing(bench):
+    """12 moves the clock, so that stale tracks go; its own that this very call makes stale is not held. It refreshes none."""
+    for places, gap in product((1, 2), (124_999, 125_000, 125_001)):
+        bench.set_up(places)
+        both(bench, ONE, HERE, 600)
+        bench.receive(no_position(OTHER, ONE), 100_000)
+        bench.receive(no_position(TRANSPONDER, TWO), 100_000)
+        bench.receive(no_position(TRANSPONDER, ONE, 16), 99_999)  # late: 2
+        bench.walk()
+        bench.receive(no_position(TRANSPONDER, ONE, 16), 1_000 + gap)
+        seen(bench)
+        bench.receive(no_position(TRANSPONDER, ONE, 0), 1_000 + gap)
+        bench.receive(newcomer(OTHER, THREE), 1_000 + gap)
+        seen(bench)
+
+
+def order_of_twelve(bench):
+    """Every set of faults of a TYPE 0 whose key is not held: 1, 7, 2, 3, 4, then 12, full or not; and held it is accepted."""
+    for faults in product((False, True), repeat=7):
+        bad_length, bad_table, late, bad_parity, bad_df, full, held = faults
+        bench.set_up(1)
+        bench.receive(identification(TRANSPONDER, TWO if held else ONE, "EZY85MH"), 1_000 if full else 0)
+        bench.receive(damaged(bytes(14)), 125_000)
+        if bad_table:
+            bench.lend(length_of(1) - 1)
+        string = sealed_message(18 if bad_df else 17, 2, TWO, 0, 888 << 36)
+        string = damaged(string) if bad_parity else string
+        bench.receive(string[:13] if bad_length else string, 124_999 if late else 125_999)
+        bench.lend(length_of(1))
+        seen(bench)
+
+
+def lost_in_a_crowd(bench):
+    """256 and 1,024 places, all held by keys that were poked: TYPE 0 of the first, the last, and of strangers."""
+    for places in (256, 1024):
+        bench.set_up(places)
+        keys = b"".join((I | place + 1).to_bytes(4, "little") for place in range(places))
+        for at in range(0, len(keys), 128):
+            bench.poke(key_at(0) + at, keys[at : at + 128])
+        for time, aa in enumerate((0, 1, places // 2, places, places + 1)):
+            bench.receive(no_position(TRANSPONDER, aa, 888), time)
+            bench.receive(no_position(OTHER, aa, 888), time)
+        bench.receive(newcomer(OTHER, 1), 9)
+        bench.whole()
+        poke_number(bench, key_at(places - 1), 4, 0)  # the last place is free, and stays so
+        bench.receive(no_position(TRANSPONDER, places, 888), 9)
+        bench.receive(no_position(OTHER, 1, 888), 9)
+        bench.whole()
+        bench.look_up(I | places, O | 1)
+
+
+def lost_in_any_table(bench):
+    """TYPE 0 in tables that no set-up made: any tracks, stepped; twins; a free twin; a place with a value out of its range."""
+    chance = Random(32)
+    for _ in range(120):
+        clock = chance.choice((0, 5, 130_000, 10**9, LAST - 5))
+        new(bench, 1, chance.choice((None, HERE)))
+        time = min(LAST, clock + chance.choice((0, 0, 1, 5)))
+        poke_number(bench, 0, 8, clock)
+        poke_place(bench, 1, 0, I | ONE, random_track(chance, time))
+        bench.look_up(I | ONE)
+        bench.receive(random_no_position(chance, TRANSPONDER, ONE), time)
+        bench.whole()
+    for first, second in ((5_000, 5_001), (0, 130_000), (130_000, 0), (0, 0), (LAST, 130_000)):
+        bench.set_up(3)
+        poke_number(bench, 0, 8, 130_000)
+        for place, heard_at in ((1, first), (2, second)):
+            poke_place(bench, 3, place, I | ONE, Track(heard=heard_at, pressure=77, position=Position(1, *HERE, 129_000)))
+        bench.receive(no_position(TRANSPONDER, ONE, 888), 130_000)
+        bench.receive(no_position(TRANSPONDER, ONE, 0), 130_001)
+        seen(bench)
+    for at, size, number in ((key_at(0), 4, ONE), (body_start(3, 0) + 33, 4, 2**31 + 1)):
+        three(bench)
+        poke_number(bench, at, size, number)
+        bench.receive(no_position(TRANSPONDER, ONE, 16), 6_000)
+        seen(bench)
+
+
 SCRIPTS = [
     listing_example,
     partner_ages,
@@ -735,6 +924,19 @@ SCRIPTS = [
     random_bytes,
 ]
 RANDOM_RUNS = [(51, 1, 100), (52, 2, 150), (53, 3, 150), (54, 4, 150), (55, 8, 200), (56, 2, 150), (57, 5, 150)]
+LOST = [
+    every_altitude,
+    nothing_else,
+    pairs_across,
+    never_read_singly,
+    it_refreshes,
+    it_starts_nothing,
+    twelve_refreshes_nothing,
+    order_of_twelve,
+    lost_in_a_crowd,
+    lost_in_any_table,
+]
+LOST_RUNS = [(58, 1, 150), (59, 2, 200), (60, 5, 250)]
 
 
 def run(bench):
@@ -745,6 +947,10 @@ def run(bench):
         random_run(bench, seed, places, steps)
     full_large(bench, 256, 61)
     full_large(bench, 1024, 62)
+    for script in LOST:
+        script(bench)
+    for seed, places, steps in LOST_RUNS:
+        random_run(bench, seed, places, steps, lost=True)
     return bench
 
 

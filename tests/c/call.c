@@ -102,14 +102,15 @@ static int same(const struct lent *lent, const uint8_t *bytes, size_t size, size
     return size <= from || memcmp(lent->at + from, bytes + from, size - from) == 0;
 }
 
-/* What an answer leaves of the table: after 1, 2, 7 and 8 all of it, after 3 to 6 all but the clock, its first 8 bytes.
- */
+/* What an answer leaves of the table: after 1, 2, 7 and 8 all of it, after 3 to 6 and 12 all but the clock, its first 8
+ * bytes. */
 static int table_left(const struct call *call, uint64_t answer) {
     enum table_use use = shapes[call->function].table;
+    int clock_moved = (answer >= ADDERCOIL_PARITY && answer <= ADDERCOIL_FULL) || answer == ADDERCOIL_NO_TRACK;
     if (use == NO_TABLE || (use == WRITES_TABLE && answer == 0)) {
         return 1;
     }
-    return same(&table, call->table, call->table_size, use == WRITES_TABLE && answer >= 3 && answer <= 6 ? 8 : 0);
+    return same(&table, call->table, call->table_size, use == WRITES_TABLE && clock_moved ? 8 : 0);
 }
 
 static int all_fresh(const struct lent *lent) {

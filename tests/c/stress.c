@@ -80,7 +80,7 @@ static void seal(uint8_t *bytes, size_t size) {
 
 /* 14 bytes: often a message of one of a few aircraft, so that tracks grow; else of anybody, damaged, or noise. */
 static void make_message(uint8_t *message) {
-    uint64_t kind = below(16), type = ONE_OF(19, 1 + below(22), 1 + below(22), below(16) == 0 ? below(32) : 11);
+    uint64_t kind = below(16), type = ONE_OF(19, below(23), below(23), below(16) == 0 ? below(32) : 11);
     fill(message, ADDERCOIL_MESSAGE);
     if (kind == 0) {
         return;
@@ -88,6 +88,10 @@ static void make_message(uint8_t *message) {
     if (kind > 1) {
         message[0] = (uint8_t)ONE_OF(17 << 3 | 5, 17 << 3, 18 << 3, 18 << 3 | 1);
         message[4] = (uint8_t)(type << 3 | (type == 19 ? 1 + below(4) : below(8)));
+        if (type == 0 && below(4) == 0) { /* no altitude either */
+            message[5] = 0;
+            message[6] &= 15;
+        }
     }
     if (kind > 2) {
         memset(message + 1, (int)(kind % 4), 3);

@@ -63,7 +63,7 @@ fn heard_number(answer: Heard) -> u32
     }
 }
 
-// A message received at a time. Or 1, 7, 2, 3, 4, 5, 6, in that order.
+// A message received at a time. Or 1, 7, 2, 3, 4, 5, then 6 or 12, in that order.
 #[no_mangle]
 pub extern "C" fn addercoil_receive(table: &mut [u8], message: &[u8], time: u64) -> u32
     ensures { λ r. ⌜ sent r (now (table .exit)) ≡ receivedSent (received (now (table .entry)) (now (message .entry)) time) ⌝ }

@@ -1,24 +1,22 @@
--- The two laws behind demand 3: a call of another leaves an aircraft's track but for its age, and its own call steps it. Each by what the decoder says of the message.
+-- The two laws behind demand 3: a call of another leaves an aircraft's track but for its age, and its own call steps what it finds. Each by what the decoder says of the message.
 -- Assumes nothing.
 use Prim.Native.Nat.{ℕ, _≤_, _<_}
 use mathlib.Core.Bool.{Bool, true, false, cond, true≢false, false≢true}
-use mathlib.Core.Logic.{⊎-elim, inr}
+use mathlib.Core.Logic.{_⊎_, ⊎-elim, inr}
 use mathlib.Core.Option.{Option, some, none}
 use mathlib.Core.Path.{_≡_, refl, ap, ap₂, sym, _∙_, subst}
 use lib.Dec.{ltb}
 use borrow.Author.Tests.{ltb-true, ltb-false, eqb-true, eq-eqb}
 use Rattle.refusals.specs.declared.Refusal.{Refusal}
-use Rattle.refusals.specs.declared.Refusal.the-variants.{Full, Late}
-use Rattle.layouts.specs.Bodies.{bodyMe}
+use Rattle.refusals.specs.declared.Refusal.the-variants.{Full, Late, NoTrack}
 use Rattle.messages.specs.declared.Message.{Message}
 use Rattle.messages.specs.declared.Decoded.{Decoded}
 use Rattle.messages.specs.declared.Decoded.the-variants as decode
 use Rattle.messages.specs.Message.{decoded, keyOf}
 use Rattle.track.specs.declared.Track.{Track}
-use Rattle.track.specs.Track.{stepBody}
 use Rattle.rules.specs.Form.{Form, Lawful}
 use Rattle.rules.specs.Rules.{After, delivered, received}
-use Rattle.rules.specs.View.{view, laterAt, orNew, Table}
+use Rattle.rules.specs.View.{view, laterAt, found, steppedFrom, answeredFrom, Table}
 use Rattle.rules.proofs.Ways.{not-refused, received-in-time}
 use Rattle.rules.proofs.Laws.{clock-after, late-exactly, unchanged, dropped-by-the-clock, steps-its-track, key-answer}
 use Rattle.isolation.specs.Runs.{Call, isOf, own, call}
@@ -76,7 +74,7 @@ module _ {S : Type 0} (F : Form S) (L : Lawful F) (key : ℕ) (s : S) (c : Call)
   not-its (decode.Message n) e o h m a x =
       ⊎-elim
       (λ (y : r .answer ≡ decode.Message n). true≢false (sym (eq-eqb (keyOf n) key (ap keyIn (sym y ∙ a) ∙ sym x)) ∙ o))
-      (λ (y : r .answer ≡ decode.Refused Full). not-refused (sym a ∙ y))
+      (λ (y : (r .answer ≡ decode.Refused Full) ⊎ (r .answer ≡ decode.Refused NoTrack)). ⊎-elim (λ z. not-refused (sym a ∙ z)) (λ z. not-refused (sym a ∙ z)) y)
       (key-answer F L s (c .message) (c .time) (table .size) h n e)
 
   pub other-call : own key c ≡ false → ownOf F (r .table) key ≡ ownAfter (F .site s) (ownOf F s key) (heardIn key c)
@@ -95,7 +93,7 @@ module _ {S : Type 0} (F : Form S) (L : Lawful F) (key : ℕ) (s : S) (c : Call)
   -- ---- its own call
 
   abbrev answered : Bool → Option Decoded
-  answered b = answerTo b (ownIn key (decoded (c .message)))
+  answered b = answerTo b (view F s key) (c .time) (ownIn key (decoded (c .message)))
 
   pub own-call : own key c ≡ true → (r .answer ≡ decode.Refused Full → ⊥)
       → (ownOf F (r .table) key ≡ ownAfter (F .site s) (ownOf F s key) (heardIn key c)) × (some (r .answer) ≡ answered (ltb (c .time) (F .clock s)))
@@ -108,13 +106,13 @@ module _ {S : Type 0} (F : Form S) (L : Lawful F) (key : ℕ) (s : S) (c : Call)
       by-time : (b : Bool) → ltb (c .time) (F .clock s) ≡ b
           → (ownOf F (r .table) key ≡ cond b (ownOf F s key) (with-track (c .time) (trackAfter (F .site s) (view F s key) (c .time) (ownIn key (decoded (c .message))))))
           × (some (r .answer) ≡ answered b)
-      by-time true e = (left e, ap some (late (ltb-true (c .time) (F .clock s) e) .1) ∙ sym (ap (answerTo true) (m .heard)))
+      by-time true e = (left e, ap some (late (ltb-true (c .time) (F .clock s) e) .1) ∙ sym (ap (answerTo true (view F s key) (c .time)) (m .heard)))
       by-time false e =
           let h : F .clock s ≤ c .time = ltb-false (c .time) (F .clock s) e in
-          let done = steps-its-track F L s (c .message) (c .time) table (c .fits) (m .message) (m .is) h un in (
-            ap₂ with-track (clock-is e)
-                (subst (λ (k : ℕ). view F (r .table) k ≡ some (stepBody (orNew (laterAt (c .time) (view F s k))) (m .message .body) (bodyMe (m .message .body)) (F .site s) (c .time)))
-                (m .keyed) (done .1)
-                ∙ sym (ap (trackAfter (F .site s) (view F s key) (c .time)) (m .heard))),
-            ap some (done .0) ∙ sym (ap (answerTo false) (m .heard)),
+          let n : Message = m .message in
+          let done = subst (λ (k : ℕ). (r .answer ≡ answeredFrom n (found n (laterAt (c .time) (view F s k))))
+          × (view F (r .table) k ≡ steppedFrom n (F .site s) (c .time) (found n (laterAt (c .time) (view F s k)))))
+          (m .keyed) (steps-its-track F L s (c .message) (c .time) table (c .fits) n (m .is) h un) in (
+            ap₂ with-track (clock-is e) (done .1 ∙ sym (ap (trackAfter (F .site s) (view F s key) (c .time)) (m .heard))),
+            ap some (done .0) ∙ sym (ap (answerTo false (view F s key) (c .time)) (m .heard)),
           )

@@ -37,10 +37,13 @@ use Rattle.slice_table.specs.Slice.{Slice, sliceOf, slice}
 use Rattle.isolation.specs.Runs.{Call, own, Alike, Alike.end, Alike.its, Alike.others, Rule, call, NeverFull, Seen, seen, Isolation}
 use Rattle.isolation.specs.Wrong.{numberIn, overwriting, refreshing, kindless}
 
--- ---- four messages: of I ABCDEF, of I 123456, of O ABCDEF, and one whose parity is wrong
+-- ---- five messages: two of I ABCDEF, the second of TYPE 0, of I 123456, of O ABCDEF, and one whose parity is wrong
 
 abbrev mine : List ℕ
 mine = 0x8D ∷ 0xAB ∷ 0xCD ∷ 0xEF ∷ 0x20 ∷ 0x2C ∷ 0xC3 ∷ 0x71 ∷ 0xC3 ∷ 0x2C ∷ 0xE0 ∷ 0x42 ∷ 0xEA ∷ 0x5C ∷ []
+
+abbrev silent : List ℕ
+silent = 0x8D ∷ 0xAB ∷ 0xCD ∷ 0xEF ∷ 0x07 ∷ 0x38 ∷ 0x1E ∷ 0xD6 ∷ 0x90 ∷ 0xC8 ∷ 0xAC ∷ 0xAD ∷ 0x0E ∷ 0x1C ∷ []
 
 abbrev strange : List ℕ
 strange = 0x8D ∷ 0x12 ∷ 0x34 ∷ 0x56 ∷ 0x20 ∷ 0x2C ∷ 0xC3 ∷ 0x71 ∷ 0xC3 ∷ 0x2C ∷ 0xE0 ∷ 0xCA ∷ 0xBE ∷ 0x2F ∷ []
@@ -72,6 +75,9 @@ first = at mine refl refl 1000 (omega arith)
 abbrev second : Call
 second = at mine refl refl 2000 (omega arith)
 
+abbrev no-position : Call
+no-position = at silent refl refl 2000 (omega arith)
+
 abbrev stranger-first : Call
 stranger-first = at strange refl refl 1000 (omega arith)
 
@@ -101,9 +107,9 @@ lastOf (x ∷ y ∷ r) = lastOf (y ∷ r)
 -- ---- whose the calls are: computed
 
 own-calls : (own key first ≡ true) × (own key second ≡ true) × (own key stranger-first ≡ false) × (own key stranger ≡ false) × (own key other-kind ≡ false)
-    × (own key refused-first ≡ false) × (own key refused ≡ false)
+    × (own key refused-first ≡ false) × (own key refused ≡ false) × (own key no-position ≡ true)
 unfolding own remainder remainderFrom reduce opened
-own-calls = (refl, refl, refl, refl, refl, refl, refl)
+own-calls = (refl, refl, refl, refl, refl, refl, refl, refl)
 
 own-first : own key first ≡ true
 own-first = own-calls .0
@@ -115,8 +121,8 @@ noise-not-own = own-calls .6
 alike : (c : Call) → own key c ≡ false → c .time ≡ 2000 → Alike key (first ∷ c ∷ []) (first ∷ refused ∷ [])
 alike c o t = its first own-first (others c refused o noise-not-own (cc) end)
 
-not-six : {d : Decoded} → numberIn d ≡ 0 → d ≡ decode.Refused Full → ⊥
-not-six z e = let six : _≡_ {A = ℕ} 0 6 = sym z ∙ ap numberIn e in omega arith
+not-six : {d : Decoded} {n : ℕ} → numberIn d ≡ n → (n ≡ 6 → ⊥) → d ≡ decode.Refused Full → ⊥
+not-six z ne e = ne (sym z ∙ ap numberIn e)
 
 -- ---- a form, of which `empty n` is a table of n places
 
@@ -131,20 +137,26 @@ module _ {S : Type 0} (F : Form S) (empty : ℕ → S) where
   abbrev number-to-first : Rule S → ℕ → ℕ
   number-to-first rule n = numberIn (call rule (ready n) first .answer)
 
+  -- what is answered to a call after another
+  abbrev number-after : ℕ → Call → Call → ℕ
+  number-after n c d = numberIn (call (received F) (call (received F) (ready n) c .table) d .answer)
+
   -- what is computed of it
   pub record Computed : Type 0 where
     pub done-1 : setUp F (empty 1) noSite .answer ≡ Done
     pub done-2 : setUp F (empty 2) noSite .answer ≡ Done
     pub held-in-both : (number-to-first (received F) 2 ≡ 0) × (end-of (received F) 2 (first ∷ stranger ∷ []) ≡ 1001) × (end-of (received F) 2 (first ∷ refused ∷ []) ≡ 1001)
     pub one-place : (end-of (received F) 1 (stranger-first ∷ second ∷ []) ≡ 0) × (end-of (received F) 1 (refused-first ∷ second ∷ []) ≡ 2001)
-        × (numberIn (call (received F) (call (received F) (ready 1) stranger-first .table) second .answer) ≡ 6)
+        × (number-after 1 stranger-first second ≡ 6)
+    pub silent-one : (number-after 1 stranger-first no-position ≡ 12) × (number-after 1 refused-first no-position ≡ 12)
+        × (number-after 1 first no-position ≡ 0) × (end-of (received F) 1 (first ∷ no-position ∷ []) ≡ 2001)
     pub by-overwriting : (number-to-first (overwriting F) 1 ≡ 0) × (end-of (overwriting F) 1 (first ∷ stranger ∷ []) ≡ 0) × (end-of (overwriting F) 1 (first ∷ refused ∷ []) ≡ 1001)
     pub by-refreshing : (number-to-first (refreshing F) 2 ≡ 0) × (end-of (refreshing F) 2 (first ∷ stranger ∷ []) ≡ 2001) × (end-of (refreshing F) 2 (first ∷ refused ∷ []) ≡ 1001)
     pub by-kindless : (number-to-first (kindless F) 2 ≡ 0) × (end-of (kindless F) 2 (first ∷ other-kind ∷ []) ≡ 2001) × (end-of (kindless F) 2 (first ∷ refused ∷ []) ≡ 1001)
 
   module _ (rule : Rule S) (n : ℕ) (is-done : setUp F (empty n) noSite .answer ≡ Done) (accepted : number-to-first rule n ≡ 0) where
     never-full : (c : Call) → own key c ≡ false → NeverFull rule key (ready n) (first ∷ c ∷ [])
-    never-full c o = ((λ _ e. absurd (not-six accepted e)), ((λ p _. absurd (true≢false (sym p ∙ o))), tt))
+    never-full c o = ((λ _ e. absurd (not-six accepted (λ z. omega arith) e)), ((λ p _. absurd (true≢false (sym p ∙ o))), tt))
 
     broken : (c : Call) → own key c ≡ false → c .time ≡ 2000 → {a b : ℕ} → end-of rule n (first ∷ c ∷ []) ≡ a → end-of rule n (first ∷ refused ∷ []) ≡ b → (a ≡ b → ⊥)
         → Isolation F F rule rule → ⊥
@@ -168,6 +180,21 @@ module _ {S : Type 0} (F : Form S) (empty : ℕ → S) where
       (λ e. let z : _≡_ {A = ℕ} 141 0 = ap (λ (m : List ℕ). getD m 0 0) e in omega arith),
       x .held-in-both .1,
       x .held-in-both .2,
+    )
+
+    -- TYPE 0 is one of its messages: 12 is answered to it, whether a stranger or nobody has the one place, and its own track it refreshes
+    pub no-position-isolated : Alike key (stranger-first ∷ no-position ∷ []) (refused-first ∷ no-position ∷ [])
+        × NeverFull (received F) key (ready 1) (stranger-first ∷ no-position ∷ []) × NeverFull (received F) key (ready 1) (refused-first ∷ no-position ∷ [])
+        × (number-after 1 stranger-first no-position ≡ 12) × (number-after 1 refused-first no-position ≡ 12)
+        × (number-after 1 first no-position ≡ 0) × (end-of (received F) 1 (first ∷ no-position ∷ []) ≡ 2001)
+    no-position-isolated = (
+      others stranger-first refused-first (own-calls .2) (own-calls .5) refl (its no-position (own-calls .7) end),
+      ((λ p _. absurd (true≢false (sym p ∙ own-calls .2))), ((λ _ e. absurd (not-six (x .silent-one .0) (λ z. omega arith) e)), tt)),
+      ((λ p _. absurd (true≢false (sym p ∙ own-calls .5))), ((λ _ e. absurd (not-six (x .silent-one .1) (λ z. omega arith) e)), tt)),
+      x .silent-one .0,
+      x .silent-one .1,
+      x .silent-one .2,
+      x .silent-one .3,
     )
 
     -- why 'table full' is excepted: of two newcomers to one place the second is refused
@@ -205,6 +232,7 @@ in-bytes =
       done-2 = refl;
       held-in-both = (refl, refl, refl);
       one-place = (refl, refl, refl);
+      silent-one = (refl, refl, refl, refl);
       by-overwriting = (refl, refl, refl);
       by-refreshing = (refl, refl, refl);
       by-kindless = (refl, refl, refl);
@@ -221,6 +249,7 @@ in-slice =
       done-2 = refl;
       held-in-both = (refl, refl, refl);
       one-place = (refl, refl, refl);
+      silent-one = (refl, refl, refl, refl);
       by-overwriting = (refl, refl, refl);
       by-refreshing = (refl, refl, refl);
       by-kindless = (refl, refl, refl);

@@ -14,7 +14,7 @@ use Rattle.messages.specs.Message.{decoded}
 use Rattle.whereabouts.specs.declared.Site.{Site}
 use Rattle.rules.specs.Form.{Form, Lawful}
 use Rattle.rules.specs.Rules.{After, setUp, received}
-use Rattle.rules.specs.View.{Table}
+use Rattle.rules.specs.View.{view, Table}
 use Rattle.rules.proofs.Laws.{table-after, site-after, set-up-table}
 use Rattle.isolation.specs.Runs.{Call, own, Alike, Alike.end, Alike.its, Alike.others, call, NeverFull, Seen, saw, seen, Isolation}
 use Rattle.isolation.specs.Alone.{Heard, heardIn, heardOf, Own, ownOf, ownAfter, answerTo, sawAlone, seenAlone}
@@ -32,11 +32,11 @@ module _ {S : Type 0} (F : Form S) (L : Lawful F) (key : ℕ) (s : S) (c : Call)
   abbrev Alone : Type 0
   Alone = (ownOf F (r .table) key ≡ ownAfter (F .site s) (ownOf F s key) (heardIn key c)) × (saw F key c r ≡ sawAlone (F .site s) (ownOf F s key) (heardIn key c))
 
-  not-heard : own key c ≡ false → none ≡ answerTo (ltb (heardIn key c .time) (F .clock s)) (heardIn key c .message)
+  not-heard : own key c ≡ false → none ≡ answerTo (ltb (heardIn key c .time) (F .clock s)) (view F s key) (heardIn key c .time) (heardIn key c .message)
   unfolding own heardIn
-  not-heard o = sym (ap (answerTo (ltb (c .time) (F .clock s))) (none-in key (decoded (c .message)) o))
+  not-heard o = sym (ap (answerTo (ltb (c .time) (F .clock s)) (view F s key) (c .time)) (none-in key (decoded (c .message)) o))
 
-  heard : own key c ≡ true → some (r .answer) ≡ answerTo (ltb (heardIn key c .time) (F .clock s)) (heardIn key c .message)
+  heard : own key c ≡ true → some (r .answer) ≡ answerTo (ltb (heardIn key c .time) (F .clock s)) (view F s key) (heardIn key c .time) (heardIn key c .message)
   unfolding heardIn
   heard o = own-call F L key s c table o (never o) .1
 
@@ -44,7 +44,7 @@ module _ {S : Type 0} (F : Form S) (L : Lawful F) (key : ℕ) (s : S) (c : Call)
   one-call = by-owner (own key c) refl
     where
       both : (o : Bool) → own key c ≡ o → ownOf F (r .table) key ≡ ownAfter (F .site s) (ownOf F s key) (heardIn key c)
-          → cond o (some (r .answer)) none ≡ answerTo (ltb (heardIn key c .time) (F .clock s)) (heardIn key c .message) → Alone
+          → cond o (some (r .answer)) none ≡ answerTo (ltb (heardIn key c .time) (F .clock s)) (view F s key) (heardIn key c .time) (heardIn key c .message) → Alone
       both o e p q = (p, ap₂ shown (ap (λ (b : Bool). cond b (some (r .answer)) none) e ∙ q) p)
 
       by-owner : (b : Bool) → own key c ≡ b → Alone

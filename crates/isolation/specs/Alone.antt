@@ -5,16 +5,14 @@ use mathlib.Core.Option.{Option, some, none}
 use mathlib.Core.List.{List, [], _∷_}
 use lib.Dec.{eqb, ltb}
 use Rattle.refusals.specs.declared.Refusal.the-variants.{Late}
-use Rattle.layouts.specs.Bodies.{bodyMe}
 use Rattle.messages.specs.declared.Message.{Message}
 use Rattle.messages.specs.declared.Decoded.{Decoded}
 use Rattle.messages.specs.declared.Decoded.the-variants as decode
 use Rattle.messages.specs.Message.{decoded, keyOf}
 use Rattle.whereabouts.specs.declared.Site.{Site}
 use Rattle.track.specs.declared.Track.{Track}
-use Rattle.track.specs.Track.{stepBody}
 use Rattle.rules.specs.Form.{Form}
-use Rattle.rules.specs.View.{view, laterAt, orNew}
+use Rattle.rules.specs.View.{view, laterAt, found, steppedFrom, answeredFrom}
 use Rattle.isolation.specs.Runs.{Call, Seen}
 
 -- what it hears of a call: the time, and the message if that is its own
@@ -41,21 +39,21 @@ pub record Own : Type 0 where
 abbrev pub ownOf : {S : Type 0} → Form S → S → ℕ → Own
 ownOf F s key = record { clock = F .clock s; track = view F s key }
 
--- its message steps its track, another's leaves it but for its age
+-- its message steps the track that it finds, another's leaves it but for its age
 abbrev pub trackAfter : Site → Option Track → ℕ → Option Message → Option Track
 trackAfter site t time none = laterAt time t
-trackAfter site t time (some m) = some (stepBody (orNew (laterAt time t)) (m .body) (bodyMe (m .body)) site time)
+trackAfter site t time (some m) = steppedFrom m site time (found m (laterAt time t))
 
 -- a late call changes nothing
 unfoldable pub ownAfter : Site → Own → Heard → Own
 ownAfter site o h = cond (ltb (h .time) (o .clock)) o (record { clock = h .time; track = trackAfter site (o .track) (h .time) (h .message) })
 
-abbrev pub answerTo : Bool → Option Message → Option Decoded
-answerTo late none = none
-answerTo late (some m) = some (cond late (decode.Refused Late) (decode.Message m))
+abbrev pub answerTo : Bool → Option Track → ℕ → Option Message → Option Decoded
+answerTo late t time none = none
+answerTo late t time (some m) = some (cond late (decode.Refused Late) (answeredFrom m (found m (laterAt time t))))
 
 abbrev pub sawAlone : Site → Own → Heard → Seen
-sawAlone site o h = record { answer = answerTo (ltb (h .time) (o .clock)) (h .message); track = ownAfter site o h .track }
+sawAlone site o h = record { answer = answerTo (ltb (h .time) (o .clock)) (o .track) (h .time) (h .message); track = ownAfter site o h .track }
 
 abbrev pub seenAlone : Site → Own → List Heard → List Seen
 seenAlone site o [] = []

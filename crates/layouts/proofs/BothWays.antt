@@ -2,7 +2,7 @@
 -- Assumes nothing.
 use Prim.Native.Nat.{ℕ, _^_, _<_, _≤_}
 use mathlib.Core.Path.{_≡_, refl, sym, ap, subst, _∙_}
-use mathlib.Core.Bool.{Bool, true, false, cond, _&&_}
+use mathlib.Core.Bool.{Bool, true, false, cond, _&&_, _||_}
 use mathlib.Core.List.{List}
 use native.Mathlib.Nat.{mod-eq-of-lt}
 use native.Mathlib.Omega.{arith}
@@ -17,7 +17,7 @@ use Rattle.fields.proofs.Fits.{fits-fit, unpack-fits}
 use Rattle.fields.proofs.Packing.{pack-unpack, pack-lt}
 use Rattle.layouts.specs.Layouts.{isIdentification, isSurface, isAirborne, identificationWidths, surfaceWidths, airborneWidths}
 use Rattle.layouts.specs.Velocity.{isGround, isAir, velocityWidths}
-use Rattle.layouts.specs.Bodies.{layoutAt, takenAs, taken, bodyFields, bodyWidths, typeAgrees, bodyMe, bodyFits, written}
+use Rattle.layouts.specs.Bodies.{layoutAt, takenAs, taken, bodyType, bodyFields, bodyWidths, typeAgrees, bodyMe, bodyFits, written}
 use Rattle.layouts.specs.declared.bodies.Body.{Body}
 use Rattle.layouts.specs.declared.bodies.Body.the-variants as body
 use Rattle.layouts.specs.declared.bodies.Layout.{Layout}
@@ -57,9 +57,16 @@ above lo hi n h = rw (lt-leb n hi h) (and-false (leb lo n))
 from-low : (lo hi n : ℕ) → leb lo n && leb n hi ≡ true → lo ≤ n
 from-low lo hi n e = leb-true lo n (and-left (leb lo n) (leb n hi) e)
 
-from-nine : (n : ℕ) (a : Bool) → (leb 9 n && leb n 18) ≡ a → isAirborne n ≡ true → 9 ≤ n
+from-nine : (n : ℕ) (a : Bool) → (leb 9 n && leb n 18) ≡ a → (leb 9 n && leb n 18) || (leb 20 n && leb n 22) ≡ true → 9 ≤ n
 from-nine n true e q = from-low 9 18 n e
 from-nine n false e q = let h : 20 ≤ n = from-low 20 22 n (rw e at q) in omega arith
+
+-- a TYPE of the air is 0 or from 9, and so no identification's and no surface position's
+no-other : (n : ℕ) (a : Bool) → eqb n 0 ≡ a → isAirborne n ≡ true → (isIdentification n ≡ false) × (isSurface n ≡ false)
+no-other n true e q = let z : n ≡ 0 = eqb-true n 0 e in (ap isIdentification z, ap isSurface z)
+no-other n false e q =
+    let h : 9 ≤ n = from-nine n (leb 9 n && leb n 18) refl (rw e at q) in
+    (above 1 4 n (omega arith), above 5 8 n h)
 
 nineteen : (n : ℕ) (a b : Bool) → eqb n 19 && a && b ≡ true → n ≡ 19
 nineteen n a b e = eqb-true n 19 (and-left (eqb n 19) a (and-left (eqb n 19 && a) b e))
@@ -83,9 +90,9 @@ read-back (body.Airborne b) e =
     let n : ℕ = bodyMe (body.Airborne b) in
     let f = fitting (body.Airborne b) e in
     let q = agreeing (body.Airborne b) e in
-    let h : 9 ≤ b .typecode = from-nine (b .typecode) (leb 9 (b .typecode) && leb (b .typecode) 18) refl q in
+    let h = no-other (b .typecode) (eqb (b .typecode) 0) refl q in
     ap (λ (l : List ℕ). takenAs (layoutAt (getD l 0 0) (me 6 8 n)) n) (unpacked airborne b f)
-    ∙ simp (above 1 4 (b .typecode) (omega arith), above 5 8 (b .typecode) h, q) (ap (λ x. read.Body (body.Airborne x)) (back airborne b f))
+    ∙ simp (h .0, h .1, q) (ap (λ x. read.Body (body.Airborne x)) (back airborne b f))
 read-back (body.Ground b) e =
     let n : ℕ = bodyMe (body.Ground b) in
     let f = fitting (body.Ground b) e in
@@ -103,6 +110,14 @@ read-back (body.Air b) e =
     ap (λ (l : List ℕ). takenAs (layoutAt (getD l 0 0) (getD l 1 0)) n) (unpacked air b f)
     ∙ ap (λ (t : ℕ). takenAs (layoutAt t (b .subtype)) n) h
     ∙ simp (above 1 2 (b .subtype) (from-low 3 4 (b .subtype) r), r) (ap (λ x. read.Body (body.Air x)) (back air b f))
+
+-- the TYPE too
+pub type-back : (b : Body) → bodyFits b ≡ true → me 1 5 (bodyMe b) ≡ bodyType b
+type-back (body.Identification b) e = ap (λ (l : List ℕ). getD l 0 0) (unpacked identification b (fitting (body.Identification b) e))
+type-back (body.Surface b) e = ap (λ (l : List ℕ). getD l 0 0) (unpacked surface b (fitting (body.Surface b) e))
+type-back (body.Airborne b) e = ap (λ (l : List ℕ). getD l 0 0) (unpacked airborne b (fitting (body.Airborne b) e))
+type-back (body.Ground b) e = ap (λ (l : List ℕ). getD l 0 0) (unpacked ground b (fitting (body.Ground b) e))
+type-back (body.Air b) e = ap (λ (l : List ℕ). getD l 0 0) (unpacked air b (fitting (body.Air b) e))
 
 -- ---- what is read is written back
 

@@ -52,9 +52,22 @@ pub west-not-south : taken 0x99440914083817
     }))
 west-not-south = refl
 
--- TYPE 0, TYPE 23, and TYPE 19 with subtypes 0 and 5
-pub not-taken : (taken 0 ≡ read.Refused TypeCode)
-    × (taken 0xB8000000000000 ≡ read.Refused TypeCode)
+-- TYPE 0, with no other field 0: none is dropped
+pub no-position : taken 0x07381ED690C8AC
+    ≡ read.Body (body.Airborne (record {
+      typecode = 0;
+      surveillance = 3;
+      bit8 = 1;
+      altitude = 897;
+      t = 1;
+      f = 1;
+      latitude = record { 0 = 93000 };
+      longitude = record { 0 = 51372 };
+    }))
+no-position = refl
+
+-- TYPE 23, and TYPE 19 with subtypes 0 and 5
+pub not-taken : (taken 0xB8000000000000 ≡ read.Refused TypeCode)
     × (taken 0x98000000000000 ≡ read.Refused TypeCode)
     × (taken 0x9D000000000000 ≡ read.Refused TypeCode)
-not-taken = (refl, refl, refl, refl)
+not-taken = (refl, refl, refl)

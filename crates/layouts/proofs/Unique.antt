@@ -12,6 +12,8 @@ use Rattle.layouts.proofs.bodies.layout_of.Kinds as layout-of-kinds
 use Rattle.layouts.proofs.bodies.layout_of.Reads as layout-of
 use Rattle.layouts.proofs.bodies.me_of.Kinds as me-of-kinds
 use Rattle.layouts.proofs.bodies.me_of.Reads as me-of
+use Rattle.layouts.proofs.bodies.type_of.Kinds as type-of-kinds
+use Rattle.layouts.proofs.bodies.type_of.Reads as type-of
 use Rattle.layouts.proofs.surface.surface_of.Kinds as surface-of-kinds
 use Rattle.layouts.proofs.surface.surface_of.Reads as surface-of
 use Rattle.layouts.proofs.airborne.airborne_fits.Kinds as airborne-fits-kinds
@@ -36,6 +38,9 @@ layout-of-once κs args x y left left′ p q = p ∙ sym q
 
 pub is-taken-once : OneAnswer 0 is-taken-kinds.ps is-taken-kinds.r is-taken.Post
 is-taken-once κs args x y left left′ p q = p ∙ sym q
+
+pub type-of-once : OneAnswer 0 type-of-kinds.ps type-of-kinds.r type-of.Post
+type-of-once κs args x y left left′ p q = p ∙ sym q
 
 pub surface-of-once : OneAnswer 0 surface-of-kinds.ps surface-of-kinds.r surface-of.Post
 surface-of-once κs args x y left left′ p q = p ∙ sym q

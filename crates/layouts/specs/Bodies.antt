@@ -58,13 +58,20 @@ layoutWidths layout.Ground = velocityWidths
 layoutWidths layout.Air = velocityWidths
 layoutWidths layout.NotTaken = []
 
--- a body's layout, its fields in the order of their bits, how many bits each has, and whether TYPE and subtype are those of the layout
+-- a body's layout, its TYPE, its fields in the order of their bits, how many bits each has, and whether TYPE and subtype are those of the layout
 abbrev pub bodyLayout : Body → Layout
 bodyLayout (body.Identification b) = layout.Identification
 bodyLayout (body.Surface b) = layout.Surface
 bodyLayout (body.Airborne b) = layout.Airborne
 bodyLayout (body.Ground b) = layout.Ground
 bodyLayout (body.Air b) = layout.Air
+
+abbrev pub bodyType : Body → ℕ
+bodyType (body.Identification b) = b .typecode
+bodyType (body.Surface b) = b .typecode
+bodyType (body.Airborne b) = b .typecode
+bodyType (body.Ground b) = b .typecode
+bodyType (body.Air b) = b .typecode
 
 abbrev pub bodyFields : Body → List ℕ
 bodyFields (body.Identification b) = identificationFields b

@@ -2,7 +2,7 @@
 use Prim.Native.Nat.{ℕ}
 use mathlib.Core.List.{List, [], _∷_}
 use mathlib.Core.Bool.{Bool, _&&_, _||_}
-use lib.Dec.{leb}
+use lib.Dec.{leb, eqb}
 use Rattle.fields.specs.Packing.{me}
 use Rattle.layouts.specs.declared.identification.Identification.{Identification}
 use Rattle.layouts.specs.declared.surface.Surface.{Surface}
@@ -16,8 +16,9 @@ isIdentification type = leb 1 type && leb type 4
 abbrev pub isSurface : ℕ → Bool
 isSurface type = leb 5 type && leb type 8
 
+-- TYPE 0 has no position, but this layout
 abbrev pub isAirborne : ℕ → Bool
-isAirborne type = (leb 9 type && leb type 18) || (leb 20 type && leb type 22)
+isAirborne type = eqb type 0 || ((leb 9 type && leb type 18) || (leb 20 type && leb type 22))
 
 -- ---- what the bits say
 

@@ -1,4 +1,4 @@
-// Airborne position: TYPE 9-18 with pressure altitude, 20-22 with GNSS height.
+// Airborne position: TYPE 9-18 with pressure altitude, 20-22 with GNSS height; TYPE 0, which has the layout, a pressure altitude at most and no position.
 use counts::LatitudeCount;
 use counts::LongitudeCount;
 ghost use mathlib.Core.Path.{_≡_};
@@ -59,5 +59,5 @@ pub fn airborne_fits(b: Airborne) -> bool
         & (b.f < 2)
         & (b.latitude.0 < 0x2_0000)
         & (b.longitude.0 < 0x2_0000)
-        & (((9 <= t) & (t <= 18)) | ((20 <= t) & (t <= 22)))
+        & ((t == 0) | (((9 <= t) & (t <= 18)) | ((20 <= t) & (t <= 22))))
 }

@@ -22,7 +22,7 @@ use crate::velocity::ground_of;
 use refusals::Refusal;
 ghost use mathlib.Core.Path.{_≡_};
 ghost use mathlib.Core.Bool.{true};
-ghost use Rattle.layouts.specs.Bodies.{layoutOf, isTaken, taken, written, bodyMe, bodyFits};
+ghost use Rattle.layouts.specs.Bodies.{layoutOf, isTaken, taken, written, bodyType, bodyMe, bodyFits};
 
 pub enum Body {
     Identification(Identification),
@@ -66,7 +66,7 @@ pub fn layout_of(me: u64) -> Layout
     if (5 <= t) & (t <= 8) {
         return Layout::Surface;
     }
-    if ((9 <= t) & (t <= 18)) | ((20 <= t) & (t <= 22)) {
+    if (t == 0) | (((9 <= t) & (t <= 18)) | ((20 <= t) & (t <= 22))) {
         return Layout::Airborne;
     }
     if (t == 19) & (1 <= s) & (s <= 2) {
@@ -105,6 +105,19 @@ pub fn body_of(me: u64) -> Taken
         Layout::Ground => Taken::Body(Body::Ground(ground_of(me))),
         Layout::Air => Taken::Body(Body::Air(air_of(me))),
         Layout::NotTaken => Taken::Refused(Refusal::TypeCode),
+    }
+}
+
+// TYPE.
+pub fn type_of(b: Body) -> u8
+    ensures { λ r. ⌜ r ≡ bodyType b ⌝ }
+{
+    match b {
+        Body::Identification(x) => x.typecode,
+        Body::Surface(x) => x.typecode,
+        Body::Airborne(x) => x.typecode,
+        Body::Ground(x) => x.typecode,
+        Body::Air(x) => x.typecode,
     }
 }
 

@@ -16,6 +16,7 @@ pub use bodies::body_of;
 pub use bodies::is_taken;
 pub use bodies::layout_of;
 pub use bodies::me_of;
+pub use bodies::type_of;
 pub use identification::Identification;
 pub use identification::identification_fits;
 pub use surface::Surface;

@@ -33,7 +33,7 @@ use Rattle.messages.specs.declared.Decoded.the-variants as decode
 -- ---- fields of a part of the bits
 
 module _ (n : ℕ) where
-  type-is : me 1 5 (field 112 33 88 n) ≡ field 112 33 37 n
+  pub type-is : me 1 5 (field 112 33 88 n) ≡ field 112 33 37 n
   type-is = omega arith
 
   subtype-is : me 6 8 (field 112 33 88 n) ≡ field 112 38 40 n

@@ -10,8 +10,12 @@ use Rattle.messages.proofs.format_taken.Kinds as format-taken-kinds
 use Rattle.messages.proofs.format_taken.Reads as format-taken
 use Rattle.messages.proofs.frame_key.Kinds as frame-key-kinds
 use Rattle.messages.proofs.frame_key.Reads as frame-key
+use Rattle.messages.proofs.frame_starts.Kinds as frame-starts-kinds
+use Rattle.messages.proofs.frame_starts.Reads as frame-starts
 use Rattle.messages.proofs.key_of.Kinds as key-of-kinds
 use Rattle.messages.proofs.key_of.Reads as key-of
+use Rattle.messages.proofs.starts.Kinds as starts-kinds
+use Rattle.messages.proofs.starts.Reads as starts
 
 pub decode-once : OneAnswer 1 decode-kinds.ps decode-kinds.r decode.Post
 decode-once κs args x y left left′ p q = p ∙ sym q
@@ -27,3 +31,9 @@ accept-once κs args x y left left′ p q = p ∙ sym q
 
 pub frame-key-once : OneAnswer 0 frame-key-kinds.ps frame-key-kinds.r frame-key.Post
 frame-key-once κs args x y left left′ p q = p ∙ sym q
+
+pub starts-once : OneAnswer 0 starts-kinds.ps starts-kinds.r starts.Post
+starts-once κs args x y left left′ p q = p ∙ sym q
+
+pub frame-starts-once : OneAnswer 0 frame-starts-kinds.ps frame-starts-kinds.r frame-starts.Post
+frame-starts-once κs args x y left left′ p q = p ∙ sym q

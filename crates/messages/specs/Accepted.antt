@@ -2,12 +2,13 @@
 use Prim.Native.Nat.{ℕ}
 use mathlib.Core.List.{List}
 use mathlib.Core.Path.{_≡_}
-use mathlib.Core.Bool.{cond, not}
+use mathlib.Core.Bool.{Bool, cond, not}
 use lib.Dec.{eqb}
 use lib.ListN.{length}
 use Rattle.refusals.specs.declared.Refusal.the-variants.{Length, Parity, Format, TypeCode}
 use Rattle.keys.specs.Keys.{keyFor}
 use Rattle.parity.specs.Parity.{remainder}
+use Rattle.fields.specs.Packing.{me}
 use Rattle.layouts.specs.Bodies.{layoutOf, isTaken}
 use Rattle.messages.specs.declared.Frame.{Frame}
 use Rattle.messages.specs.declared.Message.{Message}
@@ -15,7 +16,7 @@ use Rattle.messages.specs.declared.Accepted.{Accepted}
 use Rattle.messages.specs.declared.Accepted.the-variants as accept
 use Rattle.messages.specs.declared.Decoded.{Decoded}
 use Rattle.messages.specs.declared.Decoded.the-variants as decode
-use Rattle.messages.specs.Message.{bits, formatTaken, opened, decoded, kindOf}
+use Rattle.messages.specs.Message.{bits, formatTaken, opened, decoded, kindOf, startsBy}
 
 -- DF, CA or CF, AA and ME
 abbrev pub frameOf : List ℕ → Frame
@@ -43,6 +44,10 @@ openedAs (accept.Refused r) = decode.Refused r
 -- the key of its track
 abbrev pub frameKey : Frame → ℕ
 frameKey f = keyFor (kindOf (f .format) (f .control)) (f .address)
+
+-- whether it may start a track; TYPE is bits 1-5 of ME
+abbrev pub frameStarts : Frame → Bool
+frameStarts f = startsBy (me 1 5 (f .me))
 
 -- the decoder takes it
 abbrev pub Acceptable : List ℕ → Type 0

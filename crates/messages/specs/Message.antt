@@ -11,7 +11,7 @@ use Rattle.keys.specs.Keys.{keyFor}
 use Rattle.keys.specs.declared.Kind.{Kind}
 use Rattle.keys.specs.declared.Kind.the-variants.{I, O}
 use Rattle.parity.specs.Parity.{remainder, seal}
-use Rattle.layouts.specs.Bodies.{taken, bodyMe, bodyFits}
+use Rattle.layouts.specs.Bodies.{taken, bodyType, bodyMe, bodyFits}
 use Rattle.layouts.specs.declared.bodies.Taken.{Taken}
 use Rattle.layouts.specs.declared.bodies.Taken.the-variants as read
 use Rattle.messages.specs.declared.Message.{Message}
@@ -55,6 +55,15 @@ kindOf format control = cond (eqb format 18 && eqb control 1) O I
 -- AA with its kind
 abbrev pub keyOf : Message → ℕ
 keyOf m = keyFor (kindOf (m .format) (m .control)) (m .address)
+
+-- ---- what may start a track
+
+-- by TYPE: all but 0, which only ever adds to a track that is held
+abbrev pub startsBy : ℕ → Bool
+startsBy type = not (eqb type 0)
+
+abbrev pub starts : Message → Bool
+starts m = startsBy (bodyType (m .body))
 
 -- ---- the bytes that say a message
 

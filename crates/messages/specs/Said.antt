@@ -11,7 +11,7 @@ use Rattle.parity.specs.Parity.{remainder}
 use Rattle.layouts.specs.Bodies.{layoutAt, isTaken, layoutWidths, bodyLayout, bodyFields}
 use Rattle.layouts.specs.Said.{Values, values}
 use Rattle.layouts.specs.declared.bodies.Layout.{Layout}
-use Rattle.messages.specs.Message.{bits, formatTaken, headWidths, headFields}
+use Rattle.messages.specs.Message.{bits, formatTaken, startsBy, headWidths, headFields}
 use Rattle.messages.specs.declared.Accepted.{Accepted}
 use Rattle.messages.specs.declared.Accepted.the-variants as accept
 use Rattle.messages.specs.declared.Decoded.{Decoded}
@@ -48,6 +48,10 @@ layoutIn s = layoutAt (bits 33 37 s) (bits 38 40 s)
 -- 5: TYPE or subtype not taken
 abbrev pub earns5 : List ℕ → Bool
 earns5 s = not (isTaken (layoutIn s))
+
+-- whether the message may start a track
+abbrev pub startsIn : List ℕ → Bool
+startsIn s = startsBy (bits 33 37 s)
 
 -- the layout, and all fields of the bits before PI by its widths
 abbrev pub valuesIn : List ℕ → Values

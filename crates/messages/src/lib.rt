@@ -8,8 +8,8 @@ ghost use lib.Dec.{eqb};
 ghost use lib.ListN.{length};
 ghost use Rattle.parity.specs.Parity.{remainder};
 ghost use Rattle.keys.specs.Keys.{keyFor};
-ghost use Rattle.messages.specs.Message.{formatTaken, withBody, opened, decoded, kindOf, keyOf};
-ghost use Rattle.messages.specs.Accepted.{frameOf, framed, accepted, frameKey};
+ghost use Rattle.messages.specs.Message.{formatTaken, withBody, opened, decoded, kindOf, keyOf, startsBy, starts};
+ghost use Rattle.messages.specs.Accepted.{frameOf, framed, accepted, frameKey, frameStarts};
 
 pub struct Message {
     // DF
@@ -158,4 +158,26 @@ pub fn frame_key(f: Frame) -> u32
     ensures { λ r. ⌜ r ≡ frameKey f ⌝ }
 {
     key_from(f.format, f.control, f.address)
+}
+
+// The one test of what may start a track, by TYPE.
+fn starts_by(typecode: u8) -> bool
+    ensures { λ r. ⌜ r ≡ startsBy typecode ⌝ }
+{
+    typecode != 0
+}
+
+// Whether a message may start a track.
+pub fn starts(m: Message) -> bool
+    ensures { λ r. ⌜ r ≡ starts m ⌝ }
+{
+    let body = m.body;
+    starts_by(layouts::type_of(body))
+}
+
+// The same of its frame.
+pub fn frame_starts(f: Frame) -> bool
+    ensures { λ r. ⌜ r ≡ frameStarts f ⌝ }
+{
+    starts_by((f.me / 0x8_0000_0000_0000 % 32) as u8)
 }

@@ -62,7 +62,7 @@ use Rattle.whereabouts.specs.declared.Saved.{Saved}
 use Rattle.whereabouts.specs.declared.Site.{Site}
 use Rattle.track.specs.declared.Stepped.{Stepped}
 use Rattle.track.specs.declared.Track.{Track}
-use Rattle.track.specs.Groups.{high, atPressure, atHeight}
+use Rattle.track.specs.Groups.{high, atPressure, reported, atHeight}
 use Rattle.whereabouts.specs.Located.{
   isWithin,
   isFresh,
@@ -261,10 +261,20 @@ new-fits =
       odd = none-fits;
     }
 
+pressure-fits : (g : Groups) (altitude : ℕ) → FitsGroups g → altitude < 2 ^ 12 → FitsGroups (atPressure g altitude)
+pressure-fits g altitude f h =
+    record { identification = f .identification; velocity = f .velocity; surface = f .surface; pressure = h; height = f .height; meant = pressure-meant g (f .meant) altitude }
+
+reported-fits : (g : Groups) (altitude : ℕ) → FitsGroups g → altitude < 2 ^ 12 → FitsGroups (reported g altitude)
+reported-fits g altitude f h =
+    by-test (λ (n : ℕ). FitsGroups (atPressure g n)) (eqb altitude 0) (g .pressure) altitude
+    (λ _. pressure-fits g (g .pressure) f (f .pressure))
+    (λ _. pressure-fits g altitude f h)
+
 high-fits : (g : Groups) (type altitude : ℕ) → FitsGroups g → altitude < 2 ^ 12 → FitsGroups (high g type altitude)
 high-fits g type altitude f h =
     by-test FitsGroups (leb type 18) (atPressure g altitude) (atHeight g altitude)
-    (λ _. record { identification = f .identification; velocity = f .velocity; surface = f .surface; pressure = h; height = f .height; meant = pressure-meant g (f .meant) altitude })
+    (λ _. pressure-fits g altitude f h)
     (λ _. record { identification = f .identification; velocity = f .velocity; surface = f .surface; pressure = f .pressure; height = h; meant = height-meant g (f .meant) altitude })
 
 module _ (t : Track) (f : Fits t) (site : Site) (time : ℕ) (h : time < 2 ^ 64) where
@@ -300,7 +310,9 @@ module _ (t : Track) (f : Fits t) (site : Site) (time : ℕ) (h : time < 2 ^ 64)
   body-fits (body.Surface b) e = surface-track-fits b (bodyMe (body.Surface b)) (me-lt (body.Surface b) e) (gives-surface b e)
   body-fits (body.Airborne b) e =
       let w = fitting (body.Airborne b) e .1 .1 .1 in
-      airborne-track-fits b (w .1 .1 .0) (w .0) (w .1 .1 .1 .0) (w .1 .1 .1 .1 .0)
+      by-test Fits (eqb (b .typecode) 0) _ _
+      (λ _. group-fits _ (reported-fits (t .groups) (b .altitude) (f .groups) (w .0)))
+      (λ _. airborne-track-fits b (w .1 .1 .0) (w .0) (w .1 .1 .1 .0) (w .1 .1 .1 .1 .0))
   body-fits (body.Ground b) e =
       let g = f .groups in
       group-fits _ (record { identification = g .identification; velocity = me-lt (body.Ground b) e; surface = g .surface; pressure = g .pressure; height = g .height; meant = moving-meant (t .groups) (g .meant) _ (gives-ground b e) })

@@ -30,7 +30,7 @@ identificationMeans b = record { set = categorySetOf (b .typecode); text = textO
 abbrev pub surfaceMeans : Surface → SurfaceReadings
 surfaceMeans b = record { movement = movementOf (b .movement); heading = headingOf 7 (b .heading) }
 
--- of the TYPEs of this layout, 9-18 have pressure altitude and 20-22 GNSS height
+-- of the TYPEs of this layout, 0 and 9-18 have pressure altitude and 20-22 GNSS height
 abbrev pub isGnss : ℕ → Bool
 isGnss type = leb 20 type
 

@@ -1,7 +1,7 @@
--- The numbers that come back, as document 01's table has them.
+-- The numbers that come back, as document 01's table has them, and document 02.
 use Prim.Native.Nat.{ℕ}
 use Rattle.refusals.specs.declared.Refusal.{Refusal}
-use Rattle.refusals.specs.declared.Refusal.the-variants.{Length, Late, Parity, Format, TypeCode, Full, Places, Field, Latitude, Zones, Block}
+use Rattle.refusals.specs.declared.Refusal.the-variants.{Length, Late, Parity, Format, TypeCode, Full, Places, Field, Latitude, Zones, Block, NoTrack}
 
 abbrev pub numberOf : Refusal → ℕ
 numberOf Length = 1
@@ -15,3 +15,4 @@ numberOf Field = 8
 numberOf Latitude = 9
 numberOf Zones = 10
 numberOf Block = 11
+numberOf NoTrack = 12

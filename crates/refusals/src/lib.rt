@@ -25,6 +25,8 @@ pub enum Refusal {
     Zones,
     // a capture block that fails its rules
     Block,
+    // a key that is not held, and a message that starts no track
+    NoTrack,
 }
 
 // The paper's number of a refusal.
@@ -43,5 +45,6 @@ pub fn number(r: Refusal) -> u32
         Refusal::Latitude => 9,
         Refusal::Zones => 10,
         Refusal::Block => 11,
+        Refusal::NoTrack => 12,
     }
 }

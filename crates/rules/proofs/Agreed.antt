@@ -15,7 +15,7 @@ use Rattle.positions.specs.Positions.{poleToPole}
 use Rattle.messages.specs.declared.Message.{Message}
 use Rattle.messages.specs.declared.Decoded.{Decoded}
 use Rattle.messages.specs.declared.Decoded.the-variants as decode
-use Rattle.messages.specs.Message.{decoded, keyOf}
+use Rattle.messages.specs.Message.{decoded, keyOf, starts}
 use Rattle.whereabouts.specs.declared.Site.{Site}
 use Rattle.track.specs.declared.Track.{Track}
 use Rattle.track.specs.Track.{newTrack, stepped}
@@ -198,8 +198,8 @@ module _ {S T : Type 0} (F : Form S) (G : Form T) (s : S) (t : T) (a : Agree F G
     delivered-agrees (decode.Message m) =
         both-ways (Alike F G) _ _ _ _ (tests-same _ _ (own-same (keyOf m)))
         (λ e. let h : placeOf G t c (keyOf m) < G .count t = ltb-true _ _ e in step-agrees m _ _ _ _ (own-same (keyOf m)) (own-track (keyOf m) h) h (own-fits (keyOf m) h))
-        (λ _. both-ways (Alike F G) _ _ _ _ (tests-same _ _ free-same)
-        (λ e. step-agrees m _ _ newTrack newTrack free-same refl (ltb-true _ _ e) new-fits)
+        (λ _. both-ways (Alike F G) _ _ _ _ (ap (λ (b : Bool). starts m && b) (tests-same _ _ free-same))
+        (λ e. step-agrees m _ _ newTrack newTrack free-same refl (ltb-true _ _ (and-right (starts m) _ e)) new-fits)
         (λ _. record { answer = refl; left = a }))
 
 -- ---- a call

@@ -11,30 +11,29 @@ use lib.Dec.{eqb, ltb}
 use lib.ListN.{length}
 use borrow.Author.Tests.{lt-ltb, le-ltb, not-false}
 use Rattle.refusals.specs.declared.Refusal.{Refusal}
-use Rattle.refusals.specs.declared.Refusal.the-variants.{Length, Late, Full, Places}
+use Rattle.refusals.specs.declared.Refusal.the-variants.{Length, Late, Full, Places, NoTrack}
 use Rattle.refusals.specs.Numbers.{numberOf}
 use Rattle.fields.proofs.Bools.{by-test, and-left, and-right}
 use Rattle.positions.specs.Positions.{poleToPole}
-use Rattle.layouts.specs.Bodies.{bodyMe}
 use Rattle.messages.specs.declared.Message.{Message}
 use Rattle.messages.specs.declared.Decoded.{Decoded}
 use Rattle.messages.specs.declared.Decoded.the-variants as decode
-use Rattle.messages.specs.Message.{decoded, keyOf}
+use Rattle.messages.specs.Message.{decoded, keyOf, starts}
 use Rattle.whereabouts.specs.declared.Site.{Site}
 use Rattle.whereabouts.specs.Located.{noSite}
 use Rattle.track.specs.declared.Track.{Track}
-use Rattle.track.specs.Track.{newTrack, stepBody}
+use Rattle.track.specs.Track.{newTrack}
 use Rattle.rules.specs.Search.{lowest}
 use Rattle.rules.specs.declared.answers.SetUp.{SetUp}
 use Rattle.rules.specs.declared.answers.SetUp.the-variants as setting
 use Rattle.rules.specs.declared.answers.Holding.the-variants as holding
 use Rattle.rules.specs.Form.{isHeld, holds, Form, East, SiteFits, Lawful}
 use Rattle.rules.specs.Rules.{After, setUp, placeOf, delivered, received, lookedUp}
-use Rattle.rules.specs.View.{trackIn, viewAt, view, lookedAs, laterAt, orNew, Once, AllFit, Table, Fresh, AllTaken, NoRoom, Early, Undecoded}
+use Rattle.rules.specs.View.{trackIn, viewAt, view, lookedAs, laterAt, found, steppedFrom, answeredFrom, Once, AllFit, Table, Fresh, Unheld, AllTaken, NoRoom, NoneToStep, Early, Undecoded, Unplaced, Later}
 use Rattle.rules.proofs.Search.{clash, fails, alike, look-miss}
-use Rattle.rules.proofs.Steps.{Single, view-later, single-later, as-moved, moved-view, moved-taken, moved-fit}
-use Rattle.rules.proofs.Delivered.{delivered-keeps, Answered, answered, Effect, delivery}
-use Rattle.rules.proofs.Ways.{not-refused, refused-as, not-both, decoder-refuses, decoded-14, decoded-fits, Way, short, uneven, late, timely, way, received-in-time}
+use Rattle.rules.proofs.Steps.{Single, view-later, single-later, as-moved, moved-view, moved-unheld, moved-taken, moved-fit}
+use Rattle.rules.proofs.Delivered.{delivered-keeps, FullDue, NoneDue, Answered, answered, sorted, Effect, delivery}
+use Rattle.rules.proofs.Ways.{not-refused, refused-as, not-unplaced, not-both, decoder-refuses, decoded-14, decoded-fits, Way, short, uneven, late, timely, way, received-in-time}
 
 -- what a move of the clock keeps, and then a track stored at any place, every call keeps
 pub received-keeps : {S : Type 0} (F : Form S) (s : S) (message : List ℕ) (t : ℕ) (P : S → Type 0) → P s → P (F .moved s t)
@@ -138,9 +137,9 @@ module _ {S : Type 0} (F : Form S) (L : Lawful F) (s : S) (message : List ℕ) (
     dropped-timely k h (decode.Message m) e un =
         ⊎-elim
         (λ (x : k ≡ keyOf m). ⊎-elim
-        (λ y. absurd (un m (y .0) x))
-        (λ y. ap (λ (r : After S Decoded). viewAt F t (r .table) k) (y .0))
-        (answered F t (F .moved s t) m (decoded-fits message m e)))
+        (λ y. absurd (un m y x))
+        (λ y. ap (λ (r : After S Decoded). viewAt F t (r .table) k) (y .1 .1))
+        (sorted F t (F .moved s t) m (decoded-fits message m e)))
         (λ (x : k ≡ keyOf m → ⊥). effect h m e .other k x)
         (alike k (keyOf m))
 
@@ -159,51 +158,51 @@ module _ {S : Type 0} (F : Form S) (L : Lawful F) (s : S) (message : List ℕ) (
         → view F (call .table) k ≡ laterAt t (view F s k)
     dropped-by-the-clock k l h un = dropped-by k l h un (way F s message t)
 
-    -- an accepted message steps its own key's track, as old as that is at its time
+    -- an acceptable message steps the track that it finds, as old as that is at its time; where it finds none and may start none the answer is 12
     pub steps-its-track : (m : Message) → decoded message ≡ decode.Message m → F .clock s ≤ t → (call .answer ≡ decode.Refused Full → ⊥)
-        → (call .answer ≡ decode.Message m)
-        × (view F (call .table) (keyOf m) ≡ some (stepBody (orNew (laterAt t (view F s (keyOf m)))) (m .body) (bodyMe (m .body)) (F .site s) t))
+        → (call .answer ≡ answeredFrom m (found m (laterAt t (view F s (keyOf m)))))
+        × (view F (call .table) (keyOf m) ≡ steppedFrom m (F .site s) t (found m (laterAt t (view F s (keyOf m)))))
     steps-its-track m e h =
-        subst (λ (r : After S Decoded). (r .answer ≡ decode.Refused Full → ⊥) → (r .answer ≡ decode.Message m)
-        × (view F (r .table) (keyOf m) ≡ some (stepBody (orNew (laterAt t (view F s (keyOf m)))) (m .body) (bodyMe (m .body)) (F .site s) t)))
+        subst (λ (r : After S Decoded). (r .answer ≡ decode.Refused Full → ⊥) → (r .answer ≡ answeredFrom m (found m (laterAt t (view F s (keyOf m)))))
+        × (view F (r .table) (keyOf m) ≡ steppedFrom m (F .site s) t (found m (laterAt t (view F s (keyOf m))))))
         (sym (accepted-is m e (tb .size) h))
         (λ un. (
-          ⊎-elim (λ y. y .0) (λ y. absurd (un (ap (λ (r : After S Decoded). r .answer) (y .0)))) (answered F t (F .moved s t) m (decoded-fits message m e)),
+          effect h m e .told un ∙ ap (λ (v : Option Track). answeredFrom m (found m v)) (here h (keyOf m)),
           at-clock (delivered F (F .moved s t) (decode.Message m) t .table) (keyOf m) (clock-delivered (tb .size) fits (decode.Message m))
               ∙ effect h m e .own un
-              ∙ ap₂ (λ (v : Option Track) (site : Site). some (stepBody (orNew v) (m .body) (bodyMe (m .body)) site t)) (here h (keyOf m)) (L .moved-site s t),
+              ∙ ap₂ (λ (v : Option Track) (site : Site). steppedFrom m site t (found m v)) (here h (keyOf m)) (L .moved-site s t),
         ))
 
   -- ---- which number, and what it leaves: for any table at all, and any message
 
   refused-timely : (d : Decoded) → decoded message ≡ d → length message ≡ 14 → (r : Refusal) → delivered F (F .moved s t) d t .answer ≡ decode.Refused r
-      → (Undecoded r ⊎ (r ≡ Full)) × (delivered F (F .moved s t) d t .table ≡ F .moved s t)
+      → Later r × (delivered F (F .moved s t) d t .table ≡ F .moved s t)
   unfolding delivered
   refused-timely (decode.Refused q) e l r a = (inl (subst Undecoded (refused-as a) (decoder-refuses message q l e)), refl)
   refused-timely (decode.Message m) e l r a =
       ⊎-elim
-      (λ y. absurd (not-refused (sym (y .0) ∙ a)))
-      (λ y. (inr (sym (refused-as (sym (ap (λ (x : After S Decoded). x .answer) (y .0)) ∙ a))), ap (λ (x : After S Decoded). x .table) (y .0)))
-      (answered F t (F .moved s t) m (decoded-fits message m e))
+      (λ y. absurd (not-refused (sym y ∙ a)))
+      (λ y. (inr (subst Unplaced (refused-as (sym (ap (λ (x : After S Decoded). x .answer) (y .1 .1)) ∙ a)) (y .1 .0)), ap (λ (x : After S Decoded). x .table) (y .1 .1)))
+      (sorted F t (F .moved s t) m (decoded-fits message m e))
 
   refused-by : (r : Refusal) {x : After S Decoded} → x .answer ≡ decode.Refused r → Way F s message t x
-      → (Early r × (x .table ≡ s)) ⊎ ((Undecoded r ⊎ (r ≡ Full)) × (x .table ≡ F .moved s t))
+      → (Early r × (x .table ≡ s)) ⊎ (Later r × (x .table ≡ F .moved s t))
   refused-by r a (short l) = inl (inl (sym (refused-as a)), refl)
   refused-by r a (uneven l w) = inl (inr (inl (sym (refused-as a))), refl)
   refused-by r a (late l w h) = inl (inr (inr (sym (refused-as a))), refl)
   refused-by r a (timely l w h) = inr (refused-timely (decoded message) refl l r a)
 
-  -- a refusal is 1, 7 or 2 and changes nothing, or 3, 4, 5 or 6 and moves the clock
+  -- a refusal is 1, 7 or 2 and changes nothing, or 3, 4, 5, 6 or 12 and moves the clock
   pub refused-leaves : (r : Refusal) → call .answer ≡ decode.Refused r
-      → (Early r × (call .table ≡ s)) ⊎ ((Undecoded r ⊎ (r ≡ Full)) × (call .table ≡ F .moved s t))
+      → (Early r × (call .table ≡ s)) ⊎ (Later r × (call .table ≡ F .moved s t))
   refused-leaves r a = refused-by r a (way F s message t)
 
   -- 1, 7 and 2 change nothing
   pub unchanged : (r : Refusal) → Early r → call .answer ≡ decode.Refused r → call .table ≡ s
   unchanged r h a = ⊎-elim (λ x. x .1) (λ x. absurd (not-both r h (x .0))) (refused-leaves r a)
 
-  -- 3, 4, 5 and 6 move the clock, and nothing else
-  pub only-the-clock : (r : Refusal) → Undecoded r ⊎ (r ≡ Full) → call .answer ≡ decode.Refused r → call .table ≡ F .moved s t
+  -- 3, 4, 5, 6 and 12 move the clock, and nothing else
+  pub only-the-clock : (r : Refusal) → Later r → call .answer ≡ decode.Refused r → call .table ≡ F .moved s t
   only-the-clock r h a = ⊎-elim (λ x. absurd (not-both r (x .0) h)) (λ x. x .1) (refused-leaves r a)
 
   unlike : (q r : Refusal) → (numberOf q ≡ numberOf r → ⊥) → decode.Refused q ≡ decode.Refused r → ⊥
@@ -245,19 +244,19 @@ module _ {S : Type 0} (F : Form S) (L : Lawful F) (s : S) (message : List ℕ) (
   -- ---- the others, where the places are whole and the call is in time
 
   module _ (w : F .whole s ≡ true) (h : F .clock s ≤ t) where
-    decoder-by : (d : Decoded) → decoded message ≡ d → (r : Refusal) → (r ≡ Full → ⊥) → delivered F (F .moved s t) d t .answer ≡ decode.Refused r ↔ d ≡ decode.Refused r
+    decoder-by : (d : Decoded) → decoded message ≡ d → (r : Refusal) → (Unplaced r → ⊥) → delivered F (F .moved s t) d t .answer ≡ decode.Refused r ↔ d ≡ decode.Refused r
     unfolding delivered
     decoder-by (decode.Refused q) e r un = (λ a. a, λ a. a)
     decoder-by (decode.Message m) e r un = (
       λ a. ⊎-elim
-          (λ y. absurd (not-refused (sym (y .0) ∙ a)))
-          (λ y. absurd (un (sym (refused-as (sym (ap (λ (x : After S Decoded). x .answer) (y .0)) ∙ a)))))
-          (answered F t (F .moved s t) m (decoded-fits message m e)),
+          (λ y. absurd (not-refused (sym y ∙ a)))
+          (λ y. absurd (un (subst Unplaced (refused-as (sym (ap (λ (x : After S Decoded). x .answer) (y .1 .1)) ∙ a)) (y .1 .0))))
+          (sorted F t (F .moved s t) m (decoded-fits message m e)),
       λ a. absurd (not-refused a),
     )
 
-    -- then each number but 6 is answered exactly when the decoder answers it, so these are 3, 4 and 5
-    pub decoder-exactly : length message ≡ 14 → (r : Refusal) → (r ≡ Full → ⊥) → call .answer ≡ decode.Refused r ↔ decoded message ≡ decode.Refused r
+    -- then each number but 6 and 12 is answered exactly when the decoder answers it, so these are 3, 4 and 5
+    pub decoder-exactly : length message ≡ 14 → (r : Refusal) → (Unplaced r → ⊥) → call .answer ≡ decode.Refused r ↔ decoded message ≡ decode.Refused r
     decoder-exactly l r un =
         subst (λ (x : After S Decoded). x .answer ≡ decode.Refused r ↔ decoded message ≡ decode.Refused r) (sym (received-in-time F s message t l w h))
         (decoder-by (decoded message) refl r un)
@@ -266,47 +265,90 @@ module _ {S : Type 0} (F : Form S) (L : Lawful F) (s : S) (message : List ℕ) (
       its-answer : Answered F t (F .moved s t) m (decoded-fits message m e) call
       its-answer = subst (Answered F t (F .moved s t) m (decoded-fits message m e)) (sym (accepted-is m e w h)) (answered F t (F .moved s t) m (decoded-fits message m e))
 
-      -- 6 exactly when the key is held by no place and every place is held
-      pub full-exactly : call .answer ≡ decode.Refused Full ↔ AllTaken F t (keyOf m) s
-      full-exactly = ⊎-elim
-          (λ y. (λ a. absurd (not-refused (sym (y .0) ∙ a)), λ x. absurd (y .1 (moved-taken F L s t t (keyOf m) .1 x))))
-          (λ y. (λ a. moved-taken F L s t t (keyOf m) .0 (y .1), λ x. ap (λ (r : After S Decoded). r .answer) (y .0)))
-          its-answer
+      six-by : {r : After S Decoded} → Answered F t (F .moved s t) m (decoded-fits message m e) r
+          → r .answer ≡ decode.Refused Full ↔ FullDue F t (F .moved s t) m (decoded-fits message m e)
+      six-by (inl y) = (λ a. absurd (not-refused (sym (y .0) ∙ a)), λ x. absurd (y .1 .0 x))
+      six-by (inr (inl y)) = (λ _. y .1, λ _. ap (λ (r : After S Decoded). r .answer) (y .0))
+      six-by (inr (inr y)) = (
+        λ a. absurd (unlike NoTrack Full (λ e. omega arith) (sym (ap (λ (r : After S Decoded). r .answer) (y .0)) ∙ a)),
+        λ x. absurd (clash (x .0) (y .1 .0)),
+      )
 
-      -- an acceptable message in time is answered with itself or with 6
-      pub key-answer : (call .answer ≡ decode.Message m) ⊎ (call .answer ≡ decode.Refused Full)
-      key-answer = ⊎-elim (λ y. inl (y .0)) (λ y. inr (ap (λ (r : After S Decoded). r .answer) (y .0))) its-answer
+      twelve-by : {r : After S Decoded} → Answered F t (F .moved s t) m (decoded-fits message m e) r
+          → r .answer ≡ decode.Refused NoTrack ↔ NoneDue F t (F .moved s t) m (decoded-fits message m e)
+      twelve-by (inl y) = (λ a. absurd (not-refused (sym (y .0) ∙ a)), λ x. absurd (y .1 .1 x))
+      twelve-by (inr (inl y)) = (
+        λ a. absurd (unlike Full NoTrack (λ e. omega arith) (sym (ap (λ (r : After S Decoded). r .answer) (y .0)) ∙ a)),
+        λ x. absurd (clash (y .1 .0) (x .0)),
+      )
+      twelve-by (inr (inr y)) = (λ _. y .1, λ _. ap (λ (r : After S Decoded). r .answer) (y .0))
 
--- ---- 6, for any table at all
+      -- 6 exactly when the message may start a track, the key is held by no place and every place is held
+      pub full-exactly : call .answer ≡ decode.Refused Full ↔ (starts m ≡ true) × AllTaken F t (keyOf m) s
+      full-exactly = (
+        λ a. let x = six-by its-answer .0 a in (x .0, moved-taken F L s t t (keyOf m) .0 (x .1)),
+        λ x. six-by its-answer .1 (x .0, moved-taken F L s t t (keyOf m) .1 (x .1)),
+      )
 
-not-six : (r : Refusal) → Undecoded r → numberOf r ≡ 6 → ⊥
-not-six r (inl e) f = let n = ap numberOf e in omega arith
-not-six r (inr (inl e)) f = let n = ap numberOf e in omega arith
-not-six r (inr (inr e)) f = let n = ap numberOf e in omega arith
+      -- 12 exactly when it may not, and the key is held by no place
+      pub none-exactly : call .answer ≡ decode.Refused NoTrack ↔ (starts m ≡ false) × Unheld F t (keyOf m) s
+      none-exactly = (
+        λ a. let x = twelve-by its-answer .0 a in (x .0, moved-unheld F L s t t (keyOf m) .0 (x .1)),
+        λ x. twelve-by its-answer .1 (x .0, moved-unheld F L s t t (keyOf m) .1 (x .1)),
+      )
 
-six-is : {r : Refusal} → decode.Refused r ≡ decode.Refused Full → numberOf r ≡ 6
-six-is a = ap numberOf (refused-as a)
+      key-by : {r : After S Decoded} → Answered F t (F .moved s t) m (decoded-fits message m e) r
+          → (r .answer ≡ decode.Message m) ⊎ ((r .answer ≡ decode.Refused Full) ⊎ (r .answer ≡ decode.Refused NoTrack))
+      key-by (inl y) = inl (y .0)
+      key-by (inr (inl y)) = inr (inl (ap (λ (r : After S Decoded). r .answer) (y .0)))
+      key-by (inr (inr y)) = inr (inr (ap (λ (r : After S Decoded). r .answer) (y .0)))
+
+      -- an acceptable message in time is answered with itself, with 6 or with 12
+      pub key-answer : (call .answer ≡ decode.Message m) ⊎ ((call .answer ≡ decode.Refused Full) ⊎ (call .answer ≡ decode.Refused NoTrack))
+      key-answer = key-by its-answer
+
+-- ---- 6 and 12, for any table at all
 
 module _ {S : Type 0} (F : Form S) (L : Lawful F) (s : S) (message : List ℕ) (t : ℕ) where
-  in-time : {x : After S Decoded} → Way F s message t x → x .answer ≡ decode.Refused Full → (length message ≡ 14) × ((F .whole s ≡ true) × (F .clock s ≤ t))
-  in-time (short n) a = let f = six-is a in absurd (omega arith)
-  in-time (uneven l w) a = let f = six-is a in absurd (omega arith)
-  in-time (late l w h) a = let f = six-is a in absurd (omega arith)
-  in-time (timely l w h) a = (l, (w, h))
+  -- each of the two is answered to a message that the decoder takes, in time and to whole places
+  pub record Turned : Type 0 where
+    pub whole : length message ≡ 14
+    pub places : F .whole s ≡ true
+    pub in-time : F .clock s ≤ t
+    pub message-is : (m : Message) × (decoded message ≡ decode.Message m)
 
-  no-room : (d : Decoded) → decoded message ≡ d → length message ≡ 14 → F .whole s ≡ true → F .clock s ≤ t → received F s message t .answer ≡ decode.Refused Full → NoRoom F t s message
+  taken : (q : Refusal) → Unplaced q → (d : Decoded) → decoded message ≡ d → length message ≡ 14 → delivered F (F .moved s t) d t .answer ≡ decode.Refused q
+      → (m : Message) × (decoded message ≡ decode.Message m)
   unfolding delivered
-  no-room (decode.Refused q) e l w h a =
-      let b = ap (λ (x : After S Decoded). x .answer) (received-in-time F s message t l w h ∙ ap (λ (d : Decoded). delivered F (F .moved s t) d t) e) in
-      absurd (not-six q (decoder-refuses message q l e) (six-is (sym b ∙ a)))
-  no-room (decode.Message m) e l w h a = (m, (e, full-exactly F L s message t w h m e .0 a))
+  taken q u (decode.Refused r) e l a = absurd (not-unplaced r (decoder-refuses message r l e) (subst Unplaced (sym (refused-as a)) u))
+  taken q u (decode.Message m) e l a = (m, e)
 
-  -- 6 exactly when a message that the decoder takes comes in time to whole places and finds no room for its key
+  turned : (q : Refusal) → Unplaced q → {x : After S Decoded} → Way F s message t x → x .answer ≡ decode.Refused q → Turned
+  turned q u (short n) a = absurd (not-both Length (inl refl) (inr (subst Unplaced (sym (refused-as a)) u)))
+  turned q u (uneven l w) a = absurd (not-both Places (inr (inl refl)) (inr (subst Unplaced (sym (refused-as a)) u)))
+  turned q u (late l w h) a = absurd (not-both Late (inr (inr refl)) (inr (subst Unplaced (sym (refused-as a)) u)))
+  turned q u (timely l w h) a = record { whole = l; places = w; in-time = h; message-is = taken q u (decoded message) refl l a }
+
+  -- 6 exactly when a message that the decoder takes, and that may start a track, comes in time to whole places and finds no room for its key
   pub six-exactly : received F s message t .answer ≡ decode.Refused Full
       ↔ (length message ≡ 14) × ((F .whole s ≡ true) × ((F .clock s ≤ t) × NoRoom F t s message))
   six-exactly = (
-    λ a. let p = in-time (way F s message t) a in (p .0, (p .1 .0, (p .1 .1, no-room (decoded message) refl (p .0) (p .1 .0) (p .1 .1) a))),
+    λ a.
+        let p = turned Full (inl refl) (way F s message t) a in
+        let m = p .message-is in
+        (p .whole, (p .places, (p .in-time, (m .0, (m .1, full-exactly F L s message t (p .places) (p .in-time) (m .0) (m .1) .0 a))))),
     λ p. full-exactly F L s message t (p .1 .0) (p .1 .1 .0) (p .1 .1 .1 .0) (p .1 .1 .1 .1 .0) .1 (p .1 .1 .1 .1 .1),
+  )
+
+  -- 12 exactly when one that may not comes so, and no place holds its key
+  pub twelve-exactly : received F s message t .answer ≡ decode.Refused NoTrack
+      ↔ (length message ≡ 14) × ((F .whole s ≡ true) × ((F .clock s ≤ t) × NoneToStep F t s message))
+  twelve-exactly = (
+    λ a.
+        let p = turned NoTrack (inr refl) (way F s message t) a in
+        let m = p .message-is in
+        (p .whole, (p .places, (p .in-time, (m .0, (m .1, none-exactly F L s message t (p .places) (p .in-time) (m .0) (m .1) .0 a))))),
+    λ p. none-exactly F L s message t (p .1 .0) (p .1 .1 .0) (p .1 .1 .1 .0) (p .1 .1 .1 .1 .0) .1 (p .1 .1 .1 .1 .1),
   )
 
 -- ---- what look_up answers is the view

@@ -13,7 +13,7 @@ use Rattle.track.specs.declared.Track.{Track}
 use Rattle.place.specs.Place.{Fits}
 use Rattle.keys.specs.Keys.{isKey}
 use Rattle.rules.specs.Form.{Cell, taken, inDate, isHeld, holds, Form, Lawful}
-use Rattle.rules.specs.View.{look, trackIn, viewAt, laterAt, Once, AllFit, AllTaken}
+use Rattle.rules.specs.View.{look, trackIn, viewAt, laterAt, Once, AllFit, Unheld, AllTaken}
 use Rattle.rules.proofs.Search.{clash, alike, keep, once-same, look-same, once-only, look-only, once-aged, look-aged}
 
 -- each key is held at most once at a clock
@@ -63,8 +63,11 @@ module _ {S : Type 0} (F : Form S) (s : S) (c t : ℕ) (single : Single F c s) (
 
 -- ---- the clock moves
 
+abbrev None : ℕ → ℕ → (ℕ → Cell) → ℕ → Type 0
+None c k f n = (i : ℕ) → i < n → holds c k (f i) ≡ false
+
 abbrev Taken : ℕ → ℕ → (ℕ → Cell) → ℕ → Type 0
-Taken c k f n = ((i : ℕ) → i < n → holds c k (f i) ≡ false) × ((i : ℕ) → i < n → isHeld c (f i) ≡ true)
+Taken c k f n = None c k f n × ((i : ℕ) → i < n → isHeld c (f i) ≡ true)
 
 module _ {S : Type 0} (F : Form S) (L : Lawful F) (s : S) (t : ℕ) where
   moved-places : F .cell (F .moved s t) ≡ F .cell s
@@ -81,6 +84,9 @@ module _ {S : Type 0} (F : Form S) (L : Lawful F) (s : S) (t : ℕ) where
   pub moved-view : (c k : ℕ) → viewAt F c (F .moved s t) k ≡ viewAt F c s k
   unfolding viewAt
   moved-view c k = as-moved (λ (f : ℕ → Cell) (n : ℕ). trackIn (look (holds c k) f n) ≡ trackIn (look (holds c k) (F .cell s) (F .count s))) refl
+
+  pub moved-unheld : (c k : ℕ) → Unheld F c k (F .moved s t) ↔ Unheld F c k s
+  moved-unheld c k = (as-before (None c k), as-moved (None c k))
 
   pub moved-taken : (c k : ℕ) → AllTaken F c k (F .moved s t) ↔ AllTaken F c k s
   moved-taken c k = (

@@ -4,14 +4,14 @@ use Prim.Native.Nat.{ℕ, _/_, _^_, _≤_, _<_}
 use native.Mathlib.Nat.{mod-lt}
 use native.Mathlib.Omega.{arith}
 use mathlib.Core.Bool.{Bool, true, false, not, false≢true}
-use mathlib.Core.Logic.{_⊎_, inl, inr}
+use mathlib.Core.Logic.{inl, inr}
 use mathlib.Core.Path.{_≡_, refl, ap, sym, _∙_, subst}
 use mathlib.Core.List.{List}
 use lib.Dec.{eqb, ltb, lit<}
 use lib.ListN.{length}
 use borrow.Author.Tests.{ltb-true, ltb-false, le-ltb, eqb-true, eqb-false, eq-eqb, not-true, not-false}
 use Rattle.refusals.specs.declared.Refusal.{Refusal}
-use Rattle.refusals.specs.declared.Refusal.the-variants.{Length, Late, TypeCode, Full, Places}
+use Rattle.refusals.specs.declared.Refusal.the-variants.{Length, Late, TypeCode, Places}
 use Rattle.refusals.specs.Numbers.{numberOf}
 use Rattle.fields.specs.Bytes.{number as numeral}
 use Rattle.fields.proofs.Bools.{by-test}
@@ -28,7 +28,7 @@ use Rattle.messages.specs.declared.Decoded.the-variants as decode
 use Rattle.messages.specs.Message.{bits, formatTaken, withBody, opened, decoded}
 use Rattle.rules.specs.Form.{Form}
 use Rattle.rules.specs.Rules.{After, after, delivered, received}
-use Rattle.rules.specs.View.{Early, Undecoded}
+use Rattle.rules.specs.View.{Early, Undecoded, Unplaced, Later}
 
 -- ---- answers apart
 
@@ -46,17 +46,26 @@ reason (decode.Refused r) = r
 pub refused-as : {q r : Refusal} → decode.Refused q ≡ decode.Refused r → q ≡ r
 refused-as e = ap reason e
 
--- 1, 7 and 2 are none of 3, 4, 5 and 6
-later-number : (r : Refusal) → Undecoded r ⊎ (r ≡ Full) → (3 ≤ numberOf r) × (numberOf r ≤ 6)
-later-number r (inl (inl e)) = let n = ap numberOf e in (omega arith, omega arith)
-later-number r (inl (inr (inl e))) = let n = ap numberOf e in (omega arith, omega arith)
-later-number r (inl (inr (inr e))) = let n = ap numberOf e in (omega arith, omega arith)
-later-number r (inr e) = let n = ap numberOf e in (omega arith, omega arith)
+-- 3, 4 and 5 are none of 6 and 12
+decoder-number : (r : Refusal) → Undecoded r → (3 ≤ numberOf r) × (numberOf r ≤ 5)
+decoder-number r (inl e) = let n = ap numberOf e in (omega arith, omega arith)
+decoder-number r (inr (inl e)) = let n = ap numberOf e in (omega arith, omega arith)
+decoder-number r (inr (inr e)) = let n = ap numberOf e in (omega arith, omega arith)
 
-pub not-both : (r : Refusal) → Early r → Undecoded r ⊎ (r ≡ Full) → ⊥
-not-both r (inl e) h = let n = ap numberOf e in omega (arith, later-number r h)
-not-both r (inr (inl e)) h = let n = ap numberOf e in omega (arith, later-number r h)
-not-both r (inr (inr e)) h = let n = ap numberOf e in omega (arith, later-number r h)
+pub not-unplaced : (r : Refusal) → Undecoded r → Unplaced r → ⊥
+not-unplaced r h (inl e) = let n = ap numberOf e in omega (arith, decoder-number r h)
+not-unplaced r h (inr e) = let n = ap numberOf e in omega (arith, decoder-number r h)
+
+-- 1, 7 and 2 are none of 3, 4, 5, 6 and 12
+later-number : (r : Refusal) → Later r → (numberOf r ≡ 7 → ⊥) × (3 ≤ numberOf r)
+later-number r (inl h) = ((λ n. omega (arith, decoder-number r h)), decoder-number r h .0)
+later-number r (inr (inl e)) = let n = ap numberOf e in ((λ m. omega arith), omega arith)
+later-number r (inr (inr e)) = let n = ap numberOf e in ((λ m. omega arith), omega arith)
+
+pub not-both : (r : Refusal) → Early r → Later r → ⊥
+not-both r (inl e) h = let n = ap numberOf e in omega (arith, later-number r h .1)
+not-both r (inr (inl e)) h = later-number r h .0 (ap numberOf e)
+not-both r (inr (inr e)) h = let n = ap numberOf e in omega (arith, later-number r h .1)
 
 -- ---- the decoder
 

@@ -1,14 +1,15 @@
 -- The rules of the lent table, over any form: set-up, what a received message does, and what can be read.
 use Prim.Native.Nat.{ℕ}
-use mathlib.Core.Bool.{cond, not, _&&_}
+use mathlib.Core.Bool.{Bool, cond, not, _&&_}
 use mathlib.Core.List.{List}
 use lib.Dec.{eqb, ltb}
 use lib.ListN.{length}
-use Rattle.refusals.specs.declared.Refusal.the-variants.{Length, Late, Full, Places, Field}
+use Rattle.refusals.specs.declared.Refusal.{Refusal}
+use Rattle.refusals.specs.declared.Refusal.the-variants.{Length, Late, Full, Places, Field, NoTrack}
 use Rattle.positions.specs.Positions.{poleToPole}
 use Rattle.messages.specs.declared.Decoded.{Decoded}
 use Rattle.messages.specs.declared.Decoded.the-variants as decode
-use Rattle.messages.specs.Message.{decoded, keyOf}
+use Rattle.messages.specs.Message.{decoded, keyOf, starts}
 use Rattle.whereabouts.specs.declared.Site.{Site}
 use Rattle.track.specs.declared.Stepped.{Stepped}
 use Rattle.track.specs.Track.{newTrack, stepped}
@@ -54,17 +55,21 @@ freePlace F s clock = lowest (λ i. not (isHeld clock (F .cell s i))) (F .count 
 abbrev pub placed : {S : Type 0} → Form S → S → ℕ → ℕ → Stepped → After S Decoded
 placed F s i key t = after (t .answer) (F .stored s i key (t .track))
 
--- the decoder's answer reaches a table whose clock has moved: a message starts or updates its key's track, and a new one takes the lowest free place; 6 if there is none
+-- a message whose key is not held, and that gets no place: 6 if it may start a track, else 12
+abbrev pub turnedAway : Bool → Refusal
+turnedAway starts = cond starts Full NoTrack
+
+-- the decoder's answer reaches a table whose clock has moved: a message updates its key's track, or starts it if it may, and a new one takes the lowest free place; else 6 or 12
 unfoldable pub delivered : {S : Type 0} → Form S → S → Decoded → ℕ → After S Decoded
 delivered F s (decode.Refused r) time = after (decode.Refused r) s
 delivered F s (decode.Message m) time =
     cond (ltb (placeOf F s time (keyOf m)) (F .count s))
     (placed F s (placeOf F s time (keyOf m)) (keyOf m) (stepped (F .cell s (placeOf F s time (keyOf m)) .track) (decode.Message m) (F .site s) time))
-    (cond (ltb (freePlace F s time) (F .count s))
+    (cond (starts m && ltb (freePlace F s time) (F .count s))
     (placed F s (freePlace F s time) (keyOf m) (stepped newTrack (decode.Message m) (F .site s) time))
-    (after (decode.Refused Full) s))
+    (after (decode.Refused (turnedAway (starts m))) s))
 
--- 1, 7 and 2 change nothing; then the clock takes the time, and what the decoder says is delivered: 3, 4, 5 and 6 leave the clock moved
+-- 1, 7 and 2 change nothing; then the clock takes the time, and what the decoder says is delivered: 3, 4, 5, 6 and 12 leave the clock moved
 unfoldable pub received : {S : Type 0} → Form S → S → List ℕ → ℕ → After S Decoded
 received F s message time =
     cond (not (eqb (length message) 14)) (after (decode.Refused Length) s)

@@ -11,7 +11,7 @@ use Rattle.positions.specs.declared.Spot.{Spot}
 use Rattle.positions.specs.Positions.{poleToPole}
 use Rattle.layouts.specs.Said.{Values}
 use Rattle.messages.specs.Message.{bits, kindOf}
-use Rattle.messages.specs.Said.{earns1, earns3, earns4, earns5, valuesIn}
+use Rattle.messages.specs.Said.{earns1, earns3, earns4, earns5, startsIn, valuesIn}
 use Rattle.whereabouts.specs.declared.Site.{Site}
 use Rattle.track.specs.declared.Track.{Track}
 use Rattle.rules.specs.declared.answers.Heard.{Heard}
@@ -103,9 +103,13 @@ keyHeld F s time k = ltb (placeOf F s time k) (F .count s)
 abbrev pub placeFree : {S : Type 0} → Form S → S → ℕ → Bool
 placeFree F s time = ltb (freePlace F s time) (F .count s)
 
--- 6: key not held and no place free
+-- 6: a message that may start a track, key not held and no place free
 abbrev pub earns6 : {S : Type 0} → Form S → S → List ℕ → ℕ → Bool
-earns6 F s m time = not (keyHeld F s time (keyIn m)) && not (placeFree F s time)
+earns6 F s m time = not (keyHeld F s time (keyIn m)) && (startsIn m && not (placeFree F s time))
+
+-- 12, in its place: one that may not, key not held
+abbrev pub earns12 : {S : Type 0} → Form S → S → List ℕ → ℕ → Bool
+earns12 F s m time = not (keyHeld F s time (keyIn m)) && not (startsIn m)
 
 -- 7: a table of 0 or more than 1,024 places, or not of whole places
 abbrev pub earns7 : {S : Type 0} → Form S → S → Bool
@@ -119,7 +123,7 @@ earns8 o = o .known && not (poleToPole (o .spot .latitude))
 abbrev pub setUpTable : {S : Type 0} → Form S → S → Site → Said Unit
 setUpTable F s o = cond (earns7 F s) (number 7) (cond (earns8 o) (number 8) done)
 
--- for a received message the order is 1, 7, 2, 3, 4, 5, 6; else the values. `receive` answers with the decoder's type, so what it says is `said` of messages
+-- for a received message the order is 1, 7, 2, 3, 4, 5, then 6 or 12; else the values. `receive` answers with the decoder's type, so what it says is `said` of messages
 abbrev pub receiveTable : {S : Type 0} → Form S → S → List ℕ → ℕ → Said Values
 receiveTable F s m time =
     cond (earns1 m) (number 1)
@@ -129,4 +133,5 @@ receiveTable F s m time =
     (cond (earns4 m) (number 4)
     (cond (earns5 m) (number 5)
     (cond (earns6 F s m time) (number 6)
-    (gives (valuesIn m))))))))
+    (cond (earns12 F s m time) (number 12)
+    (gives (valuesIn m)))))))))

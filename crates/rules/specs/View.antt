@@ -7,13 +7,15 @@ use mathlib.Core.Path.{_≡_}
 use mathlib.Core.List.{List}
 use lib.Dec.{ltb}
 use Rattle.refusals.specs.declared.Refusal.{Refusal}
-use Rattle.refusals.specs.declared.Refusal.the-variants.{Length, Late, Parity, Format, TypeCode, Places}
+use Rattle.refusals.specs.declared.Refusal.the-variants.{Length, Late, Parity, Format, TypeCode, Full, Places, NoTrack}
+use Rattle.layouts.specs.Bodies.{bodyMe}
 use Rattle.messages.specs.declared.Message.{Message}
+use Rattle.messages.specs.declared.Decoded.{Decoded}
 use Rattle.messages.specs.declared.Decoded.the-variants as decode
-use Rattle.messages.specs.Message.{decoded, keyOf}
+use Rattle.messages.specs.Message.{decoded, keyOf, starts}
 use Rattle.whereabouts.specs.declared.Site.{Site}
 use Rattle.track.specs.declared.Track.{Track}
-use Rattle.track.specs.Track.{newTrack}
+use Rattle.track.specs.Track.{newTrack, stepBody}
 use Rattle.place.specs.Place.{Fits}
 use Rattle.rules.specs.declared.answers.Holding.the-variants as holding
 use Rattle.rules.specs.declared.answers.Looked.{Looked}
@@ -42,10 +44,19 @@ abbrev pub laterAt : ℕ → Option Track → Option Track
 laterAt clock none = none
 laterAt clock (some t) = cond (inDate clock t) (some t) none
 
--- the track that a message steps: the one held, or a new one
-abbrev pub orNew : Option Track → Track
-orNew none = newTrack
-orNew (some t) = t
+-- the track that a message finds: the one held, or a new one if it may start one
+abbrev pub found : Message → Option Track → Option Track
+found m none = cond (starts m) (some newTrack) none
+found m (some t) = some t
+
+-- what becomes of it, and what is answered: it is stepped, and where there is none it is 12
+abbrev pub steppedFrom : Message → Site → ℕ → Option Track → Option Track
+steppedFrom m site time none = none
+steppedFrom m site time (some t) = some (stepBody t (m .body) (bodyMe (m .body)) site time)
+
+abbrev pub answeredFrom : Message → Option Track → Decoded
+answeredFrom m none = decode.Refused NoTrack
+answeredFrom m (some t) = decode.Message m
 
 -- at most one of n things passes the test
 abbrev pub Once : {C : Type 0} → (C → Bool) → (ℕ → C) → ℕ → Type 0
@@ -68,9 +79,13 @@ pub record Fresh {S : Type 0} (F : Form S) (site : Site) (s : S) : Type 0 where
   pub sited : F .site s ≡ site
   pub unheld : (key : ℕ) → view F s key ≡ none
 
--- no place holds the key at the clock, and each holds a track in date
+-- no place holds the key at the clock
+abbrev pub Unheld : {S : Type 0} → Form S → ℕ → ℕ → S → Type 0
+Unheld F clock key s = (i : ℕ) → i < F .count s → holds clock key (F .cell s i) ≡ false
+
+-- .. and each holds a track in date
 pub record AllTaken {S : Type 0} (F : Form S) (clock key : ℕ) (s : S) : Type 0 where
-  pub unheld : (i : ℕ) → i < F .count s → holds clock key (F .cell s i) ≡ false
+  pub unheld : Unheld F clock key s
   pub taken : (i : ℕ) → i < F .count s → isHeld clock (F .cell s i) ≡ true
 
 -- 1, 7 and 2, which come before the clock moves
@@ -81,9 +96,21 @@ Early r = (r ≡ Length) ⊎ ((r ≡ Places) ⊎ (r ≡ Late))
 abbrev pub Undecoded : Refusal → Type 0
 Undecoded r = (r ≡ Parity) ⊎ ((r ≡ Format) ⊎ (r ≡ TypeCode))
 
--- a message that the decoder takes, and no room for its key
+-- 6 and 12, of a message that the decoder takes and that gets no place
+abbrev pub Unplaced : Refusal → Type 0
+Unplaced r = (r ≡ Full) ⊎ (r ≡ NoTrack)
+
+-- all of these, which come after the clock has moved
+abbrev pub Later : Refusal → Type 0
+Later r = Undecoded r ⊎ Unplaced r
+
+-- a message that the decoder takes, and that may start a track, and no room for its key
 abbrev pub NoRoom : {S : Type 0} → Form S → ℕ → S → List ℕ → Type 0
-NoRoom F time s message = (m : Message) × ((decoded message ≡ decode.Message m) × AllTaken F time (keyOf m) s)
+NoRoom F time s message = (m : Message) × ((decoded message ≡ decode.Message m) × ((starts m ≡ true) × AllTaken F time (keyOf m) s))
+
+-- one that may not, and no track of its key
+abbrev pub NoneToStep : {S : Type 0} → Form S → ℕ → S → List ℕ → Type 0
+NoneToStep F time s message = (m : Message) × ((decoded message ≡ decode.Message m) × ((starts m ≡ false) × Unheld F time (keyOf m) s))
 
 -- what a look at a view answers
 abbrev pub lookedAs : Option Track → Looked

@@ -4,6 +4,7 @@ use track::Track;
 use whereabouts::Site;
 ghost use mathlib.Core.Path.{_≡_};
 ghost use Rattle.rules.specs.Keys.{keyOrEnd};
+ghost use Rattle.rules.specs.Rules.{turnedAway};
 
 pub enum SetUp {
     Done,
@@ -52,5 +53,16 @@ pub fn key_or_end(key: u32) -> NextKey
         NextKey::End
     } else {
         NextKey::Key(key)
+    }
+}
+
+// What a message earns whose key is not held and that gets no place: one that starts a track finds the table full.
+pub fn turned_away(starts: bool) -> Refusal
+    ensures { λ r. ⌜ r ≡ turnedAway starts ⌝ }
+{
+    if starts {
+        Refusal::Full
+    } else {
+        Refusal::NoTrack
     }
 }

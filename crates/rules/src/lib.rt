@@ -9,3 +9,4 @@ pub use answers::NextKey;
 pub use answers::SetUp;
 pub use answers::Sited;
 pub use answers::key_or_end;
+pub use answers::turned_away;

@@ -42,8 +42,8 @@ use Rattle.slice_places.proofs.arrivals.place_in.Kinds as place-in-kind
 use Rattle.slice_places.proofs.arrivals.place_in.Reads as place-in
 use Rattle.slice_places.proofs.arrivals.received_in.Kinds as received-in-kinds
 use Rattle.slice_places.proofs.arrivals.received_in.Reads as received-in
-use Rattle.slice_places.proofs.arrivals.full.Kinds as full-kinds
-use Rattle.slice_places.proofs.arrivals.full.Reads as full
+use Rattle.slice_places.proofs.arrivals.turned_away.Kinds as turned-away-kinds
+use Rattle.slice_places.proofs.arrivals.turned_away.Reads as turned-away
 
 pub is-held-once : OneAnswer 0 is-held-kinds.ps is-held-kinds.r is-held.Post
 is-held-once κs args x y left left′ p q = p ∙ sym q
@@ -105,5 +105,5 @@ place-in-once κs args x y left left′ p q = p ∙ sym q
 pub received-in-once : OneAnswer 0 received-in-kinds.ps received-in-kinds.r received-in.Post
 received-in-once κs args x y left left′ p q = p ∙ sym q
 
-pub full-once : OneAnswer 0 full-kinds.ps full-kinds.r full.Post
-full-once κs args x y left left′ p q = p ∙ sym q
+pub turned-away-once : OneAnswer 0 turned-away-kinds.ps turned-away-kinds.r turned-away.Post
+turned-away-once κs args x y left left′ p q = p ∙ sym q

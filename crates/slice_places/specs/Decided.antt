@@ -18,9 +18,9 @@ use Rattle.slice_places.specs.declared.Sought.{Sought}
 use Rattle.slice_places.specs.Ranges.{isHeld}
 use Rattle.slice_places.specs.Head.{placesFit, headOf}
 
--- a key, sought at a clock
+-- a key, sought at a clock, and no free place
 abbrev pub sought : ℕ → ℕ → Sought
-sought clock key = record { clock = clock; key = key }
+sought clock key = record { clock = clock; key = key; starts = false }
 
 -- ---- set-up
 

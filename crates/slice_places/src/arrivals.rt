@@ -6,8 +6,7 @@ use messages::Decoded;
 use refusals::Refusal;
 use track::Track;
 ghost use mathlib.Core.Path.{_≡_};
-ghost use Rattle.refusals.specs.declared.Refusal.the-variants.{Full};
-ghost use Rattle.slice_places.specs.Arrivals.{refusedWith, judged, isRefused, keyIn, soughtBy, trackIn, nextOf};
+ghost use Rattle.slice_places.specs.Arrivals.{refusedWith, judged, isRefused, keyIn, startsIn, soughtBy, trackIn, nextOf, turnedAwayBy};
 
 // What a message earned, and the head to go on with.
 pub struct Received {
@@ -62,6 +61,15 @@ fn key_in(answer: Decoded) -> u32
     messages::key_of(m)
 }
 
+fn starts_in(answer: Decoded) -> bool
+    ensures { λ r. ⌜ r ≡ startsIn answer ⌝ }
+{
+    let Decoded::Message(m) = answer else {
+        return false;
+    };
+    messages::starts(m)
+}
+
 pub fn is_refused(due: Received) -> bool
     ensures { λ r. ⌜ r ≡ isRefused (due .answer) ⌝ }
 {
@@ -77,7 +85,11 @@ pub fn sought_by(due: Received) -> Sought
 {
     let head = due.head;
     let answer = due.answer;
-    crate::seek(head, key_in(answer))
+    Sought {
+        clock: head.clock,
+        key: key_in(answer),
+        starts: starts_in(answer),
+    }
 }
 
 fn track_in(s: Sought, p: Place) -> Track
@@ -127,9 +139,11 @@ pub fn received_in(next: Renewal) -> Received
     received
 }
 
-pub fn full(due: Received) -> Received
-    ensures { λ r. ⌜ r ≡ refusedWith Full (due .head) ⌝ }
+// What is due where no place was chosen: 6, or 12.
+pub fn turned_away(due: Received) -> Received
+    ensures { λ r. ⌜ r ≡ turnedAwayBy due ⌝ }
 {
     let head = due.head;
-    refused_with(Refusal::Full, head)
+    let answer = due.answer;
+    refused_with(rules::turned_away(starts_in(answer)), head)
 }

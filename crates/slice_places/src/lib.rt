@@ -14,13 +14,13 @@ mod ranges;
 
 pub use arrivals::Received;
 pub use arrivals::Renewal;
-pub use arrivals::full;
 pub use arrivals::is_refused;
 pub use arrivals::judge;
 pub use arrivals::next_of;
 pub use arrivals::place_in;
 pub use arrivals::received_in;
 pub use arrivals::sought_by;
+pub use arrivals::turned_away;
 pub use ranges::has_key;
 pub use ranges::is_held;
 use refusals::Refusal;
@@ -58,10 +58,11 @@ pub struct Started {
     pub head: Head,
 }
 
-// A key, sought at a clock.
+// A key, sought at a clock, and whether a free place is wanted too.
 pub struct Sought {
     pub clock: u64,
     pub key: u32,
+    pub starts: bool,
 }
 
 pub fn no_place() -> Place
@@ -103,6 +104,7 @@ pub fn seek(head: Head, key: u32) -> Sought
     Sought {
         clock: head.clock,
         key: key,
+        starts: false,
     }
 }
 

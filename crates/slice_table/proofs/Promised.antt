@@ -52,7 +52,7 @@ module _ {M : Type 1} (𝓤 : URA M) (H : Heap 𝓤) (A : Atoms 𝓤) (mem : Mem
   set-up-kept κs a g x left r e =
       so-too 𝓤 _ _ (λ p. ap (λ (y : After SetUp). y .table) p ∙ set-up-unchanged slice (sliceOf (a .1 .0) (now (a .0))) (a .1 .1 .0) r (sym (ap (λ (y : After SetUp). y .answer) p) ∙ e))
 
-  -- a received message: 1, 7, 2, 3, 4, 5, 6, or its fields
+  -- a received message: 1, 7, 2, 3, 4, 5, 6 or 12, or its fields
   pub receive-promised : Promised 𝓤 receive.ended (receive.clauses 𝓤 H A mem run)
       (λ κs a x. said (x .answer) ≡ receiveTable slice (sliceOf (a .1 .0) (now (a .0))) (now (a .1 .1 .0)) (a .1 .1 .1 .0))
   receive-promised κs a g x left =

@@ -1,6 +1,6 @@
--- The scan of the places: the lowest one held with a key, and the lowest free one.
+-- The scan of the places: the lowest one held with a key, and the lowest free one, which is sought only for a message that starts a track.
 use Prim.Native.Nat.{ℕ, suc}
-use mathlib.Core.Bool.{Bool, cond, not}
+use mathlib.Core.Bool.{Bool, cond, not, _&&_}
 use mathlib.Core.List.{List}
 use lib.Dec.{ltb}
 use lib.ListN.{getD}
@@ -21,7 +21,7 @@ unfoldable pub visited : Found → Place → ℕ → Sought → Found
 visited found p i s =
     record {
       own = further (found .own) i (holds (s .clock) (s .key) p);
-      free = further (found .free) i (not (isHeld (s .clock) p));
+      free = further (found .free) i (s .starts && not (isHeld (s .clock) p));
     }
 
 -- the lowest of the first n places held with the key, and the lowest free one
@@ -29,7 +29,7 @@ unfoldable pub scanned : List Place → Sought → ℕ → Found
 scanned ps s n =
     record {
       own = lowest (λ i. holds (s .clock) (s .key) (getD ps i noPlace)) n;
-      free = lowest (λ i. not (isHeld (s .clock) (getD ps i noPlace))) n;
+      free = lowest (λ i. s .starts && not (isHeld (s .clock) (getD ps i noPlace))) n;
     }
 
 -- of n places the key's, or else a free one

@@ -72,7 +72,7 @@ fn deliver(places: &mut [Place], due: Received) -> Received
         places[i] = slice_places::place_in(next);
         return slice_places::received_in(next);
     }
-    slice_places::full(due)
+    slice_places::turned_away(due)
 }
 
 // What a message received at a time does to the table: the decoded message, or the number that it earns.

@@ -36,7 +36,7 @@ pub(crate) fn visit(found: Found, p: Place, i: usize, s: Sought) -> Found
 {
     Found {
         own: farther(found.own, i, slice_places::has_key(s.clock, s.key, p)),
-        free: farther(found.free, i, !slice_places::is_held(s.clock, p)),
+        free: farther(found.free, i, s.starts & !slice_places::is_held(s.clock, p)),
     }
 }
 

@@ -1,21 +1,20 @@
 -- What each way through the functions that answer gives: the tests on the way are those of the definition.
 -- Assumes nothing.
 use Prim.Native.Nat.{ℕ, _+_, _%_, _≤_, _<_}
-use native.Mathlib.Omega.{arith}
-use mathlib.Core.Bool.{Bool, true, false, cond, not}
+use mathlib.Core.Bool.{Bool, true, false, cond, not, _&&_, _||_, true≢false}
 use mathlib.Core.Path.{_≡_, refl, ap, sym, _∙_, subst}
 use mathlib.Core.List.{List, _++_}
 use lib.Dec.{ltb}
 use lib.ListN.{length}
-use borrow.Author.Tests.{lt-ltb, le-ltb, ltb-true, eq-eqb, ne-eqb}
+use borrow.Author.Tests.{lt-ltb, le-ltb, eq-eqb, ne-eqb}
 use Rattle.refusals.specs.declared.Refusal.{Refusal}
-use Rattle.refusals.specs.declared.Refusal.the-variants.{Length, Late, Full, Places, Field}
+use Rattle.refusals.specs.declared.Refusal.the-variants.{Length, Late, Places, Field}
 use Rattle.positions.specs.declared.Spot.{Spot}
 use Rattle.positions.specs.Positions.{poleToPole}
 use Rattle.messages.specs.declared.Decoded.{Decoded}
 use Rattle.messages.specs.declared.Decoded.the-variants as decode
 use Rattle.messages.specs.declared.Message.{Message}
-use Rattle.messages.specs.Message.{decoded, keyOf}
+use Rattle.messages.specs.Message.{decoded, keyOf, starts}
 use Rattle.whereabouts.specs.declared.Site.{Site}
 use Rattle.track.specs.declared.Track.{Track}
 use Rattle.track.specs.declared.Stepped.{Stepped}
@@ -49,46 +48,51 @@ module _ (s : List ℕ) (time : ℕ) where
   unfolding rules.delivered
   deliver-refused r e = rw e
 
-  module _ {a : Decoded} {m : Message} (a-is : a ≡ decode.Message m) {k n : ℕ} (k-is : k ≡ keyOf m) (n-is : n ≡ placesIn s) {g : Target} (g-is : g ≡ targetOf (placeAt s n) n time k) where
+  module _ {a : Decoded} {m : Message} (a-is : a ≡ decode.Message m) {k n : ℕ} (k-is : k ≡ keyOf m) (n-is : n ≡ placesIn s) {b : Bool} (b-is : b ≡ starts m)
+      {g : Target} (g-is : g ≡ targetOf (placeAt s n) n time k) where
     abbrev step-from : Track → ℕ → After Decoded
     step-from t i = placed s n i k (stepped t (decode.Message m) (siteOf s) time)
 
+    abbrev turned-away : After Decoded
+    turned-away = after (decode.Refused (rules.turnedAway b)) s
+
     abbrev aim : ℕ → ℕ → Bool → Target
-    aim i j b = cond b (record { held = true; at = i }) (record { held = false; at = j })
+    aim i j own = cond own (record { held = true; at = i }) (record { held = false; at = j })
 
     abbrev outcome : ℕ → ℕ → Bool → After Decoded
-    outcome i j b = cond b (step-from (trackOf (bodyAt s n i)) i) (cond (ltb j n) (step-from newTrack j) (after (decode.Refused Full) s))
+    outcome i j own = cond own (step-from (trackOf (bodyAt s n i)) i) (cond (b && ltb j n) (step-from newTrack j) turned-away)
+
+    -- the place is the key's, or one for a message that may start a track; and it is one
+    abbrev fit : Target → Bool
+    fit w = (w .held || b) && ltb (w .at) n
 
     abbrev start : Target → Track
     start g = cond (g .held) (trackOf (bodyAt s n (g .at))) newTrack
 
-    on-by : (i j : ℕ) (b : Bool) → ltb i n ≡ b → g ≡ aim i j b → g .at < n → step-from (start g) (g .at) ≡ outcome i j b
-    on-by i j true e f h = ap (λ (w : Target). step-from (start w) (w .at)) f
-    on-by i j false e f h =
-        let l : j < n = subst (λ (w : Target). w .at < n) f h in
+    on-by : (i j : ℕ) (own : Bool) → g ≡ aim i j own → fit g ≡ true → step-from (start g) (g .at) ≡ outcome i j own
+    on-by i j true f h = ap (λ (w : Target). step-from (start w) (w .at)) f
+    on-by i j false f h =
         ap (λ (w : Target). step-from (start w) (w .at)) f
-        ∙ sym (ap (λ (c : Bool). cond c (step-from newTrack j) (after (decode.Refused Full) s)) (lt-ltb j n l))
+        ∙ sym (ap (λ (c : Bool). cond c (step-from newTrack j) turned-away) (subst (λ (w : Target). fit w ≡ true) f h))
 
-    pub deliver-on : {x : Decoded} {l : List ℕ} {t : Track} → g .at < n → t ≡ start g → after x l ≡ step-from t (g .at) → after x l ≡ delivered s a time
+    pub deliver-on : {x : Decoded} {l : List ℕ} {t : Track} → fit g ≡ true → t ≡ start g → after x l ≡ step-from t (g .at) → after x l ≡ delivered s a time
     unfolding rules.delivered rules.placeOf rules.freePlace
     deliver-on h t-is d =
         d
         ∙ ap (λ (u : Track). step-from u (g .at)) t-is
-        ∙ on-by (lowest (λ j. holds time k (placeAt s n j)) n) (lowest (λ j. not (isHeld time (placeAt s n j))) n) _ refl g-is h
-        ∙ rw (a-is, ← k-is, ← n-is)
+        ∙ on-by (lowest (λ j. holds time k (placeAt s n j)) n) (lowest (λ j. not (isHeld time (placeAt s n j))) n) (ltb (lowest (λ j. holds time k (placeAt s n j)) n) n) g-is h
+        ∙ rw (a-is, ← k-is, ← n-is, ← b-is)
 
-    full-by : (i j : ℕ) (b : Bool) → ltb i n ≡ b → g ≡ aim i j b → n ≤ g .at → after (decode.Refused Full) s ≡ outcome i j b
-    full-by i j true e f h =
-        let l : n ≤ i = subst (λ (w : Target). n ≤ w .at) f h in
-        absurd (omega (arith, ltb-true i n e))
-    full-by i j false e f h =
-        let l : n ≤ j = subst (λ (w : Target). n ≤ w .at) f h in
-        sym (ap (λ (c : Bool). cond c (step-from newTrack j) (after (decode.Refused Full) s)) (le-ltb j n l))
+    turned-by : (i j : ℕ) (own : Bool) → ltb i n ≡ own → g ≡ aim i j own → fit g ≡ false → turned-away ≡ outcome i j own
+    turned-by i j true e f h = absurd (true≢false (sym e ∙ subst (λ (w : Target). fit w ≡ false) f h))
+    turned-by i j false e f h = sym (ap (λ (c : Bool). cond c (step-from newTrack j) turned-away) (subst (λ (w : Target). fit w ≡ false) f h))
 
-    pub deliver-full : n ≤ g .at → after (decode.Refused Full) s ≡ delivered s a time
+    pub deliver-none : fit g ≡ false → {r : Refusal} → r ≡ rules.turnedAway b → after (decode.Refused r) s ≡ delivered s a time
     unfolding rules.delivered rules.placeOf rules.freePlace
-    deliver-full h =
-        full-by (lowest (λ j. holds time k (placeAt s n j)) n) (lowest (λ j. not (isHeld time (placeAt s n j))) n) _ refl g-is h ∙ rw (a-is, ← k-is, ← n-is)
+    deliver-none h r-is =
+        ap (λ (r : Refusal). after (decode.Refused r) s) r-is
+        ∙ turned-by (lowest (λ j. holds time k (placeAt s n j)) n) (lowest (λ j. not (isHeld time (placeAt s n j))) n) _ refl g-is h
+        ∙ rw (a-is, ← k-is, ← n-is, ← b-is)
 
 -- ---- a message is received
 

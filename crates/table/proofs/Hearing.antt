@@ -2,19 +2,19 @@
 -- Assumes nothing.
 use Prim.Native.Nat.{ℕ}
 use mathlib.Core.Path.{_≡_, refl, ap, ap₂, sym, _∙_}
-use mathlib.Core.Bool.{Bool, true, false, cond, not}
+use mathlib.Core.Bool.{Bool, true, false, cond, not, _&&_}
 use mathlib.Core.List.{List}
 use native.Mathlib.Omega.{arith}
 use lib.Dec.{eqb, ltb}
 use lib.ListN.{length}
 use Rattle.refusals.specs.declared.Refusal.{Refusal}
-use Rattle.refusals.specs.declared.Refusal.the-variants.{Length, Late, Full, Places, Field}
+use Rattle.refusals.specs.declared.Refusal.the-variants.{Length, Late, Places, Field}
 use Rattle.fields.proofs.Bools.{by-test}
 use Rattle.layouts.specs.Bodies.{bodyMe, bodyFits}
 use Rattle.messages.specs.declared.Decoded.{Decoded}
 use Rattle.messages.specs.declared.Decoded.the-variants as decode
 use Rattle.messages.specs.declared.Message.{Message}
-use Rattle.messages.specs.Message.{decoded, keyOf}
+use Rattle.messages.specs.Message.{decoded, keyOf, starts}
 use Rattle.track.specs.declared.Track.{Track}
 use Rattle.track.specs.Track.{newTrack, stepBody, stepMe, stepped}
 use Rattle.track.proofs.Mes.{stepped-by-me}
@@ -62,8 +62,8 @@ unfolding rules.delivered
 delivered-tells s (decode.Refused r) time = refused-tells (decode.Refused r) r s
 delivered-tells s (decode.Message m) time =
     by-test (Tells (decode.Message m)) (ltb (rules.placeOf bytes s time (keyOf m)) (placesIn s)) _ _ (λ _. placed-tells s (rules.placeOf bytes s time (keyOf m)) time (bytes .cell s (rules.placeOf bytes s time (keyOf m)) .track) m)
-    (λ _. by-test (Tells (decode.Message m)) (ltb (rules.freePlace bytes s time) (placesIn s)) _ _ (λ _. placed-tells s (rules.freePlace bytes s time) time newTrack m)
-    (λ _. refused-tells (decode.Message m) Full s))
+    (λ _. by-test (Tells (decode.Message m)) (starts m && ltb (rules.freePlace bytes s time) (placesIn s)) _ _ (λ _. placed-tells s (rules.freePlace bytes s time) time newTrack m)
+    (λ _. refused-tells (decode.Message m) (rules.turnedAway (starts m)) s))
 
 received-tells : (s m : List ℕ) (time : ℕ) → Tells (decoded m) (received s m time)
 unfolding rules.received

@@ -64,7 +64,7 @@ pub set-up-at-promised : (κs : Lfts 1) (args : Dens κs set-up-at-kinds.ps) (x 
     → setUpSaid x ≡ setUpTable bytes (args .0 .now) (siteAt (args .1 .0))
 set-up-at-promised κs args x left p = ap (λ (y : After SetUp). setUpSaid (y .answer)) p ∙ set-up-says bytes (args .0 .now) (siteAt (args .1 .0))
 
--- ---- a received message: 1, 7, 2, 3, 4, 5, 6, or its fields
+-- ---- a received message: 1, 7, 2, 3, 4, 5, 6 or 12, or its fields
 
 pub receive-promised : (κs : Lfts 2) (args : Dens κs receive-kinds.ps) (x : resT receive-kinds.r κs .Denot)
     (left : AtExit (endedOf 2 receive-kinds.ps receive-kinds.r) κs) → receive.Post κs args x left

@@ -73,20 +73,22 @@ fn step_at(table: &mut [u8], n: usize, i: usize, key: u32, t: Track, me: u64, ti
     table_bytes::store(table, n, i, key, track::step_me(t, me, site, time));
 }
 
-// An acceptable message reaches the table. The clock is already at the time.
+// An acceptable message reaches the table. The clock is already at the time. A free place is only for one that may start a track.
 fn deliver(table: &mut [u8], f: Frame, time: u64) -> Heard
     requires { ⌜ (wholePlaces (length (now table)) ≡ true) × IsAccepted f ⌝ }
     ensures { λ r. ⌜ after r (now (table .exit)) ≡ heard (delivered (now (table .entry)) (openedAs (accept.Frame f)) time) ⌝ }
 {
     let key = messages::frame_key(f);
     let n = table_bytes::places_in(table);
+    let starts = messages::frame_starts(f);
     let target = table_bytes::target_of(table, n, time, key);
-    if target.at < n {
+    // tested here and not in the search, where it would cost every message more
+    if (target.held | starts) & (target.at < n) {
         let t = start_of(table, n, target);
         step_at(table, n, target.at, key, t, f.me, time);
         return Heard::Done;
     }
-    Heard::Refused(Refusal::Full)
+    Heard::Refused(rules::turned_away(starts))
 }
 
 // What a message received at a time does to the table: done, or the number that it earns.

@@ -1,18 +1,19 @@
 -- Document 01's rules of a track, one by one. Each is read off the definitions, once a test in its way is known.
 -- Assumes nothing.
 use Prim.Native.Nat.{ℕ, _-_, _≤_, _<_}
-use mathlib.Core.Path.{_≡_, refl, ap, _∙_}
-use mathlib.Core.Bool.{Bool, true, false, _&&_}
+use native.Mathlib.Omega.{arith}
+use mathlib.Core.Path.{_≡_, refl, sym, ap, subst, _∙_}
+use mathlib.Core.Bool.{Bool, true, false, cond, _&&_}
 use mathlib.Core.List.{List, [], _∷_}
-use lib.Dec.{leb}
+use lib.Dec.{leb, eqb}
 use lib.ListN.{length, getD}
 use lib.Seq.{getD-set-same, getD-set-other}
-use borrow.Author.Tests.{le-leb, lt-leb}
+use borrow.Author.Tests.{le-leb, lt-leb, eq-eqb, ne-eqb}
 use Rattle.refusals.specs.declared.Refusal.{Refusal}
 use Rattle.refusals.specs.declared.Refusal.the-variants.{Field, Latitude, Zones}
 use Rattle.fields.specs.Bytes.{Bytes}
 use Rattle.fields.specs.Packing.{fits}
-use Rattle.fields.proofs.Bools.{and-right, both}
+use Rattle.fields.proofs.Bools.{and-right, both, by-test}
 use Rattle.positions.specs.declared.Counts.{Counts}
 use Rattle.positions.specs.declared.Spot.{Spot}
 use Rattle.positions.specs.declared.Turn.{Turn}
@@ -40,7 +41,7 @@ use Rattle.whereabouts.specs.declared.Position.{Position}
 use Rattle.whereabouts.specs.declared.Site.{Site}
 use Rattle.track.specs.declared.Track.{Track}
 use Rattle.track.specs.declared.Stepped.{Stepped}
-use Rattle.track.specs.Groups.{identified, moving, onSurface, atPressure, atHeight}
+use Rattle.track.specs.Groups.{identified, moving, onSurface, atPressure, reported, atHeight}
 use Rattle.whereabouts.specs.Located.{
   isFresh,
   passedOn,
@@ -89,15 +90,26 @@ pub heard-at-its-time : (t : Track) (b : Body) (me : ℕ) (site : Site) (time : 
 unfolding groupTrack airborneTrack surfaceTrack
 heard-at-its-time t (body.Identification b) me site time = refl
 heard-at-its-time t (body.Surface b) me site time = refl
-heard-at-its-time t (body.Airborne b) me site time = refl
+heard-at-its-time t (body.Airborne b) me site time = by-test (λ (x : Track). x .heard ≡ time) (eqb (b .typecode) 0) _ _ (λ _. refl) (λ _. refl)
 heard-at-its-time t (body.Ground b) me site time = refl
 heard-at-its-time t (body.Air b) me site time = refl
 
--- ---- a message replaces its own group whole, and one with no position leaves where the aircraft is
+-- ---- a message replaces its own group whole, but for an altitude that a TYPE 0 leaves out, and one with no position leaves where the aircraft is
 
 -- the position and the two saved ones
 abbrev pub Unmoved : Track → Track → Type 0
 Unmoved t n = (n .position ≡ t .position) × (n .saved ≡ t .saved)
+
+-- what a message without a position leaves of a track: the code that it reports, or the one before if that is 0
+pub record NoPosition (altitude time : ℕ) (t n : Track) : Type 0 where
+  pub heard : n .heard ≡ time
+  pub pressure : n .groups .pressure ≡ cond (eqb altitude 0) (t .groups .pressure) altitude
+  pub identification : n .groups .identification ≡ t .groups .identification
+  pub velocity : n .groups .velocity ≡ t .groups .velocity
+  pub surface : n .groups .surface ≡ t .groups .surface
+  pub height : n .groups .height ≡ t .groups .height
+  pub position : n .position ≡ t .position
+  pub saved : n .saved ≡ t .saved
 
 module _ (t : Track) (me : ℕ) (site : Site) (time : ℕ) where
   pub identification-replaces : (b : Identification) → stepBody t (body.Identification b) me site time .groups ≡ identified (t .groups) me
@@ -116,15 +128,38 @@ module _ (t : Track) (me : ℕ) (site : Site) (time : ℕ) where
   unfolding surfaceTrack
   surface-replaces b = refl
 
+  -- TYPE 0 and any other of the airborne layout
+  silent : (b : Airborne) → b .typecode ≡ 0 → stepBody t (body.Airborne b) me site time ≡ groupTrack t (reported (t .groups) (b .altitude)) time
+  silent b z = rw (eq-eqb (b .typecode) 0 z)
+
+  located : (b : Airborne) → 0 < b .typecode → stepBody t (body.Airborne b) me site time ≡ airborneTrack t b time
+  located b h = rw (ne-eqb (b .typecode) 0 (λ e. omega arith))
+
   -- TYPE 9-18
-  pub pressure-replaces : (b : Airborne) → b .typecode ≤ 18 → stepBody t (body.Airborne b) me site time .groups ≡ atPressure (t .groups) (b .altitude)
+  pub pressure-replaces : (b : Airborne) → 9 ≤ b .typecode → b .typecode ≤ 18 → stepBody t (body.Airborne b) me site time .groups ≡ atPressure (t .groups) (b .altitude)
   unfolding airborneTrack
-  pressure-replaces b h = simp (le-leb (b .typecode) 18 h)
+  pressure-replaces b l h = ap (λ (x : Track). x .groups) (located b (omega arith)) ∙ simp (le-leb (b .typecode) 18 h)
 
   -- TYPE 20-22
   pub height-replaces : (b : Airborne) → 18 < b .typecode → stepBody t (body.Airborne b) me site time .groups ≡ atHeight (t .groups) (b .altitude)
   unfolding airborneTrack
-  height-replaces b h = simp (lt-leb (b .typecode) 18 h)
+  height-replaces b h = ap (λ (x : Track). x .groups) (located b (omega arith)) ∙ simp (lt-leb (b .typecode) 18 h)
+
+  -- TYPE 0: it is heard, a field unlike zero replaces the pressure altitude, and nothing else of the track changes, whatever its F and its counts
+  pub no-position-leaves : (b : Airborne) → b .typecode ≡ 0 → NoPosition (b .altitude) time t (stepBody t (body.Airborne b) me site time)
+  unfolding groupTrack
+  no-position-leaves b z =
+      subst (NoPosition (b .altitude) time t) (sym (silent b z))
+      (record {
+        heard = refl;
+        pressure = refl;
+        identification = refl;
+        velocity = refl;
+        surface = refl;
+        height = refl;
+        position = refl;
+        saved = refl;
+      })
 
   pub identification-stays : (b : Identification) → Unmoved t (stepBody t (body.Identification b) me site time)
   unfolding groupTrack
@@ -144,22 +179,23 @@ module _ (t : Track) (me : ℕ) (site : Site) (time : ℕ) where
   unfolding surfaceTrack
   surface-clears b = refl
 
-  pub airborne-saved : (b : Airborne) → b .f < length (t .saved)
+  -- of a message with a position, so not of TYPE 0
+  pub airborne-saved : (b : Airborne) → 0 < b .typecode → b .f < length (t .saved)
       → getD (stepBody t (body.Airborne b) me site time .saved) (b .f) noSaved ≡ record { known = true; counts = countsIn b; time = time }
   unfolding airborneTrack
-  airborne-saved b h = getD-set-same (t .saved) (b .f) _ noSaved h
+  airborne-saved b n h = ap (λ (x : Track). getD (x .saved) (b .f) noSaved) (located b n) ∙ getD-set-same (t .saved) (b .f) _ noSaved h
 
-  pub airborne-leaves : (b : Airborne) (i : ℕ) → (i ≡ b .f → ⊥)
+  pub airborne-leaves : (b : Airborne) → 0 < b .typecode → (i : ℕ) → (i ≡ b .f → ⊥)
       → getD (stepBody t (body.Airborne b) me site time .saved) i noSaved ≡ getD (t .saved) i noSaved
   unfolding airborneTrack
-  airborne-leaves b i h = getD-set-other (t .saved) (b .f) i _ noSaved h
+  airborne-leaves b n i h = ap (λ (x : Track). getD (x .saved) i noSaved) (located b n) ∙ getD-set-other (t .saved) (b .f) i _ noSaved h
 
   -- the partner is the one of the other F, as it was saved before
-  pub airborne-located : (b : Airborne)
+  pub airborne-located : (b : Airborne) → 0 < b .typecode
       → stepBody t (body.Airborne b) me site time .position
       ≡ placedOr (airbornePosition (t .position) (getD (t .saved) (1 - b .f) noSaved) (countsIn b) (formatOf (b .f)) time) (t .position)
   unfolding airborneTrack
-  airborne-located b = refl
+  airborne-located b n = ap (λ (x : Track). x .position) (located b n)
 
   pub surface-located : (b : Surface)
       → stepBody t (body.Surface b) me site time .position

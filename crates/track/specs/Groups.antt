@@ -1,7 +1,7 @@
--- The groups of a track. A message replaces its own group whole, unknown included.
+-- The groups of a track. A message replaces its own group whole, unknown included; only the altitude of a TYPE 0 may be left out.
 use Prim.Native.Nat.{ℕ}
 use mathlib.Core.Bool.{cond}
-use lib.Dec.{leb}
+use lib.Dec.{leb, eqb}
 use Rattle.track.specs.declared.Groups.{Groups}
 
 abbrev pub noGroups : Groups
@@ -46,6 +46,10 @@ atPressure g altitude = record {
   pressure = altitude;
   height = g .height;
 }
+
+-- the pressure altitude that a TYPE 0 reports: a field of zero leaves the one before, any other code replaces it, unknown included
+abbrev pub reported : Groups → ℕ → Groups
+reported g altitude = atPressure g (cond (eqb altitude 0) (g .pressure) altitude)
 
 -- GNSS height, TYPE 20-22
 abbrev pub atHeight : Groups → ℕ → Groups

@@ -25,7 +25,7 @@ use Rattle.whereabouts.specs.declared.Site.{Site}
 use Rattle.track.specs.declared.Groups.{Groups}
 use Rattle.track.specs.declared.Track.{Track}
 use Rattle.track.specs.declared.Stepped.{Stepped}
-use Rattle.track.specs.Groups.{noGroups, identified, moving, onSurface, high}
+use Rattle.track.specs.Groups.{noGroups, identified, moving, onSurface, reported, high}
 use Rattle.whereabouts.specs.Located.{noPosition, airbornePosition, surfacePosition}
 
 abbrev pub noSaved : Saved
@@ -62,6 +62,10 @@ airborneTrack t b time =
       saved = set (t .saved) (b .f) (record { known = true; counts = countsIn b; time = time });
     }
 
+-- TYPE 0 has the airborne layout and no position: only the altitude that it reports counts
+abbrev pub airborneStep : Track → Airborne → ℕ → Track
+airborneStep t b time = cond (eqb (b .typecode) 0) (groupTrack t (reported (t .groups) (b .altitude)) time) (airborneTrack t b time)
+
 -- a surface message clears the two saved ones
 unfoldable pub surfaceTrack : Track → Surface → ℕ → Site → ℕ → Track
 surfaceTrack t b me site time =
@@ -76,7 +80,7 @@ surfaceTrack t b me site time =
 abbrev pub stepBody : Track → Body → ℕ → Site → ℕ → Track
 stepBody t (body.Identification b) me site time = groupTrack t (identified (t .groups) me) time
 stepBody t (body.Surface b) me site time = surfaceTrack t b me site time
-stepBody t (body.Airborne b) me site time = airborneTrack t b time
+stepBody t (body.Airborne b) me site time = airborneStep t b time
 stepBody t (body.Ground b) me site time = groupTrack t (moving (t .groups) me) time
 stepBody t (body.Air b) me site time = groupTrack t (moving (t .groups) me) time
 

@@ -19,7 +19,7 @@ use whereabouts::Saved;
 use whereabouts::Site;
 ghost use mathlib.Core.Path.{_≡_};
 ghost use Prim.Native.Nat.{_<_};
-ghost use Rattle.track.specs.Track.{formatOf, placedOr, airborneTrack, surfaceTrack, groupTrack, stepMe, stepped, newTrack, noSaved};
+ghost use Rattle.track.specs.Track.{formatOf, placedOr, airborneTrack, airborneStep, surfaceTrack, groupTrack, stepMe, stepped, newTrack, noSaved};
 
 // What was last heard of each group: of three the ME that gave it, 0 where none did; of two the code of 12 bits, 0 where it is unknown.
 pub struct Groups {
@@ -159,6 +159,18 @@ fn group_track(t: Track, g: Groups, time: u64) -> Track
     }
 }
 
+// A message of the airborne layout: one of TYPE 0 has no position, so its counts are no one's.
+fn airborne_step(t: Track, b: Airborne, time: u64) -> Track
+    requires { ⌜ b .f < 2 ⌝ }
+    ensures { λ r. ⌜ r ≡ airborneStep t b time ⌝ }
+{
+    if b.typecode == 0 {
+        let g = t.groups;
+        return group_track(t, replaced::with_reported(g, b.altitude), time);
+    }
+    airborne_track(t, b, time)
+}
+
 // What the ME of a message does to its track, by its layout: one that is not taken leaves it. Of the number 56 bits are read.
 pub fn step_me(t: Track, number: u64, site: Site, time: u64) -> Track
     ensures { λ r. ⌜ r ≡ stepMe t number site time ⌝ }
@@ -169,7 +181,7 @@ pub fn step_me(t: Track, number: u64, site: Site, time: u64) -> Track
     match layout {
         Layout::Identification => group_track(t, replaced::with_identification(g, me), time),
         Layout::Surface => surface_track(t, layouts::surface_of(me), me, site, time),
-        Layout::Airborne => airborne_track(t, layouts::airborne_of(me), time),
+        Layout::Airborne => airborne_step(t, layouts::airborne_of(me), time),
         Layout::Ground => group_track(t, replaced::with_velocity(g, me), time),
         Layout::Air => group_track(t, replaced::with_velocity(g, me), time),
         Layout::NotTaken => t,

@@ -1,7 +1,7 @@
 // The groups of a track: a message replaces its own whole, unknown included.
 use crate::Groups;
 ghost use mathlib.Core.Path.{_≡_};
-ghost use Rattle.track.specs.Groups.{noGroups, identified, moving, onSurface, high};
+ghost use Rattle.track.specs.Groups.{noGroups, identified, moving, onSurface, reported, high};
 
 pub(crate) fn no_groups() -> Groups
     ensures { λ r. ⌜ r ≡ noGroups ⌝ }
@@ -47,6 +47,19 @@ pub(crate) fn with_surface(g: Groups, me: u64) -> Groups
         velocity: g.velocity,
         surface: me,
         pressure: g.pressure,
+        height: g.height,
+    }
+}
+
+// A field of zero reports no altitude, and leaves the one before.
+pub(crate) fn with_reported(g: Groups, altitude: u16) -> Groups
+    ensures { λ r. ⌜ r ≡ reported g altitude ⌝ }
+{
+    Groups {
+        identification: g.identification,
+        velocity: g.velocity,
+        surface: g.surface,
+        pressure: if altitude == 0 { g.pressure } else { altitude },
         height: g.height,
     }
 }

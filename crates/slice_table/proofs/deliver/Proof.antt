@@ -1,12 +1,11 @@
 -- `slice_table::deliver` meets its contract: a walk of its MIR, by hand, in parts: one for each call. The slice is open from the scan on.
 -- Assumes nothing.
 use Rattle.slice_table.proofs.Walk.{_≡_, refl, sym, ap, ℕ, _<_, Bool, Option, none, just, List, [], _∷_, length, getD, set, URA, fullShare, named, tyRef, tyInt, tyBool, Local, Val, vint, vbool, vptr, SProp, ent, emp, id⊢, Fml, Lft, GName, Share, ftrue, flft, flent, Memory, Routine, Heap, Env, WpFn, Tables, Atoms, Fun, givenOf, tables, tablesOf, Given, Item, ‵, some, later, _⊛_, ⋆, !, atRet, runs, _$_, _∵_, qed, by, move, drop, split, fsplit, fjoin, pick, await, use1, lft-new, lft-end, arr-parts, load, from, stop, look, FmC, fmOf, RattleType, owns, Is, RefT, ShrSlice, MutSlice, sliceVal, Room, pointee, shares, Vals, onEntry, walkOf, _∙_, ltb, ltb→lt, nltb→le, mut, w64, tyPtr, afterSeq, Wp, atReturn, anyQ, Sq, keep, feqI, whole, sub, look-in, first, skips, branches, exec, store, store-raw, no-more, land, init, hop, fld, lit, of-opd, bin, assigns, returns, params1, pass1, pass0, false, length-set, erased, imm, agg, returns-within, addr, look-raw, and-then, lent-back, lends-shr-slice, elem-back, factI, Plain, struct, number, truth, place-plain, sought-plain, found-plain, received-plain, Known, calls-value, sliceAt, keeps, calls-lent, Blocks, localsAt, values, slice-of, stack, enters, leaves, local-is, stride, offset-fits, points-at, takes-out, puts-in, opened, opens-mutable, closes-mutable, front, by-value, mutable, ParamsOf, staysOf, valsOf, ends, proves, knows}
-use Rattle.refusals.specs.declared.Refusal.the-variants.{Full}
 use Rattle.slice_places.specs.declared.Place.{Place}
 use Rattle.slice_places.specs.declared.arrivals.Received.{Received}
 use Rattle.slice_places.specs.declared.Sought.{Sought}
 use Rattle.slice_places.specs.Ranges.{noPlace}
-use Rattle.slice_places.specs.Arrivals.{isRefused, soughtBy, nextOf, refusedWith}
+use Rattle.slice_places.specs.Arrivals.{isRefused, soughtBy, nextOf, turnedAwayBy}
 use Rattle.slice_places.proofs.Place as T
 use Rattle.slice_places.proofs.arrivals.Received as Y
 use Rattle.slice_places.proofs.Sought as S
@@ -27,14 +26,14 @@ use Rattle.slice_places.proofs.place_in.Met as place-in-thm
 use Rattle.slice_places.proofs.received_in as received-in
 use Rattle.slice_places.proofs.received_in.Symbol as received-in-def
 use Rattle.slice_places.proofs.received_in.Met as received-in-thm
-use Rattle.slice_places.proofs.full as full
-use Rattle.slice_places.proofs.full.Symbol as full-def
-use Rattle.slice_places.proofs.full.Met as full-thm
+use Rattle.slice_places.proofs.turned_away as turned-away
+use Rattle.slice_places.proofs.turned_away.Symbol as turned-away-def
+use Rattle.slice_places.proofs.turned_away.Met as turned-away-thm
 use Rattle.slice_table.specs.declared.Found.{Found}
 use Rattle.slice_table.specs.Tracks.{after, delivered}
 use Rattle.slice_table.specs.Scan.{scanned, chosen}
 use Rattle.slice_table.proofs.Ways.{passed, failed}
-use Rattle.slice_table.proofs.Delivered.{delivered-refused, delivered-at, delivered-full}
+use Rattle.slice_table.proofs.Delivered.{delivered-refused, delivered-at, delivered-none}
 use Rattle.slice_table.proofs.Found as F
 use Rattle.slice_table.proofs.search.choose as choose
 use Rattle.slice_table.proofs.search.choose.Symbol as choose-def
@@ -64,7 +63,7 @@ locals = values (received-plain .ty ∷ slice-of (named 0) mut R ∷ received-pl
 module _ {M : Type 1} (𝓤 : URA M) (H : Heap 𝓤) (A : Atoms 𝓤) (W : Given 𝓤 H A) (mem : Memory → SProp 𝓤) (run : Routine → Fun 𝓤) (𝓣 : Tables 𝓤 H) (fm : FmC 𝓤 H (W .laws) (𝓣 .C))
     (known-refused : Known 𝓤 H A (𝓣 .C) refused-def.name refused.ended (refused.clauses 𝓤 H A mem run)) (known-sought : Known 𝓤 H A (𝓣 .C) sought-by-def.name sought-by.ended (sought-by.clauses 𝓤 H A mem run)) (known-scan : Known 𝓤 H A (𝓣 .C) scan-def.name scan.ended (scan.clauses 𝓤 H A mem run))
     (known-choose : Known 𝓤 H A (𝓣 .C) choose-def.name choose.ended (choose.clauses 𝓤 H A mem run)) (known-next : Known 𝓤 H A (𝓣 .C) next-of-def.name next-of.ended (next-of.clauses 𝓤 H A mem run)) (known-place : Known 𝓤 H A (𝓣 .C) place-in-def.name place-in.ended (place-in.clauses 𝓤 H A mem run))
-    (known-received : Known 𝓤 H A (𝓣 .C) received-in-def.name received-in.ended (received-in.clauses 𝓤 H A mem run)) (known-full : Known 𝓤 H A (𝓣 .C) full-def.name full.ended (full.clauses 𝓤 H A mem run))
+    (known-received : Known 𝓤 H A (𝓣 .C) received-in-def.name received-in.ended (received-in.clauses 𝓤 H A mem run)) (known-away : Known 𝓤 H A (𝓣 .C) turned-away-def.name turned-away.ended (turned-away.clauses 𝓤 H A mem run))
     (κ : Lft) (q : Share) (x : RefT (List Place)) (due : Received) (gn : Room R (length (x .now))) (gd : Is Y.the-row due (received-plain .val due ∷ [])) where
   abbrev xs : List Place
   xs = x .now
@@ -135,9 +134,9 @@ module _ {M : Type 1} (𝓤 : URA M) (H : Heap 𝓤) (A : Atoms 𝓤) (W : Given
         first ! $ branches ! (local-is ! 12 refl)
         (λ less. steps i e h (ltb→lt i (length xs) less) t f s)
         (λ over. skips ! $ exec ! (𝓣 .C) (𝓣 .Λ) En Mir.t-12 (atRet En Post) $
-        calls-value ! fm known-full (received-plain, tt) received-plain (due, tt) (gd, tt) tt (id⊢ 𝓤 (emp 𝓤)) (and-then ! (local-is ! 31 refl) (no-more !)) (λ r. r ≡ refusedWith Full (due .head)) (λ r ws. id⊢ 𝓤 _) (λ r er is.
+        calls-value ! fm known-away (received-plain, tt) received-plain (due, tt) (gd, tt) tt (id⊢ 𝓤 (emp 𝓤)) (and-then ! (local-is ! 31 refl) (no-more !)) (λ r. r ≡ turnedAwayBy due) (λ r ws. id⊢ 𝓤 _) (λ r er is.
         land ! (from ! (stop !)) (init ! 34 refl (received-plain .typed 𝓤 H A W r is)) $ closes-mutable ! tt R x xs refl gn $
-        returns ! (look ! 32 refl) $ leaves ! 2 refl $ by ! (exits r is xs refl (delivered-full xs due h i e (nltb→le i (length xs) over) r er))))
+        returns ! (look ! 32 refl) $ leaves ! 2 refl $ by ! (exits r is xs refl (delivered-none xs due h i e (nltb→le i (length xs) over) r er))))
 
     chooses : (t : Bool) (f : Found) (s : Sought) → isRefused (due .answer) ≡ false → Is F.the-row f (found-plain .val f ∷ []) → f ≡ scanned xs (soughtBy due) (length xs)
         → Sq W (opened R κ q x xs (Held (just (vbool t)) (just (found-plain .val f)) (just (vptr (x .ptr .0) (x .ptr .1))) (just (sliceVal (x .ptr) (length xs))) (just (sought-plain .val s)))) (runs (𝓣 .C) (𝓣 .Λ) En Mir.t-7 (atRet En Post))
@@ -195,5 +194,5 @@ deliver-spec 𝓤 H 𝓜 𝓖 𝓡 =
     (knows 𝓤 H 𝓜 𝓖 𝓡 code.env next-of.ended (next-of.clauses 𝓤 H (𝓖 .A) (𝓜 .mem) (𝓡 .run)) next-of-def.name next-of-def.routine code.calls-slice-places·next-of (next-of-thm.met 𝓤 H 𝓜 𝓖 𝓡))
     (knows 𝓤 H 𝓜 𝓖 𝓡 code.env place-in.ended (place-in.clauses 𝓤 H (𝓖 .A) (𝓜 .mem) (𝓡 .run)) place-in-def.name place-in-def.routine code.calls-slice-places·place-in (place-in-thm.met 𝓤 H 𝓜 𝓖 𝓡))
     (knows 𝓤 H 𝓜 𝓖 𝓡 code.env received-in.ended (received-in.clauses 𝓤 H (𝓖 .A) (𝓜 .mem) (𝓡 .run)) received-in-def.name received-in-def.routine code.calls-slice-places·received-in (received-in-thm.met 𝓤 H 𝓜 𝓖 𝓡))
-    (knows 𝓤 H 𝓜 𝓖 𝓡 code.env full.ended (full.clauses 𝓤 H (𝓖 .A) (𝓜 .mem) (𝓡 .run)) full-def.name full-def.routine code.calls-slice-places·full (full-thm.met 𝓤 H 𝓜 𝓖 𝓡))
+    (knows 𝓤 H 𝓜 𝓖 𝓡 code.env turned-away.ended (turned-away.clauses 𝓤 H (𝓖 .A) (𝓜 .mem) (𝓡 .run)) turned-away-def.name turned-away-def.routine code.calls-slice-places·turned-away (turned-away-thm.met 𝓤 H 𝓜 𝓖 𝓡))
     (κs .0) (qs .0) (a .0) (a .1 .0) (are .0 .0 .1) (are .1 .0))

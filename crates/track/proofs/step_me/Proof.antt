@@ -10,7 +10,7 @@ use Rattle.layouts.specs.Bodies.{layoutOf, takenAs, taken}
 use Rattle.whereabouts.specs.declared.Site.{Site}
 use Rattle.track.specs.declared.Groups.{Groups}
 use Rattle.track.specs.declared.Track.{Track}
-use Rattle.track.specs.Track.{groupTrack, surfaceTrack, airborneTrack, stepTaken}
+use Rattle.track.specs.Track.{groupTrack, surfaceTrack, airborneStep, stepTaken}
 use borrow.Author.Needs.{needs}
 use Rattle.track.proofs.step_me.Statement.{statement}
 use Rattle.track.proofs.step_me.Tie as tie
@@ -46,8 +46,8 @@ enum-told-3 c = search needs
 airborne-of-requires : tie.Need-airborne-of-requires
 airborne-of-requires c κs = search needs
 
-airborne-track-requires : tie.Need-airborne-track-requires
-airborne-track-requires c κs = omega (arith, ap (λ (b : Airborne). b .f) (c .airborne-of .ensures))
+airborne-step-requires : tie.Need-airborne-step-requires
+airborne-step-requires c κs = omega (arith, ap (λ (b : Airborne). b .f) (c .airborne-of .ensures))
 
 enum-told-4 : tie.Need-enum-told-4
 enum-told-4 c = search needs
@@ -87,7 +87,7 @@ returns-3 : tie.Need-returns-3
 returns-3 c =
     let p = c .before .before .before .before in
     let a = p .before .before .args in
-    c .airborne-track .ensures ∙ ap (λ (b : Airborne). airborneTrack (a .t) b (a .time)) (c .before .airborne-of .ensures) ∙ arm (a .t) (a .site) (a .time) (a .number % 2 ^ 56) (p .layout-of .ensures) (c .before .before .enum-told3 .given .1)
+    c .airborne-step .ensures ∙ ap (λ (b : Airborne). airborneStep (a .t) b (a .time)) (c .before .airborne-of .ensures) ∙ arm (a .t) (a .site) (a .time) (a .number % 2 ^ 56) (p .layout-of .ensures) (c .before .before .enum-told3 .given .1)
 
 returns-4 : tie.Need-returns-4
 returns-4 c =
@@ -120,7 +120,7 @@ step-me-spec =
     surface-track-requires
     enum-told-3
     airborne-of-requires
-    airborne-track-requires
+    airborne-step-requires
     enum-told-4
     with-velocity-requires
     group-track-requires-2

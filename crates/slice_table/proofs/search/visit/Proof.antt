@@ -19,7 +19,7 @@ farther-requires-2 c κs = search needs
 
 returns : tie.Need-returns
 unfolding visited
-returns c = rw (c .farther2 .ensures, c .before .is-held .ensures, c .before .before .farther .ensures, c .before .before .before .has-key .ensures)
+returns c = rw (c .farther2 .ensures, c .before .before .is-held .ensures, c .before .before .before .farther .ensures, c .before .before .before .before .has-key .ensures)
 
 pub visit-spec : {M : Type 1} → statement M
 visit-spec =
