@@ -11,6 +11,7 @@ AIRBORNE, SURFACE = 360, 90  # an airborne turn is 360 degrees, a surface turn 9
 COUNTS = 2**17
 HALF = Fraction(1, 2)
 UNIT = Fraction(360, 2**32)  # places are in 2^-32 of a turn of 360 degrees
+STEP = Fraction(360, 1855979520)  # request R-5: all decoded latitudes are multiples of 1/1,855,979,520 of a turn
 
 # The 58 latitudes in units of 10^-8 degree, for NL 59 down to 2. This table decides.
 FIGURES = [
@@ -213,11 +214,10 @@ def published_latitude(nl):
 def check_table(figures=FIGURES):
     """Each figure is the published latitude rounded to 10^-8 degree; raises if any differs.
 
-    Also: no latitude that a count can give (a multiple of 90 degrees / (60 x 59 x 2^17)) lies
-    between a figure and the exact latitude, so table and formula have the same NL everywhere.
+    Also: no latitude that a count can give (a multiple of STEP) lies between a figure and the exact
+    latitude, so table and formula have the same NL everywhere.
     """
     slack = Fraction(1, 10 ** (DIGITS - 3))  # far above the error of the series
-    step = Fraction(90, 60 * 59 * COUNTS)
     if len(figures) != 58:
         raise ValueError(f"{len(figures)} latitudes, not 58")
     for nl, figure in zip(range(59, 1, -1), figures):
@@ -229,5 +229,18 @@ def check_table(figures=FIGURES):
         if not abs(exact * 10**8 - figure) < HALF - slack:
             raise ValueError(f"NL {nl}: the figure {figure} is not the published latitude")
         edges = exact - slack, exact + slack, Fraction(figure, 10**8)
-        if len({floor(edge / step) for edge in edges}) > 1:
+        if len({floor(edge / STEP) for edge in edges}) > 1:
             raise ValueError(f"NL {nl}: a latitude lies between figure and formula")
+
+
+def check_steps(steps):
+    """Each is the last multiple of STEP not above the published latitude, counted in STEPs; raises if any differs.
+
+    So a multiple of STEP is above a latitude of the table just when its number is above the one here.
+    """
+    if len(steps) != 58:
+        raise ValueError(f"{len(steps)} latitudes, not 58")
+    for nl, step in zip(range(59, 1, -1), steps):
+        exact = Fraction(87) if nl == 2 else Fraction(published_latitude(nl))
+        if step != floor(exact / STEP):
+            raise ValueError(f"NL {nl}: {step} is not the published latitude in 1/1,855,979,520 of a turn, rounded down")

@@ -7,7 +7,7 @@ import subprocess
 import sys
 from decimal import Decimal
 from fractions import Fraction
-from math import floor
+from math import ceil, floor
 from pathlib import Path
 from random import Random
 
@@ -22,7 +22,7 @@ import table as lent_table
 import tracks
 import traffic
 from parity import GENERATOR, remainder, seal, sealed
-from positions import AIRBORNE, COUNTS, EVEN, FIGURES, ODD, SURFACE, UNIT, zone_count, zones
+from positions import AIRBORNE, COUNTS, EVEN, FIGURES, ODD, STEP, SURFACE, UNIT, zone_count, zones
 from refusals import Refused, answer
 from tracks import Position, Saved, Track
 from traffic import OTHER, TRANSPONDER
@@ -295,6 +295,26 @@ def table():
     equal("NL at 0 and 90", (zone_count(0), zone_count(90), zone_count(-90)), (59, 1, 1))
     equal("87 exactly", zone_count(Fraction(87)), 2)
     equal("one even count more", zone_count(87 + positions.angle_of(1, 60, AIRBORNE)), 1)
+
+
+def steps():
+    """Request R-5: latitudes are multiples of STEP, and a table in STEPs, rounded down, has the same NL everywhere."""
+    counts = [positions.angle_of(1, zones(i), turn) for turn in (AIRBORNE, SURFACE) for i in (EVEN, ODD)]
+    equal("STEPs in a count", [count / STEP for count in counts], [236, 240, 59, 60])
+    exact = [Fraction(figure, 10**8) / STEP for figure in FIGURES]
+    down, to_nearest, up = [[rounding(step) for step in exact] for rounding in (floor, positions.nearest, ceil)]
+    equal("rounded down is as published", positions.check_steps(down), None)
+    others = {"down": down, "to nearest": to_nearest, "up": up}
+    wrong = {name: set() for name in others}
+    for nl, entry in zip(range(59, 1, -1), exact):
+        for count in counts:
+            last = floor(entry / (count / STEP))
+            for whole in range(last - 1, last + 3):
+                k = whole * (count / STEP)
+                for name, table in others.items():
+                    if next((59 - at for at, step in enumerate(table) if k <= step), 1) != zone_count(whole * count):
+                        wrong[name].add(nl)
+    equal("other roundings have another NL", wrong, {"down": set(), "to nearest": {42, 23}, "up": {42, 23, 17}})
 
 
 def position_rows():
@@ -840,6 +860,7 @@ TESTS = [
     layouts,
     message_laws,
     table,
+    steps,
     position_rows,
     position_laws,
     position_ties,

@@ -16,6 +16,7 @@ from positions import (
     EVEN,
     FIGURES,
     ODD,
+    STEP,
     SURFACE,
     UNIT,
     angle_of,
@@ -329,6 +330,41 @@ def random_cases(chance):
         yield from (asks_pair(later, counts) for later in BOTH)
 
 
+def other_roundings(chance):
+    """Request R-5: the latitudes for which a table in STEPs would answer otherwise if it were not rounded down.
+
+    Such a latitude is the first multiple of STEP above an entry: rounded up the entry would reach it, and to nearest
+    if it lies nearer than the multiple below. An entry that is a multiple itself, 87 degrees, must be reached. Each
+    with the counts on either side of it, which lie on either side of the entry.
+    """
+    for figure in FIGURES:
+        entry = Fraction(figure, 10**8)
+        first = floor(entry / STEP) + (entry % STEP != 0)  # the first multiple of STEP not below the entry
+        for turn in BOTH_TURNS:
+            for i in BOTH:
+                whole = first * STEP / angle_of(1, zones(i), turn)
+                if whole.denominator == 1:
+                    yield from either_side(chance, turn, i, whole.numerator)
+
+
+def either_side(chance, turn, i, whole):
+    """Places, single messages and airborne pairs at this whole number of counts and those beside it, north and south."""
+    for sign in (1, -1):
+        for at in (whole - 1, whole, whole + 1):
+            latitude = nearest(sign * angle_of(at, zones(i), turn) / UNIT)
+            assert rounded(latitude * UNIT, zones(i), turn) == sign * at
+            for _ in range(3):
+                yield asks_encode(turn, i, latitude, random_longitude(chance))
+                reference = latitude + chance.randrange(-(2**22), 2**22), random_longitude(chance)
+                yield asks_single(turn, i, (sign * at % COUNTS, *random_counts(chance, 1)), reference)
+            if turn == AIRBORNE:
+                for later in BOTH:
+                    even, _, odd, _ = both_ways(latitude, 0)
+                    own = [even, odd]
+                    own[i] = sign * at % COUNTS
+                    yield asks_pair(later, (own[EVEN], *random_counts(chance, 1), own[ODD], *random_counts(chance, 1)))
+
+
 def asked():
     """The questions asked, each once."""
     chance = Random(4)
@@ -344,6 +380,7 @@ def asked():
         across(chance),
         refused(chance),
         random_cases(chance),
+        other_roundings(chance),
     ]
     return dict.fromkeys(tuple(question) for family in families for question in family)
 

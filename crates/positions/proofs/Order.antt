@@ -20,7 +20,7 @@ use Rattle.positions.specs.Positions.{inside, pairZone, inZone, less360,
 use Rattle.fields.proofs.Bools.{not-each}
 use Rattle.positions.proofs.Shift.{order, abs-is}
 use Rattle.positions.proofs.Naturals.{pair-zone-is, less-high, less-low}
-use Rattle.positions.proofs.Latitudes.{passed, reached}
+use Rattle.positions.proofs.Latitudes.{latitudes-rise, passed, reached}
 
 -- the positions x / (60 * 131072) and y / (59 * 131072) of 360 degrees are at most half of one of 60 * 59 zones apart
 abbrev Close : ℕ → ℕ → Type 0
@@ -96,7 +96,8 @@ past M v g e =
 -- and NL is 1 from 87 to 273 degrees
 one : (M v : ℕ) → v < M → 87 * M < 360 * v → 360 * v < 273 * M → zoneCount M (less360 M v) ≡ 1
 unfolding zoneCount latitudes
-one M v g l h = passed x M 0 57 (lit≤ tt) (lit< tt) distant ∙ reached x M 58 (lit≤ tt) (λ n. omega arith)
+one M v g l h =
+    passed latitudes x M latitudes-rise 0 57 (lit≤ tt) (lit< tt) distant ∙ reached latitudes x M latitudes-rise 58 (lit≤ tt) (λ n. omega arith)
   where
     x : ℕ
     x = natAbs (less360 M v) * 36000000000

@@ -1,14 +1,33 @@
 -- What the private functions promise to each other, over naturals. No public contract cites this file.
 -- A number that can be below zero is held one whole turn up: the difference of a natural and the turn.
 use mathlib.Core.Path.{_≡_}
+use mathlib.Core.List.{List, map}
+use mathlib.Core.Logic.{_⊎_}
 use Prim.Native.Nat.{ℕ, _+_, _*_, _/_, _≤_, _<_}
 use lib.IntN.{subℕ}
 use Rattle.positions.specs.declared.Format.{Format}
+use Rattle.positions.specs.Zones.{latitudes}
 use Rattle.positions.specs.Positions.{latitudeZones, less360, pairLatitude}
 
 -- a / d to nearest, half up
 unfoldable pub nearestℕ : ℕ → ℕ → ℕ
 nearestℕ a d = (2 * a + d) / (2 * d)
+
+-- the code's unit of latitude: so many make 360 degrees. Of 59, 60, 236 and 240 zones and counts of 2^17 it is the largest of which each count is a whole number
+abbrev pub fine : ℕ
+fine = 1855979520
+
+-- a latitude in 10^-8 degree, in that unit, rounded down: 360 degrees are 36,000,000,000 of 10^-8 degree
+abbrev pub edge : ℕ → ℕ
+edge e = e * fine / 36000000000
+
+-- the 58 latitudes in that unit
+unfoldable pub edges : List ℕ
+edges = map edge latitudes
+
+-- the zones of latitude to 360 degrees, of a message of either format, in the air or on the surface
+abbrev pub Zoned : ℕ → Type 0
+Zoned n = (n ≡ 60) ⊎ ((n ≡ 59) ⊎ ((n ≡ 240) ⊎ (n ≡ 236)))
 
 -- r, one turn up, is a latitude over M from the south pole to the north pole
 pub record Polar (M r : ℕ) : Type 0 where

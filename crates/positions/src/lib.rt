@@ -12,70 +12,71 @@ ghost use Prim.Native.Nat.{_+_, _-_, _*_, _%_, _<_, _≤_};
 ghost use lib.Dec.{leb};
 ghost use lib.IntN.{subℕ, pos};
 ghost use Rattle.positions.specs.Whole.{modulo};
-ghost use Rattle.positions.specs.Zones.{latitudes, first, zoneCount};
+ghost use Rattle.positions.specs.Zones.{first, zoneCount};
 ghost use Rattle.positions.specs.Positions.{own, latitudeZones, longitudeZones, allRound, whole, countsOf, encoded, rounded, roundedTurn, pairZone, pairSpot, pairFound, fit, paired, nearZone, nearSpot, nearFound, singly};
-ghost use Rattle.positions.specs.Code.{nearestℕ, Polar, Within, Paired};
+ghost use Rattle.positions.specs.Code.{nearestℕ, edges, Zoned, Polar, Within, Paired};
 
-// 58 latitudes in units of 10^-8 degree, at which the number of longitude zones falls: 59 up to the first, 2 up to the last.
+// 58 latitudes, at which the number of longitude zones falls: 59 up to the first, 2 up to the last. The unit is 1/1,855,979,520 of 360 degrees: every
+// latitude that is compared with them is a whole number of it, and so they may be rounded down.
 const LATITUDES: [u64; 58] = [
-    1047047130,
-    1482817437,
-    1818626357,
-    2102939493,
-    2354504487,
-    2582924707,
-    2793898710,
-    2991135686,
-    3177209708,
-    3353993436,
-    3522899598,
-    3685025108,
-    3841241892,
-    3992256684,
-    4138651832,
-    4280914012,
-    4419454951,
-    4554626723,
-    4686733252,
-    4816039128,
-    4942776439,
-    5067150166,
-    5189342469,
-    5309516153,
-    5427817472,
-    5544378444,
-    5659318756,
-    5772747354,
-    5884763776,
-    5995459277,
-    6104917774,
-    6213216659,
-    6320427479,
-    6426616523,
-    6531845310,
-    6636171008,
-    6739646774,
-    6842322022,
-    6944242631,
-    7045451075,
-    7145986473,
-    7245884545,
-    7345177442,
-    7443893416,
-    7542056257,
-    7639684391,
-    7736789461,
-    7833374083,
-    7929428225,
-    8024923213,
-    8119801349,
-    8213956981,
-    8307199445,
-    8399173563,
-    8489166191,
-    8575541621,
-    8653536998,
-    8700000000,
+    53980500,
+    76446633,
+    93759257,
+    108417017,
+    121386447,
+    133162648,
+    144039410,
+    154207960,
+    163801004,
+    172915086,
+    181623041,
+    189981420,
+    198035174,
+    205820740,
+    213368140,
+    220702464,
+    227844941,
+    234813719,
+    241624470,
+    248290833,
+    254824773,
+    261236859,
+    267536481,
+    273732034,
+    279831057,
+    285840356,
+    291766103,
+    297613912,
+    303388918,
+    309095823,
+    314738954,
+    320322302,
+    325849554,
+    331324129,
+    336749197,
+    342127707,
+    347462399,
+    352755820,
+    358010336,
+    363228136,
+    368411237,
+    373561481,
+    378680525,
+    383769825,
+    388830609,
+    393863826,
+    398870077,
+    403849496,
+    408801566,
+    413724809,
+    418616250,
+    423470442,
+    428277556,
+    433019281,
+    437658849,
+    442111933,
+    446132984,
+    448528384,
 ];
 
 // A spot's units in 360 degrees, a zone's counts, and the product of the two.
@@ -192,16 +193,16 @@ fn nearest(a: u64, d: u64) -> u64
     (2 * a + d) / (2 * d)
 }
 
-// NL of the latitude x / d in 10^-8 degree, by halves: entries before `low` are below it, those from `high` on are not.
-fn zone_count(table: &[u64; 58], x: u64, d: u64) -> u32
-    requires { ⌜ (now table ≡ latitudes) × (d < 67108864) ⌝ }
-    ensures { λ r. ⌜ (r ≡ first 59 latitudes x d) × ((0 < r) × (r ≤ 59)) ⌝ }
+// NL of a latitude in the table's unit, by halves: entries before `low` are below it, those from `high` on are not.
+fn zone_count(table: &[u64; 58], k: u64) -> u32
+    requires { ⌜ now table ≡ edges ⌝ }
+    ensures { λ r. ⌜ (r ≡ first 59 edges k 1) × ((0 < r) × (r ≤ 59)) ⌝ }
 {
     let mut low: usize = 0;
     let mut high: usize = 58;
     while low < high {
         let middle = (low + high) / 2;
-        if x <= table[middle] * d {
+        if k <= table[middle] {
             high = middle;
         } else {
             low = middle + 1;
@@ -210,17 +211,35 @@ fn zone_count(table: &[u64; 58], x: u64, d: u64) -> u32
     59 - low as u32
 }
 
-// NL of a latitude of n zones to 360 degrees, one turn up.
+// How far apart two numbers are.
+fn apart(a: u32, b: u32) -> u32
+    ensures { λ r. ⌜ r ≡ (a - b) + (b - a) ⌝ }
+{
+    if a < b { b - a } else { a - b }
+}
+
+// The table's units in a count of n zones to 360 degrees: of 14,160 zones a count would be one unit.
+fn units_in(n: u32) -> u32
+    requires { ⌜ Zoned n ⌝ }
+    ensures { λ r. ⌜ n * r ≡ 14160 ⌝ }
+{
+    match n {
+        60 => 236,
+        59 => 240,
+        240 => 59,
+        _ => 60,
+    }
+}
+
+// NL of a latitude of n zones to 360 degrees, one turn up. Its one product is of 32 bits: a small board may have no wider one.
 fn zone_count_at(table: &[u64; 58], up: u64, n: u64) -> u32
-    requires { ⌜ (now table ≡ latitudes) × (((0 < n) × (n ≤ 240)) × Polar (n * 131072) up) ⌝ }
+    requires { ⌜ (now table ≡ edges) × (Zoned n × Polar (n * 131072) up) ⌝ }
     ensures { λ r. ⌜ (r ≡ zoneCount (n * 131072) (subℕ up (n * 131072))) × ((0 < r) × (r ≤ 59)) ⌝ }
 {
-    let m = n * SIZE;
-    if up < m {
-        zone_count(table, (m - up) * 36000000000, m)
-    } else {
-        zone_count(table, (up - m) * 36000000000, m)
-    }
+    let z = n as u32;
+    let a = apart(up as u32, z * 131072);
+    let k = a * units_in(z);
+    zone_count(table, k as u64)
 }
 
 // Z, the zones of latitude to a turn.

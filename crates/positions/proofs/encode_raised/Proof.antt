@@ -2,8 +2,10 @@
 -- Assumes nothing.
 use mathlib.Core.Path.{refl}
 use native.Mathlib.Omega.{arith}
+use Rattle.positions.specs.Code.{edges}
 use Rattle.positions.specs.Zones.{latitudes}
 use Rattle.positions.proofs.Answers.{counts}
+use Rattle.positions.proofs.Latitudes.{zoned}
 use borrow.Author.Needs.{needs}
 use Rattle.positions.proofs.encode_raised.Statement.{statement}
 use Rattle.positions.proofs.encode_raised.Tie as tie
@@ -18,8 +20,12 @@ latitude-whole-requires : tie.Need-latitude-whole-requires
 latitude-whole-requires c κs = search needs
 
 zone-count-at-requires : tie.Need-zone-count-at-requires
-unfolding latitudes
-zone-count-at-requires c κs = (refl, ((omega arith, omega arith), c .before .latitude-whole .ensures .1))
+unfolding edges latitudes
+zone-count-at-requires c κs =
+    let z = c .before .before .all-round in
+    let lz = c .before .before .before .latitude-zones in
+    let a = c .before .before .before .before .args in
+    (refl, (rw (z .ensures .0, lz .ensures .0) (zoned (a .turn) (a .format)), c .before .latitude-whole .ensures .1))
 
 longitude-zones-requires : tie.Need-longitude-zones-requires
 longitude-zones-requires c κs = search needs

@@ -1,8 +1,10 @@
 -- `positions::pair_fitting` meets its contract: each return is an answer of the definition, by the tests that lead there.
 -- Assumes nothing.
+use mathlib.Core.Logic.{inl, inr}
 use mathlib.Core.Path.{refl}
 use native.Mathlib.Omega.{arith}
 use Rattle.positions.specs.declared.Format.the-variants.{Even, Odd}
+use Rattle.positions.specs.Code.{edges}
 use Rattle.positions.specs.Zones.{latitudes}
 use Rattle.positions.proofs.Answers.{pair-far, even-north, odd-north, pair-apart, pair-found}
 use borrow.Author.Needs.{needs}
@@ -28,20 +30,20 @@ returns c =
     pair-far (a .even) (a .odd) (d .before .pair-latitude .result) (d .pair-latitude2 .result) (d .before .pair-latitude .ensures) (d .pair-latitude2 .ensures) (a .later) (c .if1 .taken)
 
 zone-count-at-requires : tie.Need-zone-count-at-requires
-unfolding latitudes
+unfolding edges latitudes
 zone-count-at-requires c κs =
     let d = c .before .before in
     let a = d .before .before .before .before .args in
     let e = even-north (a .even) (a .odd) (d .before .pair-latitude .result) (d .pair-latitude2 .result) (d .before .pair-latitude .ensures) (d .pair-latitude2 .ensures) (c .before .if1 .left) in
-    (refl, ((omega arith, omega arith), record { south = d .before .pair-latitude .ensures .south; north = e }))
+    (refl, (inl refl, record { south = d .before .pair-latitude .ensures .south; north = e }))
 
 zone-count-at-requires-2 : tie.Need-zone-count-at-requires-2
-unfolding latitudes
+unfolding edges latitudes
 zone-count-at-requires-2 c κs =
     let d = c .before .before .before .before in
     let a = d .before .before .before .before .args in
     let e = odd-north (a .even) (a .odd) (d .before .pair-latitude .result) (d .pair-latitude2 .result) (d .before .pair-latitude .ensures) (d .pair-latitude2 .ensures) (c .before .before .before .if1 .left) in
-    (refl, ((omega arith, omega arith), record { south = d .pair-latitude2 .ensures .south; north = e }))
+    (refl, (inr (inl refl), record { south = d .pair-latitude2 .ensures .south; north = e }))
 
 returns-2 : tie.Need-returns-2
 returns-2 c =

@@ -5,9 +5,11 @@ use mathlib.Core.Path.{_≡_, refl}
 use native.Mathlib.Omega.{arith}
 use lib.Dec.{lit<}
 use lib.IntN.{subℕ}
+use Rattle.positions.specs.Code.{edges}
 use Rattle.positions.specs.Zones.{latitudes}
 use Rattle.positions.specs.Positions.{near}
 use Rattle.positions.proofs.Naturals.{near-is}
+use Rattle.positions.proofs.Latitudes.{zoned}
 use Rattle.positions.proofs.Answers.{spot, near-far, near-south, near-north, near-found}
 use borrow.Author.Needs.{needs}
 use Rattle.positions.proofs.single_raised.Statement.{statement}
@@ -69,7 +71,7 @@ returns c =
     rw (← (lz .ensures .0), ← (z .ensures .0)) (near-far (z .result) y (spot (subℕ (a .up) 4294967296) (a .longitude)) (a .counts) (a .turn) (a .format) (found u) (c .if1 .taken))
 
 zone-count-at-requires : tie.Need-zone-count-at-requires
-unfolding latitudes
+unfolding edges latitudes
 zone-count-at-requires c κs =
     let u = c .before .before .before .before in
     let z = u .before .before .all-round in
@@ -78,7 +80,7 @@ zone-count-at-requires c κs =
     let y = u .near-latitude-zone .result .0 * 131072 + a .counts .latitude .0 in
     let south = near-south (z .result) y (spot (subℕ (a .up) 4294967296) (a .longitude)) (a .counts) (a .turn) (a .format) (found u) (c .before .if1 .left) in
     let north = near-north (z .result) y (spot (subℕ (a .up) 4294967296) (a .longitude)) (a .counts) (a .turn) (a .format) (found u) (c .before .if1 .left) in
-    (refl, ((omega arith, omega arith), record { south = south; north = north }))
+    (refl, (rw (z .ensures .0, lz .ensures .0) (zoned (a .turn) (a .format)), record { south = south; north = north }))
 
 longitude-zones-requires : tie.Need-longitude-zones-requires
 longitude-zones-requires c κs = search needs
