@@ -193,6 +193,13 @@ fn nearest(a: u64, d: u64) -> u64
     (2 * a + d) / (2 * d)
 }
 
+// The table: the paper's 58 latitudes in its unit, each rounded down.
+fn code_table() -> [u64; 58]
+    ensures { λ r. ⌜ r ≡ edges ⌝ }
+{
+    LATITUDES
+}
+
 // NL of a latitude in the table's unit, by halves: entries before `low` are below it, those from `high` on are not.
 fn zone_count(table: &[u64; 58], k: u64) -> u32
     requires { ⌜ now table ≡ edges ⌝ }
@@ -231,13 +238,13 @@ fn units_in(n: u32) -> u32
     }
 }
 
-// NL of a latitude of n zones to 360 degrees, one turn up. Its one product is of 32 bits: a small board may have no wider one.
+// NL of a latitude of n zones to 360 degrees, one turn up. Its products are of 32 bits: a small board may have no wider one.
 fn zone_count_at(table: &[u64; 58], up: u64, n: u64) -> u32
     requires { ⌜ (now table ≡ edges) × (Zoned n × Polar (n * 131072) up) ⌝ }
     ensures { λ r. ⌜ (r ≡ zoneCount (n * 131072) (subℕ up (n * 131072))) × ((0 < r) × (r ≤ 59)) ⌝ }
 {
     let z = n as u32;
-    let a = apart(up as u32, z * 131072);
+    let a = apart(up as u32, z * SIZE as u32);
     let k = a * units_in(z);
     zone_count(table, k as u64)
 }
@@ -312,7 +319,7 @@ fn encode_raised(up: u64, longitude: u32, turn: Turn, format: Format) -> Counts
     requires { ⌜ (3221225472 ≤ up) × (up ≤ 5368709120) ⌝ }
     ensures { λ r. ⌜ r ≡ countsOf 131072 (record { latitude = subℕ up 4294967296; longitude = longitude }) turn format ⌝ }
 {
-    let table = LATITUDES;
+    let table = code_table();
     let z = all_round(turn, latitude_zones(format));
     let y = latitude_whole(up, z);
     let n = all_round(turn, longitude_zones(format, zone_count_at(&table, y, z)));
@@ -418,7 +425,7 @@ fn pair_fitting(even: Counts, odd: Counts, later: Format) -> Found
     if (EVEN_NORTH < 4 * r) | (ODD_NORTH < 4 * s) {
         return Found::Refused(Refusal::Latitude);
     }
-    let table = LATITUDES;
+    let table = code_table();
     let nl = zone_count_at(&table, r, 60);
     if nl != zone_count_at(&table, s, 59) {
         return Found::Refused(Refusal::Zones);
@@ -477,7 +484,7 @@ fn single_raised(up: u64, longitude: u32, counts: Counts, turn: Turn, format: Fo
     if (4 * y < 3 * m) | (5 * m < 4 * y) {
         return Found::Refused(Refusal::Latitude);
     }
-    let table = LATITUDES;
+    let table = code_table();
     let n = all_round(turn, longitude_zones(format, zone_count_at(&table, y, z)));
     Found::At(near_spot(y, z, n, longitude, counts.longitude))
 }

@@ -4,8 +4,6 @@ use mathlib.Core.Logic.{inl, inr}
 use mathlib.Core.Path.{refl}
 use native.Mathlib.Omega.{arith}
 use Rattle.positions.specs.declared.Format.the-variants.{Even, Odd}
-use Rattle.positions.specs.Code.{edges}
-use Rattle.positions.specs.Zones.{latitudes}
 use Rattle.positions.proofs.Answers.{pair-far, even-north, odd-north, pair-apart, pair-found}
 use borrow.Author.Needs.{needs}
 use Rattle.positions.proofs.pair_fitting.Statement.{statement}
@@ -29,26 +27,27 @@ returns c =
     let a = d .before .before .before .before .args in
     pair-far (a .even) (a .odd) (d .before .pair-latitude .result) (d .pair-latitude2 .result) (d .before .pair-latitude .ensures) (d .pair-latitude2 .ensures) (a .later) (c .if1 .taken)
 
+code-table-requires : tie.Need-code-table-requires
+code-table-requires c κs = search needs
+
 zone-count-at-requires : tie.Need-zone-count-at-requires
-unfolding edges latitudes
 zone-count-at-requires c κs =
-    let d = c .before .before in
+    let d = c .before .before .before in
     let a = d .before .before .before .before .args in
-    let e = even-north (a .even) (a .odd) (d .before .pair-latitude .result) (d .pair-latitude2 .result) (d .before .pair-latitude .ensures) (d .pair-latitude2 .ensures) (c .before .if1 .left) in
-    (refl, (inl refl, record { south = d .before .pair-latitude .ensures .south; north = e }))
+    let e = even-north (a .even) (a .odd) (d .before .pair-latitude .result) (d .pair-latitude2 .result) (d .before .pair-latitude .ensures) (d .pair-latitude2 .ensures) (c .before .before .if1 .left) in
+    (c .before .code-table .ensures, (inl refl, record { south = d .before .pair-latitude .ensures .south; north = e }))
 
 zone-count-at-requires-2 : tie.Need-zone-count-at-requires-2
-unfolding edges latitudes
 zone-count-at-requires-2 c κs =
-    let d = c .before .before .before .before in
+    let d = c .before .before .before .before .before in
     let a = d .before .before .before .before .args in
-    let e = odd-north (a .even) (a .odd) (d .before .pair-latitude .result) (d .pair-latitude2 .result) (d .before .pair-latitude .ensures) (d .pair-latitude2 .ensures) (c .before .before .before .if1 .left) in
-    (refl, (inr (inl refl), record { south = d .pair-latitude2 .ensures .south; north = e }))
+    let e = odd-north (a .even) (a .odd) (d .before .pair-latitude .result) (d .pair-latitude2 .result) (d .before .pair-latitude .ensures) (d .pair-latitude2 .ensures) (c .before .before .before .before .if1 .left) in
+    (c .before .before .before .code-table .ensures, (inr (inl refl), record { south = d .pair-latitude2 .ensures .south; north = e }))
 
 returns-2 : tie.Need-returns-2
 returns-2 c =
     let n = c .before .before .before in
-    let t = n .before .before in
+    let t = n .before .before .before in
     let d = t .before in
     let a = d .before .before .before .before .args in
     pair-apart (a .even) (a .odd) (d .before .pair-latitude .result) (d .pair-latitude2 .result) (d .before .pair-latitude .ensures) (d .pair-latitude2 .ensures)
@@ -61,7 +60,7 @@ enum-told c = search needs
 pair-spot-requires : tie.Need-pair-spot-requires
 pair-spot-requires c κs =
     let n = c .before .before .before .before .before .before .before in
-    let t = n .before .before in
+    let t = n .before .before .before in
     let d = t .before in
     let a = d .before .before .before .before .args in
     let e = even-north (a .even) (a .odd) (d .before .pair-latitude .result) (d .pair-latitude2 .result) (d .before .pair-latitude .ensures) (d .pair-latitude2 .ensures) (t .if1 .left) in
@@ -73,7 +72,7 @@ enum-told-2 c = search needs
 pair-spot-requires-2 : tie.Need-pair-spot-requires-2
 pair-spot-requires-2 c κs =
     let n = c .before .before .before .before .before .before .before in
-    let t = n .before .before in
+    let t = n .before .before .before in
     let d = t .before in
     let a = d .before .before .before .before .args in
     let e = odd-north (a .even) (a .odd) (d .before .pair-latitude .result) (d .pair-latitude2 .result) (d .before .pair-latitude .ensures) (d .pair-latitude2 .ensures) (t .if1 .left) in
@@ -84,7 +83,7 @@ returns-3 c =
     let f = c .before .before .before .before .before in
     let m = f .before in
     let n = m .before .before in
-    let t = n .before .before in
+    let t = n .before .before .before in
     let d = t .before in
     let a = d .before .before .before .before .args in
     rw (c .before .enum-told .given .1)
@@ -97,7 +96,7 @@ returns-4 c =
     let f = c .before .before .before .before .before in
     let m = f .before in
     let n = m .before .before in
-    let t = n .before .before in
+    let t = n .before .before .before in
     let d = t .before in
     let a = d .before .before .before .before .args in
     rw (c .before .enum-told2 .given .1)
@@ -114,6 +113,7 @@ pair-fitting-spec =
     mul-if1
     mul-if1-2
     returns
+    code-table-requires
     zone-count-at-requires
     zone-count-at-requires-2
     returns-2

@@ -1,12 +1,10 @@
 -- `positions::single_raised` meets its contract: each return is an answer of the definition, by the tests that lead there.
 -- Assumes nothing.
 use Prim.Native.Nat.{_+_, _*_}
-use mathlib.Core.Path.{_≡_, refl}
+use mathlib.Core.Path.{_≡_}
 use native.Mathlib.Omega.{arith}
 use lib.Dec.{lit<}
 use lib.IntN.{subℕ}
-use Rattle.positions.specs.Code.{edges}
-use Rattle.positions.specs.Zones.{latitudes}
 use Rattle.positions.specs.Positions.{near}
 use Rattle.positions.proofs.Naturals.{near-is}
 use Rattle.positions.proofs.Latitudes.{zoned}
@@ -70,17 +68,19 @@ returns c =
     let y = u .near-latitude-zone .result .0 * 131072 + a .counts .latitude .0 in
     rw (← (lz .ensures .0), ← (z .ensures .0)) (near-far (z .result) y (spot (subℕ (a .up) 4294967296) (a .longitude)) (a .counts) (a .turn) (a .format) (found u) (c .if1 .taken))
 
+code-table-requires : tie.Need-code-table-requires
+code-table-requires c κs = search needs
+
 zone-count-at-requires : tie.Need-zone-count-at-requires
-unfolding edges latitudes
 zone-count-at-requires c κs =
-    let u = c .before .before .before .before in
+    let u = c .before .before .before .before .before in
     let z = u .before .before .all-round in
     let lz = u .before .before .before .latitude-zones in
     let a = u .before .before .before .before .args in
     let y = u .near-latitude-zone .result .0 * 131072 + a .counts .latitude .0 in
-    let south = near-south (z .result) y (spot (subℕ (a .up) 4294967296) (a .longitude)) (a .counts) (a .turn) (a .format) (found u) (c .before .if1 .left) in
-    let north = near-north (z .result) y (spot (subℕ (a .up) 4294967296) (a .longitude)) (a .counts) (a .turn) (a .format) (found u) (c .before .if1 .left) in
-    (refl, (rw (z .ensures .0, lz .ensures .0) (zoned (a .turn) (a .format)), record { south = south; north = north }))
+    let south = near-south (z .result) y (spot (subℕ (a .up) 4294967296) (a .longitude)) (a .counts) (a .turn) (a .format) (found u) (c .before .before .if1 .left) in
+    let north = near-north (z .result) y (spot (subℕ (a .up) 4294967296) (a .longitude)) (a .counts) (a .turn) (a .format) (found u) (c .before .before .if1 .left) in
+    (c .before .code-table .ensures, (rw (z .ensures .0, lz .ensures .0) (zoned (a .turn) (a .format)), record { south = south; north = north }))
 
 longitude-zones-requires : tie.Need-longitude-zones-requires
 longitude-zones-requires c κs = search needs
@@ -90,19 +90,19 @@ all-round-requires-2 c κs = search needs
 
 near-spot-requires : tie.Need-near-spot-requires
 near-spot-requires c κs =
-    let u = c .before .before .before .before .before .before .before in
+    let u = c .before .before .before .before .before .before .before .before in
     let z = u .before .before .all-round in
     let lz = u .before .before .before .latitude-zones in
     let a = u .before .before .before .before .args in
     let y = u .near-latitude-zone .result .0 * 131072 + a .counts .latitude .0 in
-    let t = c .before .before .before .before .if1 .left in
+    let t = c .before .before .before .before .before .if1 .left in
     let south = near-south (z .result) y (spot (subℕ (a .up) 4294967296) (a .longitude)) (a .counts) (a .turn) (a .format) (found u) t in
     let north = near-north (z .result) y (spot (subℕ (a .up) 4294967296) (a .longitude)) (a .counts) (a .turn) (a .format) (found u) t in
     (((omega arith, omega arith), record { south = south; north = north }), ((omega arith, omega arith), omega arith))
 
 returns-2 : tie.Need-returns-2
 returns-2 c =
-    let u = c .before .before .before .before .before .before .before .before in
+    let u = c .before .before .before .before .before .before .before .before .before in
     let z = u .before .before .all-round in
     let lz = u .before .before .before .latitude-zones in
     let a = u .before .before .before .before .args in
@@ -110,7 +110,7 @@ returns-2 c =
     let n = c .before .all-round2 in
     let lo = c .before .before .longitude-zones in
     let nl = c .before .before .before .zone-count-at in
-    let t = c .before .before .before .before .before .if1 .left in
+    let t = c .before .before .before .before .before .before .if1 .left in
     rw (← (lz .ensures .0), ← (z .ensures .0))
     (near-found (z .result) y (spot (subℕ (a .up) 4294967296) (a .longitude)) (a .counts) (a .turn) (a .format) (found u) t (nl .result) (lo .result) (n .result) (nl .ensures .0) (lo .ensures .0) (n .ensures .0) (c .near-spot .result) (c .near-spot .ensures))
 
@@ -131,6 +131,7 @@ single-raised-spec =
     mul-if1-3
     mul-if1-4
     returns
+    code-table-requires
     zone-count-at-requires
     longitude-zones-requires
     all-round-requires-2

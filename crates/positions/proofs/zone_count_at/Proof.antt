@@ -18,6 +18,9 @@ cast-z c = omega (arith, zoned-most (c .args .n) (c .pre .1 .0))
 cast-apart : tie.Need-cast-apart
 cast-apart c = omega (arith, zoned-most (c .args .n) (c .pre .1 .0))
 
+cast-apart-2 : tie.Need-cast-apart-2
+cast-apart-2 c = search needs
+
 mul-apart : tie.Need-mul-apart
 mul-apart c = omega (arith, zoned-most (c .args .n) (c .pre .1 .0))
 
@@ -57,6 +60,7 @@ zone-count-at-spec =
     (tie.spec
     cast-z
     cast-apart
+    cast-apart-2
     mul-apart
     apart-requires
     units-in-requires
