@@ -7,6 +7,7 @@
  *   receive    each is received
  *   flood      each is received, and must be refused since every place is held
  *   listing    for each the whole table is listed, which must be full
+ *   positioned the same, where not all tracks are asked for; each must have a position
  *   positions  each is received, and what came of it is printed. bench/run looks at it, and does not count it.
  */
 #include "harness.h"
@@ -37,17 +38,26 @@ static uint32_t flood(const struct record *record) {
     return receive(record) != ADDERCOIL_FULL;
 }
 
-static uint32_t listing(const struct record *record) {
+static uint32_t list(uint32_t all) {
     uint8_t text[ADDERCOIL_LINE];
     uint64_t key[1] = {0};
     size_t lines = 0;
-    (void)record;
-    addercoil_header(table, length, 0, 1, text, sizeof text);
+    addercoil_header(table, length, 0, all, text, sizeof text);
     while (addercoil_next(table, length, (uint32_t)key[0], key, 1) == ADDERCOIL_OK && key[0] != 0) {
-        addercoil_line(table, length, (uint32_t)key[0], 1, text, sizeof text);
+        addercoil_line(table, length, (uint32_t)key[0], all, text, sizeof text);
         lines += text[0] == 'I';
     }
     return lines != places;
+}
+
+static uint32_t listing(const struct record *record) {
+    (void)record;
+    return list(1);
+}
+
+static uint32_t positioned(const struct record *record) {
+    (void)record;
+    return list(0);
 }
 
 /* Receives, and notes whether a message that says a position gave one. */
@@ -80,8 +90,8 @@ static void print_positions(void) {
 
 int main(int count, char **arguments) {
     static const struct mode modes[] = {{"empty", do_nothing}, {"decode", decode},   {"receive", receive},
-                                        {"flood", flood},      {"listing", listing}, {"positions", note_position},
-                                        {NULL, NULL}};
+                                        {"flood", flood},      {"listing", listing}, {"positioned", positioned},
+                                        {"positions", note_position}, {NULL, NULL}};
     if (count != 6) {
         fprintf(stderr, "measure MODE CORPUS WARM COUNT PLACES\n");
         return 2;

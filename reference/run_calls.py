@@ -28,6 +28,8 @@ from vectors.table_vectors import random_track
 
 CALLS = 800  # of each function
 RECEIVED = 20  # times as many of receive, so that tracks grow
+LISTED = ["header", "next", "line"]  # what a listing calls
+DOUBLED = 150  # of each of these, on tables that hold keys twice
 LAST = 2**64 - 1
 FIRST_READING = 20  # from this entry on fields are readings
 KEYS = [kind << 24 | aa for kind in (I, O) for aa in (0, 1, 0xABCDEF, 2**24 - 1)]  # those of run_captures.message
@@ -58,9 +60,9 @@ def random_bytes(chance):
     return made
 
 
-def random_tracks(chance):
+def random_tracks(chance, least=1, most=6):
     """A table of any tracks about its clock, with twins, a site or none, and now and then a value out of its range."""
-    places, clock = chance.randrange(1, 7), chance.choice((0, 130_000, 10**9, LAST - 5))
+    places, clock = chance.randint(least, most), chance.choice((0, 130_000, 10**9, LAST - 5))
     made = bytearray(tables.length_of(places))
     if chance.randrange(2):
         tables.set_up(made, (random_latitude(chance), random_longitude(chance)))
@@ -236,13 +238,18 @@ def given_for(name, chance, table):
 # The run
 
 
-def calls(chance):
-    """The calls, in any order, each with what the model makes of it."""
+def named(chance):
+    """The functions, in any order, each with a table; then those of a listing, with tables of many places and few keys."""
     pool = Tables(chance)
     names = [*FUNCTIONS, *["receive"] * RECEIVED] * CALLS
     chance.shuffle(names)
-    for name in names:
-        table = pool.choose()
+    yield from ((name, pool.choose()) for name in names)
+    yield from ((name, random_tracks(chance, 9, 40)) for name in LISTED * DOUBLED)
+
+
+def calls(chance):
+    """The calls, each with what the model makes of it."""
+    for name, table in named(chance):
         length = about(chance, FUNCTIONS[name].length)
         given, numbers = given_for(name, chance, table), numbers_for(name, chance, table)
         call = call_text(name, table=table, given=given, length=length, numbers=numbers)
@@ -330,6 +337,17 @@ def full_missing(asked):
     )
 
 
+def doubled_missing(asked):
+    """For which choice no header was asked of a table in which a key is held twice."""
+    seen = set()
+    for call, outcome in asked:
+        words = call.split()
+        if words[0] == "header" and outcome.startswith("= 0 "):
+            held = [one for one in tables.held_keys(array_of(words[1], BYTES)) if one is not None]
+            seen |= {words[-1]} if len(set(held)) < len(held) else set()
+    return {"0", "1"} - seen
+
+
 def main():
     asked = list(calls(Random(12)))
     done = ran("c/calls", given="".join(f"{call}\n" for call, _ in asked).encode("ascii"))
@@ -338,6 +356,7 @@ def main():
         print(f"status {done.returncode} {done.stderr.decode()}\n{found}")
         return 1
     untried = [header_faults(), numbers_missing(asked), kinds_missing(asked), lost_missing(asked), full_missing(asked)]
+    untried.append(doubled_missing(asked))
     if any(untried):
         print(f"the header has other numbers than the paper, or these were never tried: {untried}")
         return 1

@@ -88,26 +88,12 @@ answered all key holding.Held t = reported (rowFor all key (some t))
 answered all key holding.Unheld t = without Nothing
 answered all key (holding.Refused r) t = without (Refused r)
 
-abbrev trackAt : Looked → Track
-trackAt x = x .track
-
 abbrev shownOf : Bool → ℕ → Looked → Report
 shownOf all key x = answered all key (x .answer) (x .track)
 
 module _ (s : List ℕ) (key : ℕ) {l : Looked} (e : l ≡ lookedUp s key) where
   found : Looked
   found = record { answer = holding.Held; track = trackOf (bodyAt s (placesIn s) (placeOf bytes s (clockOf s) key)) }
-
-  -- the track of a key that is held
-  pub looked-track : wholePlaces (length s) ≡ true → (t : Track) → view s key ≡ some t → l .track ≡ t
-  unfolding rules.lookedUp placeOf viewAt found
-  looked-track w t v = ap trackAt e ∙ by-tests (wholePlaces (length s)) (ltb (placeOf bytes s (clockOf s) key) (placesIn s)) w v
-    where
-      by-tests : (a b : Bool) → a ≡ true → trackIn (cond b (some (bytes .cell s (placeOf bytes s (clockOf s) key))) none) ≡ some t
-          → trackAt (cond (not a) (record { answer = holding.Refused Places; track = newTrack }) (cond b found (record { answer = holding.Unheld; track = newTrack }))) ≡ t
-      by-tests true true h q = cc
-      by-tests true false h q = cc
-      by-tests false b h q = cc
 
   module _ (all : Bool) where
     looked : shownOf all key l ≡ lineIn all s key

@@ -3,10 +3,8 @@ use Prim.Native.Nat.{ℕ, _+_}
 use mathlib.Core.Path.{_≡_}
 use mathlib.Core.Bool.{Bool}
 use mathlib.Core.List.{List, [], _∷_, _++_}
-use Rattle.keys.specs.Keys.{endOfKeys}
 use Rattle.text.specs.Lines.{textIn}
-use Rattle.rules.specs.declared.answers.NextKey.{NextKey}
-use Rattle.rules.specs.declared.answers.NextKey.the-variants.{Key, End, Refused}
+use Rattle.rules.specs.declared.answers.NextKey.the-variants.{Key, End}
 use Rattle.table.specs.Table.{nextAbove}
 use Rattle.report.specs.Listing.{lineIn}
 
@@ -20,9 +18,3 @@ pub data Walked (all : Bool) (s : List ℕ) : ℕ → ℕ → List ℕ → Type 
   ended : {above : ℕ} → nextAbove s above ≡ End → Walked all s above 0 []
   then : {above key n : ℕ} {text : List ℕ} → nextAbove s above ≡ Key key → Walked all s key n text
       → Walked all s above (someText (textIn (lineIn all s key .line)) + n) (textIn (lineIn all s key .line) ++ text)
-
--- the key that a walk has come to; at its end the end of the keys
-unfoldable pub keyOrLimit : NextKey → ℕ
-keyOrLimit (Key key) = key
-keyOrLimit End = endOfKeys
-keyOrLimit (Refused r) = endOfKeys

@@ -4,23 +4,20 @@ mod row;
 use refusals::Refusal;
 use rules::Clock;
 use rules::Holding;
-use rules::NextKey;
 use text::Line;
 use track::Track;
 use whereabouts::Position;
 ghost use mathlib.Core.Path.{_≡_};
+ghost use Prim.Native.Nat.{_<_};
 ghost use mathlib.Core.Bool.{true};
 ghost use mathlib.Core.List.{[]};
 ghost use mathlib.Core.Option.{some};
 ghost use lib.ListN.{length};
-ghost use Rattle.keys.specs.Keys.{endOfKeys};
 ghost use Rattle.text.specs.Lines.{lineOf};
-ghost use Rattle.memory.specs.Offsets.{wholePlaces};
-ghost use Rattle.table.specs.Table.{nextAbove};
-ghost use Rattle.table.specs.View.{view};
+ghost use Rattle.memory.specs.Offsets.{Room, wholePlaces};
 ghost use Rattle.report.specs.Listing.{shown, rowFor, rowsIn, reported, headerIn, lineIn};
 ghost use Rattle.report.specs.Listing.{without as withoutLine};
-ghost use Rattle.report.specs.Walked.{keyOrLimit};
+ghost use Rattle.report.specs.Places.{hasRow};
 
 pub enum Printed {
     Text,
@@ -53,18 +50,6 @@ fn without(answer: Printed) -> Report
     }
 }
 
-// The smallest key held above a given one; at the end of the keys their end.
-fn key_above(table: &[u8], above: u32) -> u32
-    ensures { λ r. ⌜ r ≡ keyOrLimit (nextAbove (now (table .entry)) above) ⌝ }
-{
-    let next = table::next(table, above);
-    match next {
-        NextKey::Key(key) => key,
-        NextKey::End => keys::END,
-        NextKey::Refused(_) => keys::END,
-    }
-}
-
 // Whether a track with this position is shown.
 fn is_shown(p: Position, all: bool) -> bool
     ensures { λ r. ⌜ r ≡ shown all p ⌝ }
@@ -72,17 +57,17 @@ fn is_shown(p: Position, all: bool) -> bool
     all | p.known
 }
 
-// Whether a key that is held is shown. Where all are asked for it is not looked up.
-fn shows(table: &[u8], key: u32, all: bool) -> bool
-    requires { ⌜ wholePlaces (length (now table)) ≡ true ⌝ }
-    ensures { λ r. ⌜ ((t : Track) → view (now (table .entry)) key ≡ some t → r ≡ shown all (t .position)) ⌝ }
+// Whether the place i of n has a row: it is the first of its key, so that one held twice counts once, and its track is shown.
+fn has_row(table: &[u8], n: usize, i: usize, clock: u64, all: bool) -> bool
+    requires { ⌜ (i < n) × Room n (now table) ⌝ }
+    ensures { λ r. ⌜ r ≡ hasRow all clock (now (table .entry)) n i ⌝ }
 {
-    if all {
-        return true;
+    if table_bytes::is_first(table, n, i, clock) {
+        let track = place::load(table_bytes::body(table, n, i));
+        is_shown(track.position, all)
+    } else {
+        false
     }
-    let looked = table::look_up(table, key);
-    let track = looked.track;
-    is_shown(track.position, all)
 }
 
 // How many rows the listing has.
@@ -90,15 +75,17 @@ fn count(table: &[u8], all: bool) -> u64
     requires { ⌜ wholePlaces (length (now table)) ≡ true ⌝ }
     ensures { λ r. ⌜ r ≡ length (rowsIn all (now (table .entry))) ⌝ }
 {
-    let mut n: u64 = 0;
-    let mut key = key_above(table, 0);
-    while key < keys::END {
-        if shows(table, key, all) {
-            n += 1;
+    let n = table_bytes::places_in(table);
+    let clock = table_bytes::clock_of(table);
+    let mut rows: u64 = 0;
+    let mut i = 0;
+    while i < n {
+        if has_row(table, n, i, clock, all) {
+            rows += 1;
         }
-        key = key_above(table, key);
+        i += 1;
     }
-    n
+    rows
 }
 
 // The listing's first line, of the table as it stands and a number of bad blocks: of all tracks, or of those with a position.

@@ -4,9 +4,9 @@ use Prim.Native.Nat.{ℕ, suc, zero, _+_, _*_, _-_, _≤_, _<_}
 use native.Mathlib.Omega.{arith}
 use native.Mathlib.Nat.{eq-or-lt-of-le, add-zero}
 use native.Mathlib.Numerals.{add-one}
-use mathlib.Core.Bool.{Bool, true, false, not, _&&_, _||_}
+use mathlib.Core.Bool.{Bool, true, false, not, _&&_}
 use mathlib.Core.Logic.{⊎-elim}
-use mathlib.Core.Path.{_≡_, refl, sym, _∙_}
+use mathlib.Core.Path.{_≡_, refl, sym, ap, _∙_}
 use mathlib.Core.List.{List}
 use lib.Dec.{eqb, ltb}
 use borrow.Author.Tests.{lt-ltb, le-ltb, ltb-true, ltb-false, eq-eqb, ne-eqb, not-true, not-false}
@@ -17,9 +17,10 @@ use Rattle.memory.specs.Ranges.{held}
 use Rattle.track.specs.Meaning.{meant}
 use Rattle.place.specs.Place.{writtenIn, trackOf}
 use Rattle.rules.specs.Form as form
+use Rattle.rules.specs.Search.{beats}
 use Rattle.rules.specs.Search as search
 use Rattle.table_bytes.specs.Layout.{Place, keyAt, bodyAt, placeAt, isHeld, holds}
-use Rattle.table_bytes.specs.Scan.{lowest, noneOf, allHeld, targetOf}
+use Rattle.table_bytes.specs.Scan.{lowest, noneOf, allHeld, isFirst, targetOf}
 use Rattle.table_bytes.specs.Walk.{better, smallest}
 
 -- none below i, and then one at i, whose test was h
@@ -42,22 +43,23 @@ all-fail p (suc r) h = rw (add-one r) at (lowest-none p r (all-fail p r (λ j g.
 
 -- ---- the keys, 8 and 16 at a time
 
-pub none-8 : (s : List ℕ) (at key : ℕ) {g₀ g₁ g₂ g₃ g₄ g₅ g₆ g₇ : ℕ}
-    → g₀ ≡ numberAt 4 s at → g₁ ≡ numberAt 4 s (at + 4) → g₂ ≡ numberAt 4 s (at + 8) → g₃ ≡ numberAt 4 s (at + 12)
-    → g₄ ≡ numberAt 4 s (at + 16) → g₅ ≡ numberAt 4 s (at + 20) → g₆ ≡ numberAt 4 s (at + 24) → g₇ ≡ numberAt 4 s (at + 28)
-    → not (eqb g₀ key) && not (eqb g₁ key) && not (eqb g₂ key) && not (eqb g₃ key) && not (eqb g₄ key) && not (eqb g₅ key) && not (eqb g₆ key) && not (eqb g₇ key) ≡ noneOf 8 s at key
-none-8 s at key e₀ e₁ e₂ e₃ e₄ e₅ e₆ e₇ = rw (add-zero at, e₀, e₁, e₂, e₃, e₄, e₅, e₆, e₇) refl
+-- 8 tests, one for each key
+pub none-8 : (p : ℕ → Bool) (s : List ℕ) (at : ℕ) {t₀ t₁ t₂ t₃ t₄ t₅ t₆ t₇ : Bool}
+    → t₀ ≡ p (numberAt 4 s at) → t₁ ≡ p (numberAt 4 s (at + 4)) → t₂ ≡ p (numberAt 4 s (at + 8)) → t₃ ≡ p (numberAt 4 s (at + 12))
+    → t₄ ≡ p (numberAt 4 s (at + 16)) → t₅ ≡ p (numberAt 4 s (at + 20)) → t₆ ≡ p (numberAt 4 s (at + 24)) → t₇ ≡ p (numberAt 4 s (at + 28))
+    → not t₀ && not t₁ && not t₂ && not t₃ && not t₄ && not t₅ && not t₆ && not t₇ ≡ noneOf p 8 s at
+none-8 p s at e₀ e₁ e₂ e₃ e₄ e₅ e₆ e₇ = rw (add-zero at, e₀, e₁, e₂, e₃, e₄, e₅, e₆, e₇) refl
 
-none-each : (m : ℕ) (s : List ℕ) (at key : ℕ) → noneOf m s at key ≡ true → (k : ℕ) → k < m → eqb (numberAt 4 s (at + keySize * k)) key ≡ false
-none-each zero s at key h k g = absurd (omega arith)
-none-each (suc m) s at key h k g =
+none-each : (p : ℕ → Bool) (m : ℕ) (s : List ℕ) (at : ℕ) → noneOf p m s at ≡ true → (k : ℕ) → k < m → p (numberAt 4 s (at + keySize * k)) ≡ false
+none-each p zero s at h k g = absurd (omega arith)
+none-each p (suc m) s at h k g =
     ⊎-elim
-    (λ (e : k ≡ m). rw e (not-true _ (and-right (noneOf m s at key) _ h)))
-    (λ (e : k < m). none-each m s at key (and-left (noneOf m s at key) _ h) k e)
+    (λ (e : k ≡ m). rw e (not-true _ (and-right (noneOf p m s at) _ h)))
+    (λ (e : k < m). none-each p m s at (and-left (noneOf p m s at) _ h) k e)
     (eq-or-lt-of-le {n = k} {m = m} (omega arith))
 
 pub skip-more : (s : List ℕ) (key i : ℕ) {x y : Bool} → ((j : ℕ) → j < i → eqb (numberAt 4 s (keyStart j)) key ≡ false)
-    → x ≡ noneOf 8 s (keyStart i) key → y ≡ noneOf 8 s (keyStart i + 32) key → not (x && y) ≡ false
+    → x ≡ noneOf (λ k. eqb k key) 8 s (keyStart i) → y ≡ noneOf (λ k. eqb k key) 8 s (keyStart i + 32) → not (x && y) ≡ false
     → (j : ℕ) → j < i + 16 → eqb (numberAt 4 s (keyStart j)) key ≡ false
 skip-more s key i {x} {y} below p q h j g = by-cases (ltb j i) (ltb j (i + 8)) refl refl
   where
@@ -68,10 +70,10 @@ skip-more s key i {x} {y} below p q h j g = by-cases (ltb j i) (ltb j (i + 8)) r
     by-cases true b e f = below j (ltb-true _ _ e)
     by-cases false true e f =
         let o : keyStart i + keySize * (j - i) ≡ keyStart j = omega (arith, ltb-false j i e) in
-        rw o at (none-each 8 s (keyStart i) key (sym p ∙ and-left x y two) (j - i) (omega (arith, ltb-true j (i + 8) f, ltb-false j i e)))
+        rw o at (none-each (λ k. eqb k key) 8 s (keyStart i) (sym p ∙ and-left x y two) (j - i) (omega (arith, ltb-true j (i + 8) f, ltb-false j i e)))
     by-cases false false e f =
         let o : keyStart i + 32 + keySize * (j - (i + 8)) ≡ keyStart j = omega (arith, ltb-false j (i + 8) f) in
-        rw o at (none-each 8 s (keyStart i + 32) key (sym q ∙ and-right x y two) (j - (i + 8)) (omega (arith, ltb-false j (i + 8) f)))
+        rw o at (none-each (λ k. eqb k key) 8 s (keyStart i + 32) (sym q ∙ and-right x y two) (j - (i + 8)) (omega (arith, ltb-false j (i + 8) f)))
 
 -- what was skipped is not held with the key
 pub skipped : (s : List ℕ) (n clock key r : ℕ) → ((j : ℕ) → j < r → eqb (numberAt 4 s (keyStart j)) key ≡ false) → lowest (λ j. holds clock key (placeAt s n j)) r ≡ r
@@ -122,23 +124,55 @@ module _ (s : List ℕ) (n i clock : ℕ) {k : ℕ} (e : k ≡ numberAt 4 s (key
   unfolding keyAt form.holds
   key-no key f = rw (← e, ne-eqb k key f)
 
-  module _ (above best : ℕ) where
-    module _ {p : List ℕ} (b : p ≡ bodyAt s n i) {h : Bool} (h-is : h ≡ held clock k p) (a : ltb above k && (eqb best 0 || ltb k best) ≡ true) where
-      pub better-yes : h ≡ true → k ≡ better clock above best (placeAt s n i)
-      unfolding search.better keyAt held form.isHeld trackOf writtenIn meant
-      better-yes y = rw (← e, ← b, a, ← h-is, y)
+-- ---- the walk
 
-      pub better-out : h ≡ false → best ≡ better clock above best (placeAt s n i)
-      unfolding search.better keyAt held form.isHeld trackOf writtenIn meant
-      better-out y = rw (← e, ← b, a, ← h-is, y)
+-- the best key so far after one place more, whose test was t
+module _ (s : List ℕ) (n i clock above best : ℕ) {t : Bool} (t-is : t ≡ beats above best (numberAt 4 s (keyStart i))) where
+  module _ (y : t ≡ true) {h : Bool} (h-is : h ≡ isHeld clock (placeAt s n i)) where
+    pub better-yes : h ≡ true → {k : ℕ} → k ≡ numberAt 4 s (keyStart i) → k ≡ better clock above best (placeAt s n i)
+    unfolding search.better keyAt
+    better-yes z e = rw (← t-is, y, ← h-is, z) e
 
-    pub better-no : ltb above k && (eqb best 0 || ltb k best) ≡ false → best ≡ better clock above best (placeAt s n i)
-    unfolding search.better keyAt held form.isHeld trackOf writtenIn meant
-    better-no a = rw (← e, a)
+    pub better-out : h ≡ false → best ≡ better clock above best (placeAt s n i)
+    unfolding search.better keyAt
+    better-out z = rw (← t-is, y, ← h-is, z)
+
+  pub better-no : t ≡ false → best ≡ better clock above best (placeAt s n i)
+  unfolding search.better keyAt
+  better-no y = rw (← t-is, y)
 
 -- the smallest key of one place more
 pub smallest-more : (f : ℕ → Place) (clock above i : ℕ) {best r : ℕ} → best ≡ smallest f clock above i → r ≡ better clock above best (f i) → r ≡ smallest f clock above (i + 1)
 smallest-more f clock above i e h = h ∙ rw (e, add-one i) refl
+
+-- .. and of m more, none of whose keys is better
+none-better : (s : List ℕ) (n clock above i m : ℕ) {best : ℕ} → best ≡ smallest (placeAt s n) clock above i → noneOf (beats above best) m s (keyStart i) ≡ true
+    → best ≡ smallest (placeAt s n) clock above (i + m)
+none-better s n clock above i zero e h = rw (add-zero i) e
+none-better s n clock above i (suc m) {best} e h =
+    let o : keyStart i + keySize * m ≡ keyStart (i + m) = omega arith in
+    let z : i + m + 1 ≡ i + suc m = omega arith in
+    let w : beats above best (numberAt 4 s (keyStart i + keySize * m)) ≡ false = not-true (beats above best (numberAt 4 s (keyStart i + keySize * m))) (and-right (noneOf (beats above best) m s (keyStart i)) _ h) in
+    let q : best ≡ smallest (placeAt s n) clock above (i + m) = none-better s n clock above i m e (and-left (noneOf (beats above best) m s (keyStart i)) _ h) in
+    smallest-more (placeAt s n) clock above (i + m) q (better-no s n (i + m) clock above best refl (ap (λ (x : ℕ). beats above best (numberAt 4 s x)) (sym o) ∙ w))
+    ∙ ap (λ (x : ℕ). smallest (placeAt s n) clock above x) z
+
+pub none-better-8 : (s : List ℕ) (n clock above i : ℕ) {best : ℕ} {t : Bool} → best ≡ smallest (placeAt s n) clock above i
+    → t ≡ noneOf (beats above best) 8 s (keyStart i) → not t ≡ false → best ≡ smallest (placeAt s n) clock above (i + 8)
+none-better-8 s n clock above i {t = t} e t-is h = none-better s n clock above i 8 e (sym t-is ∙ not-false t h)
+
+-- ---- the first place of a key
+
+module _ (s : List ℕ) (n clock i : ℕ) {h : Bool} (h-is : h ≡ isHeld clock (placeAt s n i)) where
+  pub first-held : h ≡ true → {k j : ℕ} → k ≡ numberAt 4 s (keyStart i) → j ≡ lowest (λ x. holds clock k (placeAt s n x)) n → eqb j i ≡ isFirst (placeAt s n) n clock i
+  unfolding keyAt
+  first-held y e g =
+      ap (λ (x : ℕ). eqb x i) g
+      ∙ ap (λ (k : ℕ). eqb (lowest (λ x. holds clock k (placeAt s n x)) n) i) e
+      ∙ sym (ap (λ (b : Bool). b && eqb (lowest (λ x. holds clock (numberAt 4 s (keyStart i)) (placeAt s n x)) n) i) (sym h-is ∙ y))
+
+  pub first-free : h ≡ false → false ≡ isFirst (placeAt s n) n clock i
+  first-free y = rw (← h-is, y)
 
 -- ---- where a message goes
 

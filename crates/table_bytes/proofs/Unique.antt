@@ -26,6 +26,8 @@ use Rattle.table_bytes.proofs.layout.whole_places.Kinds as whole-places
 use Rattle.table_bytes.proofs.layout.whole_places.Reads as whole-places
 use Rattle.table_bytes.proofs.scan.find_key.Kinds as find-key-kinds
 use Rattle.table_bytes.proofs.scan.find_key.Reads as find-key
+use Rattle.table_bytes.proofs.scan.is_first.Kinds as is-first-kinds
+use Rattle.table_bytes.proofs.scan.is_first.Reads as is-first
 use Rattle.table_bytes.proofs.scan.target_of.Kinds as target-of-kinds
 use Rattle.table_bytes.proofs.scan.target_of.Reads as target-of
 use Rattle.table_bytes.proofs.walk.smallest_above.Kinds as smallest-above-kinds
@@ -63,6 +65,9 @@ whole-places-once κs args x y left left′ p q = p ∙ sym q
 
 pub find-key-once : OneAnswer 1 find-key-kinds.ps find-key-kinds.r find-key.Post
 find-key-once κs args x y left left′ p q = p ∙ sym q
+
+pub is-first-once : OneAnswer 1 is-first-kinds.ps is-first-kinds.r is-first.Post
+is-first-once κs args x y left left′ p q = p ∙ sym q
 
 pub target-of-once : OneAnswer 1 target-of-kinds.ps target-of-kinds.r target-of.Post
 target-of-once κs args x y left left′ p q = p ∙ sym q

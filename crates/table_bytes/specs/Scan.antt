@@ -9,15 +9,19 @@ pub use Rattle.rules.specs.Search.{lowest}
 use Rattle.table_bytes.specs.declared.scan.Target.{Target}
 use Rattle.table_bytes.specs.Layout.{Place, isHeld, holds}
 
--- none of m keys from an offset on is the key
-abbrev pub noneOf : ℕ → List ℕ → ℕ → ℕ → Bool
-noneOf zero s at key = true
-noneOf (suc m) s at key = noneOf m s at key && not (eqb (numberAt 4 s (at + keySize * m)) key)
+-- none of m keys from an offset on passes a test
+abbrev pub noneOf : (ℕ → Bool) → ℕ → List ℕ → ℕ → Bool
+noneOf p zero s at = true
+noneOf p (suc m) s at = noneOf p m s at && not (p (numberAt 4 s (at + keySize * m)))
 
 -- each of m places from i on is held
 abbrev pub allHeld : ℕ → (ℕ → Place) → ℕ → ℕ → Bool
 allHeld zero f i clock = true
 allHeld (suc m) f i clock = allHeld m f i clock && isHeld clock (f (i + m))
+
+-- the place i is the first of its key: it is held, and none below it is held with its key
+abbrev pub isFirst : (ℕ → Place) → ℕ → ℕ → ℕ → Bool
+isFirst f n clock i = isHeld clock (f i) && eqb (lowest (λ j. holds clock (f i .key) (f j)) n) i
 
 -- the key's place, else the lowest free one; n if there is none
 abbrev pub target : (ℕ → Place) → ℕ → ℕ → ℕ → Target

@@ -15,5 +15,6 @@ pub use layout::store;
 pub use layout::whole_places;
 pub use scan::Target;
 pub use scan::find_key;
+pub use scan::is_first;
 pub use scan::target_of;
 pub use walk::smallest_above;

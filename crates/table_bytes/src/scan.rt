@@ -11,7 +11,7 @@ ghost use lib.ListN.{length};
 ghost use Rattle.memory.specs.Offsets.{Room, keyStart};
 ghost use Rattle.memory.specs.Bytes.{numberAt};
 ghost use Rattle.table_bytes.specs.Layout.{placeAt, isHeld, holds};
-ghost use Rattle.table_bytes.specs.Scan.{lowest, noneOf, allHeld, targetOf};
+ghost use Rattle.table_bytes.specs.Scan.{lowest, noneOf, allHeld, isFirst, targetOf};
 
 // A place, and whether it holds the key.
 pub struct Target {
@@ -22,7 +22,7 @@ pub struct Target {
 // None of the 8 keys from an offset on is the key.
 fn none_of_8(s: &[u8], at: usize, key: u32) -> bool
     requires { ⌜ (at < 5000) × (at + 32 ≤ length (now s)) ⌝ }
-    ensures { λ r. ⌜ r ≡ noneOf 8 (now (s .entry)) at key ⌝ }
+    ensures { λ r. ⌜ r ≡ noneOf (λ k. eqb k key) 8 (now (s .entry)) at ⌝ }
 {
     (get4(s, at) != key)
         & (get4(s, at + KEY) != key)
@@ -50,7 +50,7 @@ fn skip(s: &[u8], n: usize, key: u32) -> usize
     i
 }
 
-fn is_held(s: &[u8], n: usize, i: usize, clock: u64) -> bool
+pub(crate) fn is_held(s: &[u8], n: usize, i: usize, clock: u64) -> bool
     requires { ⌜ (i < n) × Room n (now s) ⌝ }
     ensures { λ r. ⌜ r ≡ isHeld clock (placeAt (now (s .entry)) n i) ⌝ }
 {
@@ -81,6 +81,18 @@ pub fn find_key(s: &[u8], n: usize, clock: u64, key: u32) -> usize
         i += 1;
     }
     n
+}
+
+// Whether the place is the first of its key. Only where it is held is its key looked for: a free one's may stand at many.
+pub fn is_first(s: &[u8], n: usize, i: usize, clock: u64) -> bool
+    requires { ⌜ (i < n) × Room n (now s) ⌝ }
+    ensures { λ r. ⌜ r ≡ isFirst (placeAt (now (s .entry)) n) n clock i ⌝ }
+{
+    if is_held(s, n, i, clock) {
+        find_key(s, n, clock, get4(s, HEAD + KEY * i)) == i
+    } else {
+        false
+    }
 }
 
 // Whether each of the 4 places from i on is held.

@@ -1,69 +1,61 @@
--- `report::count` meets its contract: at each key that the walk has come to, the rows of the keys below it are counted.
+-- `report::count` meets its contract: the places that the loop has passed and that have a row are counted.
 -- Assumes nothing.
-use Prim.Native.Nat.{ℕ, _+_, _-_, _≤_, _<_}
-use mathlib.Core.Path.{_≡_, ap, sym, _∙_}
-use mathlib.Core.Logic.{⊎-elim}
+use Prim.Native.Nat.{ℕ, _-_, _≤_}
 use native.Mathlib.Omega.{arith}
-use lib.ListN.{length}
+use mathlib.Core.Bool.{Bool}
+use mathlib.Core.Logic.{⊎-elim}
+use mathlib.Core.Path.{_≡_, refl, _∙_}
 use borrow.Author.Needs.{needs}
-use Rattle.keys.specs.Keys.{endOfKeys}
-use Rattle.report.specs.Listing.{rowsBelow}
-use Rattle.report.proofs.Keys.{Seen, Least, least, skipped-first, rows-none, rows-keep, counted-shown, counted-hidden}
+use Rattle.report.specs.Places.{hasRow}
+use Rattle.report.proofs.Counted.{one, sum, counted-yes, counted-no, counted-all}
 use Rattle.report.proofs.count.Statement.{statement}
 use Rattle.report.proofs.count.Tie as tie
 
 abbrev Inv-loop : tie.InvT-loop
-Inv-loop table all n₀ key₀ n key = (key ≤ endOfKeys) × (n ≤ key) × (n ≡ length (rowsBelow all table key)) × (key < endOfKeys → Seen table key)
+Inv-loop table all n clock rows₀ i₀ rows i = (i ≤ n) × (rows ≤ i) × (rows ≡ sum (λ j. one (hasRow all clock table n j)) i)
 
 abbrev μ-loop : tie.MeasureT-loop
-μ-loop table all n₀ key₀ n key = endOfKeys - key
+μ-loop table all n clock rows₀ i₀ rows i = n - i
 
-key-above-requires : tie.Need-key-above-requires Inv-loop μ-loop
-key-above-requires c κs = search needs
+places-in-requires : tie.Need-places-in-requires Inv-loop μ-loop
+places-in-requires c κs = search needs
+
+clock-of-requires : tie.Need-clock-of-requires Inv-loop μ-loop
+clock-of-requires c κs = search needs
 
 loop-holds : tie.Need-loop-holds Inv-loop μ-loop
-loop-holds c =
-    let s = c .before .before .args .table .now in
-    let all = c .before .before .args .all in
-    let p : Least s 0 (c .key-above .result) = rw (c .key-above .ensures) (least s 0 (c .before .before .pre) (omega arith)) in
-    (p .most, omega arith, ap length (sym (rows-none all s) ∙ skipped-first (rowsBelow all s) s (rows-keep all s) p), p .held)
+loop-holds c = (search needs, search needs, refl)
 
-shows-requires : tie.Need-shows-requires Inv-loop μ-loop
-shows-requires c κs = search needs
+has-row-requires : tie.Need-has-row-requires Inv-loop μ-loop
+has-row-requires c κs = search needs
 
-add-n : tie.Need-add-n Inv-loop μ-loop
-add-n c = search needs
+add-rows : tie.Need-add-rows Inv-loop μ-loop
+add-rows c = search needs
 
-key-above-requires-2 : tie.Need-key-above-requires-2 Inv-loop μ-loop
-key-above-requires-2 c κs = search needs
-
-module _ (c : tie.After-key-above2 Inv-loop μ-loop) where
-  next-key : Least (c .before .before .before .before .before .before .before .args .table .now) (c .before .before .before .before .loop .key) (c .key-above2 .result)
-  next-key = rw (c .key-above2 .ensures) (least _ _ (c .before .before .before .before .before .before .before .pre) (c .before .before .before .loop-test .taken))
-
-  counted-on : c .before .if1 .n ≡ length (rowsBelow (c .before .before .before .before .before .before .before .args .all) (c .before .before .before .before .before .before .before .args .table .now) (c .key-above2 .result))
-  counted-on =
-      let l = c .before .before .before .before .loop in
-      let h = l .inv .3 (c .before .before .before .loop-test .taken) in
-      let e = c .before .before .shows .ensures (h .0) (h .1) in
-      ⊎-elim
-      (λ w. w .1 ∙ ap (λ (n : ℕ). n + 1) (l .inv .2) ∙ sym (counted-shown _ _ next-key h (sym e ∙ w .0 .taken)))
-      (λ w. w .1 ∙ l .inv .2 ∙ sym (counted-hidden _ _ next-key h (sym e ∙ w .0 .left)))
-      (c .before .if1 .came)
+add-i : tie.Need-add-i Inv-loop μ-loop
+add-i c = search needs
 
 loop-less : tie.Need-loop-less Inv-loop μ-loop
-loop-less c = omega (arith, next-key c .low, next-key c .most)
+loop-less c = search needs
 
 loop-again : tie.Need-loop-again Inv-loop μ-loop
 loop-again c =
-    let p = next-key c in
-    (p .most, ⊎-elim (λ w. omega (arith, p .low)) (λ w. omega (arith, p .low)) (c .before .if1 .came), counted-on c, p .held)
+    let a = c .before .before .before .before .before .before .before .args in
+    let l = c .before .before .before .loop in
+    let has : ℕ → Bool = λ j. hasRow (a .all) (c .before .before .before .before .clock-of .result) (a .table .now) (c .before .before .before .before .before .places-in .result) j in (
+      search needs,
+      ⊎-elim (λ w. omega arith) (λ w. omega arith) (c .if1 .came),
+      ⊎-elim
+          (λ w. w .1 ∙ counted-yes has (l .i) (l .inv .2) (c .before .has-row .ensures) (w .0 .taken))
+          (λ w. w .1 ∙ counted-no has (l .i) (l .inv .2) (c .before .has-row .ensures) (w .0 .left))
+          (c .if1 .came),
+    )
 
 returns : tie.Need-returns Inv-loop μ-loop
 returns c =
-    let l = c .before .loop in
-    let e : l .key ≡ endOfKeys = omega arith in
-    l .inv .2 ∙ ap (λ (k : ℕ). length (rowsBelow (c .before .before .before .before .args .all) (c .before .before .before .before .args .table .now) k)) e
+    let a = c .before .before .before .before .before .args in
+    let e : c .before .loop .i ≡ c .before .before .before .places-in .result = omega arith in
+    counted-all (a .all) (a .table .now) (c .before .before .before .places-in .ensures .0) (c .before .before .clock-of .ensures) e (c .before .loop .inv .2)
 
 pub count-spec : {M : Type 1} → statement M
 count-spec =
@@ -71,11 +63,12 @@ count-spec =
     (tie.spec
     Inv-loop
     μ-loop
-    key-above-requires
+    places-in-requires
+    clock-of-requires
     loop-holds
-    shows-requires
-    add-n
-    key-above-requires-2
+    has-row-requires
+    add-rows
+    add-i
     loop-less
     loop-again
     returns)

@@ -1,9 +1,15 @@
 -- `table_bytes::scan::none_of_8` meets its contract: each test is the definition's.
 -- Assumes nothing.
+use Prim.Native.Nat.{ℕ}
+use mathlib.Core.Path.{_≡_, ap}
+use lib.Dec.{eqb}
 use Rattle.table_bytes.proofs.Scanned.{none-8}
 use borrow.Author.Needs.{needs}
 use Rattle.table_bytes.proofs.scan.none_of_8.Statement.{statement}
 use Rattle.table_bytes.proofs.scan.none_of_8.Tie as tie
+
+same : (key : ℕ) {g k : ℕ} → g ≡ k → eqb g key ≡ eqb k key
+same key e = ap (λ (x : ℕ). eqb x key) e
 
 get4-requires : tie.Need-get4-requires
 get4-requires c κs = search needs
@@ -71,7 +77,7 @@ get4-requires-8 c κs = search needs
 returns : tie.Need-returns
 returns c =
     let a = c .before .before .before .before .before .before .before .before .before .args in
-    none-8 (a .s .now) (a .at) (a .key) (c .before .before .before .before .before .before .before .get4 .ensures) (c .before .before .before .before .before .before .get42 .ensures) (c .before .before .before .before .before .get43 .ensures) (c .before .before .before .before .get44 .ensures) (c .before .before .before .get45 .ensures) (c .before .before .get46 .ensures) (c .before .get47 .ensures) (c .get48 .ensures)
+    none-8 (λ k. eqb k (a .key)) (a .s .now) (a .at) (same (a .key) (c .before .before .before .before .before .before .before .get4 .ensures)) (same (a .key) (c .before .before .before .before .before .before .get42 .ensures)) (same (a .key) (c .before .before .before .before .before .get43 .ensures)) (same (a .key) (c .before .before .before .before .get44 .ensures)) (same (a .key) (c .before .before .before .get45 .ensures)) (same (a .key) (c .before .before .get46 .ensures)) (same (a .key) (c .before .get47 .ensures)) (same (a .key) (c .get48 .ensures))
 
 pub none-of-8-spec : {M : Type 1} → statement M
 none-of-8-spec =

@@ -5,39 +5,45 @@ use borrow.Author.Needs.{needs}
 use Rattle.table_bytes.proofs.walk.better_of.Statement.{statement}
 use Rattle.table_bytes.proofs.walk.better_of.Tie as tie
 
-mul-get4 : tie.Need-mul-get4
-mul-get4 c = search needs
+mul-at : tie.Need-mul-at
+mul-at c = search needs
 
-add-get4 : tie.Need-add-get4
-add-get4 c = search needs
+add-at : tie.Need-add-at
+add-at c = search needs
 
-get4-requires : tie.Need-get4-requires
-get4-requires c κs = search needs
-
-body-requires : tie.Need-body-requires
-body-requires c κs = search needs
+is-better-requires : tie.Need-is-better-requires
+is-better-requires c κs = search needs
 
 is-held-requires : tie.Need-is-held-requires
 is-held-requires c κs = search needs
 
+get4-requires : tie.Need-get4-requires
+get4-requires c κs = search needs
+
 returns : tie.Need-returns
-returns c = better-yes _ _ _ _ (c .before .before .before .before .get4 .ensures) _ _ (c .before .before .body .ensures .0) (c .before .is-held .ensures) (c .before .before .before .if1 .taken) (c .if2 .taken)
+returns c =
+    let a = c .before .before .before .before .before .before .args in
+    better-yes (a .s .now) (a .n) (a .i) (a .clock) (a .above) (a .best) (c .before .before .before .before .is-better .ensures) (c .before .before .before .if1 .taken) (c .before .before .is-held .ensures) (c .before .if2 .taken) (c .get4 .ensures)
 
 returns-2 : tie.Need-returns-2
-returns-2 c = better-out _ _ _ _ (c .before .before .before .before .get4 .ensures) _ _ (c .before .before .body .ensures .0) (c .before .is-held .ensures) (c .before .before .before .if1 .taken) (c .if2 .left)
+returns-2 c =
+    let a = c .before .before .before .before .before .args in
+    better-out (a .s .now) (a .n) (a .i) (a .clock) (a .above) (a .best) (c .before .before .before .is-better .ensures) (c .before .before .if1 .taken) (c .before .is-held .ensures) (c .if2 .left)
 
 returns-3 : tie.Need-returns-3
-returns-3 c = better-no _ _ _ _ (c .before .get4 .ensures) _ _ (c .if1 .left)
+returns-3 c =
+    let a = c .before .before .before .args in
+    better-no (a .s .now) (a .n) (a .i) (a .clock) (a .above) (a .best) (c .before .is-better .ensures) (c .if1 .left)
 
 pub better-of-spec : {M : Type 1} → statement M
 better-of-spec =
     tie.close
     (tie.spec
-    mul-get4
-    add-get4
-    get4-requires
-    body-requires
+    mul-at
+    add-at
+    is-better-requires
     is-held-requires
+    get4-requires
     returns
     returns-2
     returns-3)
