@@ -121,15 +121,17 @@ def unknown_words_are_said():
     return True
 
 
-# Words that the script ./listing does not take: it ends before it proves anything.
-WRONG = ["al"], ["ALL"], [""], ["all", "al"], ["samples"], ["samples/example.capture", "all"], ["all", "samples/example.capture", "all"]
+# Words that the script ./listing does not take: it ends before it proves anything. None of the first can be read.
+NO_FILE = ["nofile"], ["all", "samples/nofile"], ["al"], ["ALL"], [""], ["all", "al"], ["samples"]
+TOO_MANY = ["samples/example.capture", "all"], ["all", "samples/example.capture", "all"], ["nofile", "nofile"]
 
 
 def script_says_usage():
-    """The script ends with 2, and prints nothing on standard output."""
-    for words in WRONG:
+    """The script ends with 2, prints nothing on standard output, and says which file it cannot read."""
+    for words in (*NO_FILE, *TOO_MANY):
         done = subprocess.run([ROOT / "listing", *words], stdin=subprocess.DEVNULL, capture_output=True, timeout=60, check=False)
-        if (done.returncode, done.stdout, done.stderr) != (2, b"", b"usage: ./listing [all] [CAPTURE]\n"):
+        said = f"./listing: '{words[-1]}' cannot be read\n" if words in NO_FILE else ""
+        if (done.returncode, done.stdout, done.stderr.decode()) != (2, b"", f"{said}usage: ./listing [all] [CAPTURE]\n"):
             print(f"./listing {words}: status {done.returncode}, {done.stdout + done.stderr}")
             return False
     return True

@@ -1,0 +1,228 @@
+/*
+ * Shows the aircraft of a receiver while its lines come on standard input: live [SECONDS [LATITUDE LONGITUDE]]. A line
+ * is *HEX; or @TTTTTTTTTTTTHEX; as dump1090 and readsb print them on port 30002; the twelve digits are the receiver's
+ * time, which is not used: a message arrives when its line does. Every so many seconds, or each second, the listing of
+ * all tracks is printed, on a terminal in place of the last one; and once more at the end of the input, or when the
+ * program is interrupted. Then it says how many messages were taken, how many were refused with which number, and how
+ * many lines had no message. With the receiver's latitude and longitude in degrees, north and east above zero,
+ * positions on the ground are read against them.
+ *
+ * tools/archive && gcc -std=c99 -Iinclude examples/c/live.c target/staticlib/libaddercoil.a -o live
+ * nc localhost 30002 | ./live
+ *
+ * On a machine that is not x86-64, say tools/cc for gcc, and run it with tools/run.
+ */
+#define _POSIX_C_SOURCE 200112L
+#include <addercoil.h>
+#include <ctype.h>
+#include <errno.h>
+#include <poll.h>
+#include <signal.h>
+#include <stdio.h>
+#include <stdlib.h>
+#include <time.h>
+#include <unistd.h>
+
+enum {
+    LONGEST = 64,        /* a line of so many bytes has no message: 42 are enough for one, and leave space around it */
+    STAMP = 12,          /* the digits of a receiver's time */
+    NUMBERS = 32,        /* more than the largest number that comes back */
+    MOST_SECONDS = 86400 /* as many milliseconds are an int */
+};
+
+/* A line, as far as it has come: its first LONGEST bytes. */
+struct line {
+    char text[LONGEST];
+    size_t length;
+};
+
+static uint8_t table[ADDERCOIL_TABLE_BYTES(1024)];
+static unsigned long answered[NUMBERS]; /* how many messages got each number */
+static unsigned long others;            /* how many lines had no message */
+static uint64_t start;
+static volatile sig_atomic_t interrupted;
+
+static void interrupt(int number) {
+    (void)number;
+    interrupted = 1;
+}
+
+/* The table's clock: milliseconds since the start, by a clock that nobody sets. */
+static uint64_t clock_now(void) {
+    struct timespec now;
+    clock_gettime(CLOCK_MONOTONIC, &now);
+    return (uint64_t)now.tv_sec * 1000 + (uint64_t)now.tv_nsec / 1000000 - start;
+}
+
+static int digit(int c) {
+    return isdigit(c) ? c - '0' : tolower(c) - 'a' + 10;
+}
+
+/* The bytes of hex digits, and how many there are: 0 if something else is among them, or half a byte is left. */
+static size_t bytes_of(const unsigned char *digits, size_t count, uint8_t *bytes) {
+    for (size_t i = 0; i < count; i++) {
+        if (!isxdigit(digits[i])) {
+            return 0;
+        }
+        bytes[i / 2] = (uint8_t)(i % 2 == 0 ? digit(digits[i]) : bytes[i / 2] * 16 + digit(digits[i]));
+    }
+    return count % 2 == 0 ? count / 2 : 0;
+}
+
+/* The bytes of a line's message, and how many there are: 0 if it has none. White space around it does no harm. */
+static size_t message_of(const struct line *line, uint8_t *bytes) {
+    const unsigned char *text = (const unsigned char *)line->text, *end = text + line->length;
+    uint8_t stamp[STAMP / 2];
+    while (text < end && isspace(*text)) {
+        text++;
+    }
+    while (text < end && isspace(end[-1])) {
+        end--;
+    }
+    if (line->length == LONGEST || end - text < 2 || (*text != '*' && *text != '@') || end[-1] != ';') {
+        return 0;
+    }
+    end--;
+    if (*text++ == '@') {
+        if (end - text < STAMP || bytes_of(text, STAMP, stamp) == 0) {
+            return 0;
+        }
+        text += STAMP;
+    }
+    return bytes_of(text, (size_t)(end - text), bytes);
+}
+
+/* A line has come to its end: its message arrives now. */
+static void end_line(struct line *line) {
+    uint8_t message[LONGEST / 2];
+    size_t count = message_of(line, message);
+    if (count == 0) {
+        others++;
+    } else {
+        answered[addercoil_receive(table, sizeof table, message, count, clock_now())]++;
+    }
+    line->length = 0;
+}
+
+/* More bytes of the input, which may end anywhere in a line. */
+static void take(struct line *line, const char *bytes, size_t count) {
+    for (size_t i = 0; i < count; i++) {
+        if (bytes[i] == '\n') {
+            end_line(line);
+        } else if (line->length < LONGEST) {
+            line->text[line->length++] = bytes[i];
+        }
+    }
+}
+
+/* The listing at a time, on a terminal in place of the last one. Whether it could be written. */
+static int print_listing(uint64_t time) {
+    static const uint8_t nothing[ADDERCOIL_MESSAGE] = {0}; /* is refused, and moves the clock */
+    uint8_t text[ADDERCOIL_LINE];
+    uint64_t key = 0;
+    addercoil_receive(table, sizeof table, nothing, sizeof nothing, time);
+    if (isatty(STDOUT_FILENO)) {
+        fputs("\033[H\033[J", stdout); /* home, and clear */
+    }
+    addercoil_header(table, sizeof table, 0, 1, text, sizeof text);
+    fputs((const char *)text, stdout);
+    while (addercoil_next(table, sizeof table, (uint32_t)key, &key, 1) == ADDERCOIL_OK && key != 0) {
+        addercoil_line(table, sizeof table, (uint32_t)key, 1, text, sizeof text);
+        fputs((const char *)text, stdout);
+    }
+    return fflush(stdout) == 0 && !ferror(stdout);
+}
+
+/* Waits for input, so many milliseconds at most, and takes it. 1, or 0 at its end, or -1 if it cannot be read. */
+static int take_input(struct line *line, int milliseconds) {
+    struct pollfd input = {STDIN_FILENO, POLLIN, 0};
+    char bytes[4096];
+    ssize_t count;
+    if (poll(&input, 1, milliseconds) <= 0) {
+        return 1; /* nothing came, or a signal */
+    }
+    count = read(STDIN_FILENO, bytes, sizeof bytes);
+    if (count < 0) {
+        return errno == EINTR || errno == EAGAIN ? 1 : -1;
+    }
+    take(line, bytes, (size_t)count);
+    return count > 0;
+}
+
+/* Takes the input to its end, and prints every so many milliseconds. Why it had to stop, or NULL. */
+static const char *run(uint64_t period) {
+    struct line line = {{0}, 0};
+    uint64_t now = 0, due = period;
+    int more = 1;
+    while (more > 0 && !interrupted) {
+        more = take_input(&line, (int)(due - now));
+        now = clock_now();
+        if (more > 0 && now >= due) {
+            if (!print_listing(now)) {
+                return "the output cannot be written";
+            }
+            due = now + period;
+        }
+    }
+    if (more == 0 && line.length > 0) {
+        end_line(&line); /* the last line, without a newline */
+    }
+    if (!print_listing(clock_now())) {
+        return "the output cannot be written";
+    }
+    return more < 0 ? "the input cannot be read to its end" : NULL;
+}
+
+static void say_counts(void) {
+    fprintf(stderr, "%lu taken", answered[ADDERCOIL_OK]);
+    for (int number = 1; number < NUMBERS; number++) {
+        if (answered[number] > 0) {
+            fprintf(stderr, ", %lu refused with %d", answered[number], number);
+        }
+    }
+    fprintf(stderr, ", %lu lines without a message\n", others);
+}
+
+/* A word that is a number from least to most; whether it is one. */
+static int number_in(const char *word, double least, double most, double *number) {
+    char *end;
+    *number = strtod(word, &end);
+    return end != word && *end == '\0' && *number >= least && *number <= most;
+}
+
+/* Degrees in 2^-32 of a turn. */
+static int64_t units(double degrees) {
+    return (int64_t)(degrees / 360 * 4294967296.0);
+}
+
+/* Sets the table up as the words ask, and says the seconds; whether there are such words. */
+static int set_up(int count, char **words, double *seconds) {
+    double latitude, longitude;
+    if (count > 0 && !number_in(words[0], 1, MOST_SECONDS, seconds)) {
+        return 0;
+    }
+    if (count < 2) {
+        return addercoil_set_up(table, sizeof table) == ADDERCOIL_OK;
+    }
+    return count == 3 && number_in(words[1], -90, 90, &latitude) && number_in(words[2], -180, 180, &longitude) &&
+           addercoil_set_up_at(table, sizeof table, (int32_t)units(latitude), (uint32_t)units(longitude)) ==
+               ADDERCOIL_OK;
+}
+
+int main(int count, char **arguments) {
+    double seconds = 1;
+    const char *fault;
+    if (!set_up(count - 1, arguments + 1, &seconds)) {
+        fputs("usage: live [SECONDS [LATITUDE LONGITUDE]], 1 second or more, degrees to the north and east\n", stderr);
+        return 2;
+    }
+    signal(SIGINT, interrupt);
+    start = clock_now();
+    fault = run((uint64_t)(seconds * 1000));
+    say_counts();
+    if (fault != NULL) {
+        fprintf(stderr, "live: %s\n", fault);
+        return 1;
+    }
+    return 0;
+}

@@ -1,0 +1,50 @@
+"""The commands that a paper shows, taken from its text and run as a user types them, for tools/try-readme and tools/try-guide."""
+import platform
+import re
+import subprocess
+import sys
+from pathlib import Path
+
+ROOT = Path(__file__).resolve().parent.parent
+COMMAND = re.compile(r'(\./|tools/|gcc |rt |export |nc )')
+PROGRESS = re.compile(r'^(proving |crate \d+ of |the last crate).*\n', flags=re.M)
+BUILT = re.compile(r'(?<!\S)(gcc|\./(?:c-listing|live|my))(?!\S)')  # a compiler, and what the papers build with it
+
+
+def blocks(section):
+    """The blocks of a section that are set in by four spaces, each a list of lines."""
+    found, last = [], ''
+    for line in section.splitlines():
+        if line.startswith('    '):
+            if not last.startswith('    '):
+                found.append([])
+            found[-1].append(line[4:])
+        last = line
+    return found
+
+
+def as_typed_here(command):
+    """The command as the papers say to type it on this machine: where it is not x86-64, tools/cc for gcc, and tools/run before what was built."""
+    if platform.machine() == 'x86_64':
+        return command
+    return BUILT.sub(lambda found: f'{ROOT}/tools/cc' if found[1] == 'gcc' else f'{ROOT}/tools/run {found[1]}', command)
+
+
+def ran(commands, folder=ROOT, **environment):
+    """What commands of one shell print: on standard error, but for the progress of proofs, then on standard output."""
+    print(f'$ {commands}', flush=True)
+    command = ['bash', '-e', '-o', 'pipefail', '-c', commands]
+    done = subprocess.run(command, cwd=folder, stdin=subprocess.DEVNULL, capture_output=True, text=True, check=False, **environment)
+    if done.returncode != 0:
+        sys.exit(f'{done.stdout}{done.stderr}{sys.argv[0]}: that ended with status {done.returncode}')
+    return PROGRESS.sub('', done.stderr) + done.stdout
+
+
+def compare(paper, shown, printed):
+    """Ends where something else was printed than the paper shows; '..' ends one of which the beginning is shown."""
+    lines = printed.splitlines()
+    if shown[-1] == '..':
+        shown = shown[:-1]
+        lines = lines[:len(shown)]
+    if lines != shown:
+        sys.exit('\n'.join([f'{sys.argv[0]}: {paper} shows', *shown, 'and here comes', *lines]))
