@@ -23,7 +23,9 @@
  *   - Latitude and longitude are in 2^-32 of a turn of 360 degrees. Latitude is signed, -2^30 (south pole) to 2^30.
  *     Longitude runs from 0 to the east, so that 2^31 is 180 degrees.
  *   - Times are in milliseconds, from whatever start the caller likes.
- *   - A key is an aircraft: its kind, 1 for an ICAO address and 2 for another one, times 2^24, plus its 24-bit address.
+ *   - A key is an aircraft: its kind times 2^24, plus the 24 bits of AA. Of what aircraft send themselves the kinds are 1,
+ *     I: an ICAO address, and 2, O: another one. Of what a ground station's traffic service sends (DF 18 with CF 2 or 5)
+ *     they are 3, T: an ICAO address; 4, M: a Mode A code of 12 bits, then a track number of 12; 5, N: another address.
  *
  * Link with libaddercoil.a, which `rt staticlib addercoil` writes to target/staticlib/.
  */
@@ -43,14 +45,14 @@ enum {
     ADDERCOIL_LENGTH = 1,    /* a message that is not of 14 bytes, or a result array of a wrong length */
     ADDERCOIL_LATE = 2,      /* a time below the table's clock */
     ADDERCOIL_PARITY = 3,    /* a parity remainder that is not 0 */
-    ADDERCOIL_FORMAT = 4,    /* a DF or CF that is not taken: only DF 17, and DF 18 with CF 0 or 1, are */
-    ADDERCOIL_TYPE = 5,      /* a TYPE or subtype that is not taken */
+    ADDERCOIL_FORMAT = 4,    /* a DF or CF that is not taken: only DF 17, and DF 18 with CF 0, 1, 2 or 5, are */
+    ADDERCOIL_TYPE = 5,      /* a TYPE or subtype that is not taken, or CF 5 with the flag of its address set */
     ADDERCOIL_FULL = 6,      /* a new aircraft, and no place is free */
     ADDERCOIL_PLACES = 7,    /* a table that is not of 1 to 1,024 whole places */
     ADDERCOIL_FIELD = 8,     /* a field wider than its bits or that no such message has, a latitude beyond a pole, a choice above 1 */
     ADDERCOIL_LATITUDE = 9,  /* a decoded latitude beyond a pole */
     ADDERCOIL_ZONES = 10,    /* two latitudes in different longitude zones */
-    ADDERCOIL_NO_TRACK = 12  /* TYPE 0, an altitude alone, of an aircraft that is not held: it starts no track */
+    ADDERCOIL_NO_TRACK = 12  /* an aircraft that is not held, and a message that starts no track: see addercoil_receive */
 };
 
 /* ---- The table: tracks in bytes that the caller lends ---- */
@@ -77,10 +79,11 @@ uint32_t addercoil_set_up_at(uint8_t *table, size_t table_len, int32_t latitude,
 /*
  * A message of 14 bytes received at a time: starts or updates its aircraft's track, and moves the clock to the time.
  * A track goes when it was last heard 125,000 ms ago. TYPE 0 starts no track, and of one that is held it updates when it
- * was last heard and, unless the altitude code is 0, the pressure altitude.
+ * was last heard and, unless the altitude code is 0, the pressure altitude. A track of kind T, M or N is started by a
+ * position message alone, of TYPE 5-18 or 20-22.
  * Or ADDERCOIL_LENGTH, ADDERCOIL_PLACES, ADDERCOIL_LATE, which leave the table as it was;
- * or ADDERCOIL_PARITY, ADDERCOIL_FORMAT, ADDERCOIL_TYPE, and last ADDERCOIL_FULL, or of TYPE 0 ADDERCOIL_NO_TRACK, which
- * move the clock, so that tracks out of date go, and leave the other tracks as they were.
+ * or ADDERCOIL_PARITY, ADDERCOIL_FORMAT, ADDERCOIL_TYPE, and last ADDERCOIL_FULL, or of a message that starts no track
+ * ADDERCOIL_NO_TRACK, which move the clock, so that tracks out of date go, and leave the other tracks as they were.
  */
 uint32_t addercoil_receive(uint8_t *table, size_t table_len, const uint8_t *message, size_t message_len, uint64_t time);
 
@@ -161,7 +164,7 @@ uint32_t addercoil_header(const uint8_t *table, size_t table_len, uint64_t bad, 
 
 /*
  * The line of a key, "I ABCDEF 1400 536870912 1073741824 10000" and a newline, then zeros, into out of ADDERCOIL_LINE
- * bytes: kind I or O, address, last heard, latitude, longitude, pressure altitude, "-" for what is unknown. All zeros,
+ * bytes: kind I, O, T, M or N, AA, last heard, latitude, longitude, pressure altitude, "-" for what is unknown. All zeros,
  * the empty string, if the key is not held or its track is not shown. Or ADDERCOIL_LENGTH, ADDERCOIL_PLACES,
  * ADDERCOIL_FIELD for all above 1.
  */
@@ -242,8 +245,8 @@ enum {
 enum {
     ADDERCOIL_LAYOUT = 0,
     ADDERCOIL_DF = 1,       /* 17 or 18 */
-    ADDERCOIL_CA = 2,       /* 3 bits: CA of DF 17; CF of DF 18, which is 0 or 1 */
-    ADDERCOIL_AA = 3,       /* 24 bits: the address */
+    ADDERCOIL_CA = 2,       /* 3 bits: CA of DF 17; CF of DF 18, which is 0, 1, 2 or 5 */
+    ADDERCOIL_AA = 3,       /* 24 bits: the address; of kind M the Mode A code, then the track number */
     ADDERCOIL_KEY = 4,      /* the encoder does not read it */
     ADDERCOIL_TYPECODE = 5  /* 5 bits: TYPE, one of those of the layout */
 };
@@ -251,6 +254,16 @@ enum {
 /*
  * From entry 5 on the fields of ME in the order of their bits, each with how many bits it has, 1 bit where nothing
  * is said; from entry 20 on readings, which say what the codes mean, and which the encoder does not read.
+ *
+ * Under DF 18 with CF 2 or 5, a ground station's traffic service, the same bits stand under the same names, and some
+ * mean something else:
+ *   - SURFACE_T, AIRBORNE_BIT8, GROUND_BIT9 and AIR_BIT9 are the flag of the address. Under CF 2 the kind is T if it is
+ *     0, and M if it is 1; under CF 5 it is N if it is 0, and 1 is reserved. An identification has none: that counts as 0.
+ *   - Of a velocity NACp is 8 * BIT10 + NACV, and VERTICAL_SOURCE is the GEO flag. If that is 1, the height difference is
+ *     as elsewhere. If it is 0, there is none, and its reading is unknown: of ME bits 47 to 56, which stand in
+ *     VERTICAL_RESERVED (2 bits), _BELOW (1) and _DIFFERENCE_CODE (7), 48-50 are then NACv, 51-52 SIL and, through air,
+ *     55 whether the heading is true or magnetic. Bit 47 is the NIC supplement either way. Which source the vertical
+ *     rate has is not sent.
  */
 enum {
     ADDERCOIL_IDENTIFICATION_CATEGORY = 6,    /* 3 bits */
@@ -264,7 +277,7 @@ enum {
     ADDERCOIL_SURFACE_MOVEMENT = 6,          /* 7 bits: 0 unknown, 1 stopped, 2-123 rising speeds, 124 over */
     ADDERCOIL_SURFACE_STATUS = 7,            /* 1 if the heading is valid */
     ADDERCOIL_SURFACE_HEADING = 8,           /* 7 bits: 128ths of a turn */
-    ADDERCOIL_SURFACE_T = 9,
+    ADDERCOIL_SURFACE_T = 9,                 /* under CF 2 and 5 the flag of the address */
     ADDERCOIL_SURFACE_F = 10,                /* 0 even, 1 odd */
     ADDERCOIL_SURFACE_LATITUDE_COUNT = 11,   /* 17 bits, as of addercoil_encode_position */
     ADDERCOIL_SURFACE_LONGITUDE_COUNT = 12,  /* 17 bits */
@@ -275,7 +288,7 @@ enum {
 };
 enum {
     ADDERCOIL_AIRBORNE_SURVEILLANCE = 6,      /* 2 bits */
-    ADDERCOIL_AIRBORNE_BIT8 = 7,
+    ADDERCOIL_AIRBORNE_BIT8 = 7,              /* under CF 2 and 5 the flag of the address */
     ADDERCOIL_AIRBORNE_ALTITUDE_CODE = 8,     /* 12 bits: 0 unknown; if 16 is set, N of the others is 25 N - 1,000 ft */
     ADDERCOIL_AIRBORNE_T = 9,
     ADDERCOIL_AIRBORNE_F = 10,                /* 0 even, 1 odd */
@@ -288,9 +301,9 @@ enum {
 };
 enum {
     ADDERCOIL_GROUND_SUBTYPE = 6,  /* 3 bits: 1, or 2 for speeds in 4 knots */
-    ADDERCOIL_GROUND_BIT9 = 7,
-    ADDERCOIL_GROUND_BIT10 = 8,
-    ADDERCOIL_GROUND_NACV = 9,        /* 3 bits */
+    ADDERCOIL_GROUND_BIT9 = 7,        /* under CF 2 and 5 the flag of the address */
+    ADDERCOIL_GROUND_BIT10 = 8,       /* under CF 2 and 5 the first bit of NACp */
+    ADDERCOIL_GROUND_NACV = 9,        /* 3 bits; under CF 2 and 5 the other three of NACp */
     ADDERCOIL_GROUND_WEST = 10,       /* 1 if the next is to the west */
     ADDERCOIL_GROUND_EASTWARD = 11,   /* 10 bits: 0 unknown, n is n - 1 knots, 1023 over */
     ADDERCOIL_GROUND_SOUTH = 12,      /* 1 if the next is to the south */
@@ -302,9 +315,9 @@ enum {
 };
 enum {
     ADDERCOIL_AIR_SUBTYPE = 6,  /* 3 bits: 3, or 4 for a speed in 4 knots */
-    ADDERCOIL_AIR_BIT9 = 7,
-    ADDERCOIL_AIR_BIT10 = 8,
-    ADDERCOIL_AIR_NACV = 9,            /* 3 bits */
+    ADDERCOIL_AIR_BIT9 = 7,            /* under CF 2 and 5 the flag of the address */
+    ADDERCOIL_AIR_BIT10 = 8,           /* under CF 2 and 5 the first bit of NACp */
+    ADDERCOIL_AIR_NACV = 9,            /* 3 bits; under CF 2 and 5 the other three of NACp */
     ADDERCOIL_AIR_STATUS = 10,         /* 1 if the heading is valid */
     ADDERCOIL_AIR_HEADING = 11,        /* 10 bits: 1,024ths of a turn */
     ADDERCOIL_AIR_AIRSPEED_KIND = 12,  /* 0 indicated, 1 true */
@@ -316,7 +329,7 @@ enum {
 };
 /* Both velocities end alike. */
 enum {
-    ADDERCOIL_VERTICAL_SOURCE = 14,
+    ADDERCOIL_VERTICAL_SOURCE = 14,           /* under CF 2 and 5 the GEO flag: 1 if there is a height difference */
     ADDERCOIL_VERTICAL_DOWN = 15,             /* 1 if the rate is downwards */
     ADDERCOIL_VERTICAL_RATE_CODE = 16,        /* 9 bits: 0 unknown, n is 64 (n - 1) feet per minute, 511 over */
     ADDERCOIL_VERTICAL_RESERVED = 17,         /* 2 bits */
@@ -324,7 +337,7 @@ enum {
     ADDERCOIL_VERTICAL_DIFFERENCE_CODE = 19,  /* 7 bits: 0 unknown, n is 25 (n - 1) feet, 127 over */
     ADDERCOIL_VERTICAL_RATE_IS = 24,  /* feet per minute, signed: down is below zero */
     ADDERCOIL_VERTICAL_RATE = 25,
-    ADDERCOIL_VERTICAL_DIFFERENCE_IS = 26,  /* feet, signed: GNSS height less pressure altitude */
+    ADDERCOIL_VERTICAL_DIFFERENCE_IS = 26,  /* feet, signed: GNSS height less pressure altitude; see the GEO flag */
     ADDERCOIL_VERTICAL_DIFFERENCE = 27
 };
 

@@ -1,4 +1,4 @@
-"""The paper, "Captures and the listing", and R-1 of document 02: which tracks the listing shows."""
+"""The paper, "Captures and the listing"; of document 02 the requests R-1, which tracks the listing shows, and R-3, its kinds."""
 
 import readings
 import table
@@ -8,7 +8,7 @@ from refusals import Refused
 BLOCK, RECORD, MOST_RECORDS = 512, 22, 23
 HEAD, SEAL = 3, 3  # count and serial; the three bytes that make the remainder 0
 PLACES = 256  # the program "listing" has 256 places and no site
-KINDS = {1: "I", 2: "O"}
+KINDS = {1: "I", 2: "O", 3: "T", 4: "M", 5: "N"}
 UNKNOWN = "-"
 
 # Writing
@@ -112,7 +112,7 @@ def is_shown(track, every):
 
 
 def shown(made, every):
-    """The keys and tracks that the listing of a table shows, by kind, I first, then address."""
+    """The keys and tracks that the listing of a table shows, by kind, I O T M N, then address."""
     return [(key, track) for key, track in table.walk(made) if is_shown(track, every)]
 
 

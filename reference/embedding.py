@@ -140,7 +140,7 @@ READINGS = {
 
 def message_readings(layout, message):
     """What the codes of a message mean."""
-    meant = readings.body(LAYOUTS[layout][0], message)
+    meant = readings.body(LAYOUTS[layout][0], message, messages.is_traffic(message))
     if layout == "IDENTIFICATION":
         meant |= {"set": ord(meant["set"]), "text": number_of_text(meant["text"])}
     entries = {}

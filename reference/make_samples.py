@@ -17,8 +17,8 @@ import table
 from captures import BLOCK, MOST_RECORDS, PLACES, SEAL, block, capture, listing, listing_of, offer
 from parity import sealed
 from positions import EVEN, ODD
-from traffic import NO_TRANSPONDER, OTHER, TRANSPONDER
-from vectors.message_vectors import flipped, sealed_message
+from traffic import ANOTHER, ICAO, MODE_A, NO_TRANSPONDER, OTHER, TRANSPONDER
+from vectors.message_vectors import FLAGS, NOT_TAKEN, flipped, sealed_message
 
 MINUTE = 60_000
 HOUR = 60 * MINUTE
@@ -106,7 +106,7 @@ def with_faults(chance, records):
     for _ in range(60):
         place = chance.randrange(len(records))
         aa = int.from_bytes(records[place][1][1:4], "big")
-        strange = sealed_message(18, chance.randrange(2, 8), aa, 11, 0), sealed_message(17, 5, aa, 31, 0), bytes(14)
+        strange = sealed_message(18, chance.choice(NOT_TAKEN), aa, 11, 0), sealed_message(17, 5, aa, 31, 0), bytes(14)
         records.insert(place, (records[place][0], chance.choice(strange)))
     for _ in range(60):
         place = chance.randrange(len(records) - 40)
@@ -192,6 +192,60 @@ def gliders():
     return capture(sorted(rows))
 
 
+# Near an airport, where a ground station sends what its radar sees
+
+
+def seen_by_radar(head, aa, spot, feet, first=0):
+    """An aircraft of a ground station's traffic service: a position every 2 seconds, velocities between them, and its name."""
+    for k, time in enumerate(range(first, first + MINUTE, 2_000)):
+        here = spot[0] + 20_000 * k, (spot[1] - 30_000 * k) % 2**32
+        code = traffic.hundreds_code(feet + k // 4 * 100) if head == MODE_A else traffic.altitude_code(feet + 25 * k)
+        yield time, traffic.airborne(head, aa, k % 2, here, 11, code)
+        yield time + 700, traffic.velocity(head, aa, -150, 90, 640)
+    yield first + 5_300, traffic.identification(head, aa, "TRAFFIC")
+
+
+def taxiing(head, aa, spot):
+    """One that lands: two messages from the air, then a minute on the surface."""
+    for time, i in ((200, EVEN), (900, ODD)):
+        yield time, traffic.airborne(head, aa, i, spot, 12)
+    for k, time in enumerate(range(2_000, MINUTE, 5_000)):
+        yield time, traffic.surface(head, aa, k % 2, (spot[0] + 300 * k, spot[1]), movement=20 + k)
+
+
+def not_begun(head, aa):
+    """All but a position message: of kinds T, M and N this starts no track."""
+    yield 3_000, traffic.identification(head, aa, "NOBODY")
+    yield 4_000, traffic.velocity(head, aa, 100, 100)
+    yield 5_000, traffic.no_position(head, aa)
+
+
+def strange_traffic(aa):
+    """CF 5 with the flag set in each layout, which is refused with 5; CF 3, 4, 6 and 7, with 4."""
+    for time, (type_code, flag) in enumerate(((7, FLAGS[0]), (11, FLAGS[1]), (0, FLAGS[1]), (19, FLAGS[2] | 1 << 48)), 50):
+        yield 1_000 * time, sealed_message(18, 5, aa, type_code, flag)
+    for cf in sorted({*NOT_TAKEN}):
+        yield 55_000 + cf, sealed_message(18, cf, aa, 11, 888 << 36)
+
+
+def airport():
+    """Kinds T, M and N beside I and O: one address of all five, a Mode A code, one that lands, and what starts no track."""
+    north, east, both = 51 * DEGREE, 4 * DEGREE, 0x484412
+    code = 0o1200 << 12 | 7  # Mode A code 1200, track number 7
+    rows = []
+    for k, head in enumerate((TRANSPONDER, OTHER, ICAO, MODE_A, ANOTHER)):
+        rows += seen_by_radar(head, both, (north, (k - 2) * east % 2**32), 3_000 + 1_000 * k, 100 * k)
+    rows += seen_by_radar(MODE_A, code, (north + DEGREE, east), 1_500, 50)
+    rows += taxiing(ICAO, 0x484413, (north, east))
+    rows += taxiing(MODE_A, 0o7000 << 12 | 4095, (north, -east % 2**32))
+    for head in (ICAO, MODE_A, ANOTHER):
+        rows += not_begun(head, 0x484414)
+    place = north, 2 * east
+    rows += [(6_000, traffic.airborne(ICAO, 0x484415, EVEN, place)), (6_400, traffic.airborne(MODE_A, 0x484415, ODD, place))]
+    rows += [(6_800, traffic.airborne(ANOTHER, 0x484415, EVEN, place, 20)), *strange_traffic(0x484415)]
+    return capture(sorted(rows))
+
+
 # A minute, in hex
 
 
@@ -233,7 +287,7 @@ def hex_listing(strings, step, every):
     return listing_of(made, 0, every).encode("ascii"), refused
 
 
-SAMPLES = {"example": example, "busy-hour": busy_hour, "crowd": crowd, "gliders": gliders}
+SAMPLES = {"example": example, "busy-hour": busy_hour, "crowd": crowd, "gliders": gliders, "airport": airport}
 RUN = "example"  # its two listings are the same
 LISTINGS = {"listing": True, "positioned": False}  # the ending of a sample's listing, and whether all are asked for
 

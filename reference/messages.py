@@ -1,4 +1,5 @@
-"""The paper, "What the decoder covers" and "ME fields, by bit numbers of ME"; of TYPE 0 the request R-2.
+"""The paper, "What the decoder covers" and "ME fields, by bit numbers of ME"; of TYPE 0 the request R-2, of DF 18 with CF 2
+and 5, a ground station's traffic service, the request R-3.
 
 A message is its fields by name, in the order of their bits; those the paper leaves without a
 name are called by their bit numbers. All bits, reserved ones included, are kept.
@@ -49,8 +50,13 @@ def field(string, first, last):
 
 
 def df_taken(df, ca_or_cf):
-    """Taken: DF 17 with any CA, and DF 18 with CF 0 or 1."""
-    return df == 17 or df == 18 and ca_or_cf in (0, 1)
+    """Taken: DF 17 with any CA, and DF 18 with CF 0, 1, 2 or 5."""
+    return df == 17 or df == 18 and ca_or_cf in (0, 1, 2, 5)
+
+
+def is_traffic(message):
+    """Whether a ground station's traffic service sent it: DF 18 with CF 2 or 5."""
+    return message["DF"] == 18 and message["CA or CF"] in (2, 5)
 
 
 def layout(type_code, subtype):
@@ -68,6 +74,25 @@ def layout(type_code, subtype):
     return None
 
 
+def flag_name(fields):
+    """What says which address AA is: ME bit 21 on the surface, 8 airborne, 9 of a velocity; an identification has none."""
+    if fields is SURFACE:
+        return "T"
+    if fields is AIRBORNE:
+        return "bit 8"
+    return None if fields is IDENTIFICATION else "bit 9"
+
+
+def flag(message):
+    """The flag of a message; it counts as 0 where there is none."""
+    return message.get(flag_name(layout(message["TYPE"], message.get("subtype"))), 0)
+
+
+def is_reserved(message):
+    """CF 5 with the flag set."""
+    return message["DF"] == 18 and message["CA or CF"] == 5 and flag(message) == 1
+
+
 def decode(string):
     """The decoded message, or 1, 3, 4, 5 in that order."""
     if len(string) != 14:
@@ -81,7 +106,10 @@ def decode(string):
     fields = layout(message["TYPE"], field(me, 6, 8))
     if fields is None:
         raise Refused(5)
-    return message | {name: field(me, first, last) for name, first, last in fields}
+    message |= {name: field(me, first, last) for name, first, last in fields}
+    if is_reserved(message):
+        raise Refused(5)
+    return message
 
 
 def encode(message):
@@ -89,7 +117,7 @@ def encode(message):
     if not df_taken(message["DF"], message["CA or CF"]):
         raise Refused(8)
     fields = layout(message["TYPE"], message.get("subtype"))
-    if fields is None or list(message) != [name for name, _, _ in HEAD + fields]:
+    if fields is None or list(message) != [name for name, _, _ in HEAD + fields] or is_reserved(message):
         raise Refused(8)
     whole = 0
     for name, first, last in HEAD + fields:

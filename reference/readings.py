@@ -151,9 +151,10 @@ def text(characters):
     return "".join(chr(character(characters >> place & 63)) for place in range(42, -1, -6))
 
 
-def body(fields, message):
-    """What the fields of a layout mean, by name.
+def body(fields, message, traffic=False):
+    """What the fields of a layout mean, by name, in a message of a ground station's traffic service or another one.
 
+    Of traffic the height difference is unknown unless ME bit 36, where others have the rate source, is set: R-3.
     8 for the whole of it where one field is wider than its bits, or TYPE and subtype are not those of the layout.
     """
     for name, first, last in [("TYPE", 1, 5), *fields]:
@@ -173,7 +174,8 @@ def body(fields, message):
         first = {"east": east, "north": north}
     else:
         first = {"heading": heading(message["heading"]), "airspeed": speed(subtype, 0, message["airspeed"])}
+    no_difference = traffic and message["rate source"] == 0
     return first | {
         "rate": rate(message["rate sign"], message["rate"]),
-        "difference": difference(message["difference sign"], message["difference"]),
+        "difference": UNKNOWN if no_difference else difference(message["difference sign"], message["difference"]),
     }

@@ -13,26 +13,27 @@ import messages
 import table as tables
 import traffic
 from captures import BLOCK, MOST_RECORDS, block
-from embedding import AT, BYTES, FUNCTIONS, WORDS, WRITES, array_of, call_text, message_row, outcome_text, row
+from embedding import AT, BYTES, FUNCTIONS, WORDS, WRITES, array_of, call_text, message_from, message_row, outcome_text, row
 from positions import AIRBORNE, EVEN, ODD
 from positions import encode as counts_of
 from programs import ran
 from readings import UNKNOWN, altitude
 from refusals import Refused
 from run_captures import damaged, message
-from tracks import I, O, Track
-from traffic import OTHER, TRANSPONDER
-from vectors.message_vectors import random_acceptable, sealed_message
+from tracks import KINDS as KIND_NUMBERS
+from tracks import I, Track
+from traffic import GROUND, OTHER, TRANSPONDER
+from vectors.message_vectors import random_acceptable, random_reserved, sealed_message
 from vectors.position_vectors import random_counts, random_latitude, random_longitude
 from vectors.table_vectors import random_track
 
 CALLS = 800  # of each function
-RECEIVED = 20  # times as many of receive, so that tracks grow
+RECEIVED = 20  # times as many of receive, so that tracks grow; and twice as many of decode, for the sorts of message
 LISTED = ["header", "next", "line"]  # what a listing calls
 DOUBLED = 150  # of each of these, on tables that hold keys twice
 LAST = 2**64 - 1
 FIRST_READING = 20  # from this entry on fields are readings
-KEYS = [kind << 24 | aa for kind in (I, O) for aa in (0, 1, 0xABCDEF, 2**24 - 1)]  # those of run_captures.message
+KEYS = [kind << 24 | aa for kind in KIND_NUMBERS for aa in (0, 1, 0xABCDEF, 2**24 - 1)]  # those of run_captures.message
 
 
 def number(chance):
@@ -154,21 +155,29 @@ def edge_message(chance):
     type_code, subtype = chance.choice(LAYOUTS)
     fields = {name: edge(chance, last - first + 1) for name, first, last in messages.layout(type_code, subtype)}
     fields |= {"subtype": subtype} if subtype else {}
-    return traffic.message(chance.choice((TRANSPONDER, OTHER)), chance.choice(KEYS) % 2**24, type_code, **fields)
+    return traffic.message(chance.choice((TRANSPONDER, OTHER, *GROUND)), chance.choice(KEYS) % 2**24, type_code, **fields)
 
 
 def some_message(chance):
-    """A message, one in ten of any DF, CF and TYPE, one in ten of another length than 14."""
+    """A message, one in ten of any DF, CF and TYPE, or with the reserved flag, one in ten of another length than 14."""
     length, made = about(chance, 14), chance.choice((message, edge_message))(chance)
+    if chance.randrange(20) == 0:
+        made = random_reserved(chance, chance.choice(KEYS) % 2**24)
     if chance.randrange(10) == 0:
         head = chance.choice((17, 18, chance.randrange(32))), chance.randrange(8)
         made = sealed_message(*head, chance.choice(KEYS) % 2**24, chance.randrange(32), chance.getrandbits(51))
     return made.ljust(length, b"\0")[:length]
 
 
+FLAG = {AT["SURFACE"]: AT["SURFACE_T"], AT["AIRBORNE"]: AT["AIRBORNE_BIT8"]}  # the entry of the flag by the layout
+FLAG |= {AT["GROUND"]: AT["GROUND_BIT9"], AT["AIR"]: AT["AIR_BIT9"]}
+
+
 def some_fields(chance):
     """The fields of a message, often with one changed, or a wrong length. What the encoder does not read is anything."""
     entries = row(AT["FIELDS"], message_row(messages.decode(random_acceptable(chance))))
+    if entries[AT["CA"]] == 5 and entries[AT["LAYOUT"]] in FLAG and chance.randrange(2):
+        entries[FLAG[entries[AT["LAYOUT"]]]] = 1  # reserved under DF 18
     for at in (AT["KEY"], *range(FIRST_READING, AT["FIELDS"])):
         entries[at] = number(chance)
     if chance.randrange(2):
@@ -241,7 +250,7 @@ def given_for(name, chance, table):
 def named(chance):
     """The functions, in any order, each with a table; then those of a listing, with tables of many places and few keys."""
     pool = Tables(chance)
-    names = [*FUNCTIONS, *["receive"] * RECEIVED] * CALLS
+    names = [*FUNCTIONS, "decode", *["receive"] * RECEIVED] * CALLS
     chance.shuffle(names)
     yield from ((name, pool.choose()) for name in names)
     yield from ((name, random_tracks(chance, 9, 40)) for name in LISTED * DOUBLED)
@@ -329,6 +338,56 @@ def lost_missing(asked):
     return {(number, code) for number in ("0", "12") for code in ("zero", "unknown", "known")} - seen
 
 
+def sort_of(string):
+    """Of what a ground station's traffic service sends its kind, or that its flag is reserved, and what it carries; else None."""
+    if len(string) != 14 or string[0] not in (18 << 3 | 2, 18 << 3 | 5):
+        return None
+    type_code, me = string[4] >> 3, string[4:11]
+    sorts = {"lost": [0], "name": range(1, 5), "surface": range(5, 9), "velocity": [19], "airborne": [*range(9, 19), 20, 21, 22]}
+    sort = next((sort for sort, types in sorts.items() if type_code in types), "none")
+    place = {"lost": 8, "surface": 21, "velocity": 9, "airborne": 8}.get(sort)
+    flag = messages.field(me, place, place) if place else 0
+    return "TM"[flag] if string[0] % 8 == 2 else ("N", "reserved")[flag], sort
+
+
+def sort_of_fields(entries):
+    """Whether the encoder would take these fields but for their flag, which is reserved."""
+    try:
+        made = message_from(entries)
+        messages.encode(made | {"CA or CF": 0})
+        return messages.is_reserved(made)
+    except (Refused, IndexError):
+        return False
+
+
+def of_traffic(name, words, outcome):
+    """What one call tried of a ground station's traffic."""
+    if name == "receive":
+        return sort_of(array_of(words[1], BYTES)), outcome[1]
+    if name == "decode" and outcome[1] == "0" and len(outcome[2]) == 2 * WORDS * AT["FIELDS"]:
+        entries = array_of(outcome[2], WORDS)
+        said = sort_of(array_of(words[0], BYTES))
+        if said and said[1] == "velocity":
+            return "difference", entries[AT["VERTICAL_SOURCE"]], entries[AT["VERTICAL_DIFFERENCE_IS"]]
+    if name == "encode" and outcome[1] == "8" and sort_of_fields(array_of(words[0], WORDS)):
+        return "encode", "8"
+    if name == "look_up" and outcome[1] == "0" and len(outcome[2]) == 2 * WORDS * AT["TRACK"]:
+        return "look_up", int(words[-1]) >> 24, array_of(outcome[2], WORDS)[0]
+    return None
+
+
+def traffic_missing(asked):
+    """What was never tried of it: each sort of message taken, 12 and 6; the reserved flag of each layout; the difference."""
+    seen = {of_traffic(call.split()[0], call.split()[1:], outcome.split()) for call, outcome in asked}
+    due = {((kind, sort), number) for kind in "TMN" for sort in ("lost", "velocity") for number in ("0", "12")}
+    due |= {((kind, "name"), number) for kind in "TN" for number in ("0", "12")}
+    due |= {((kind, sort), number) for kind in "TMN" for sort in ("surface", "airborne") for number in ("0", "6")}
+    due |= {(("reserved", sort), "5") for sort in ("lost", "surface", "velocity", "airborne")}
+    due |= {("difference", 0, AT["UNKNOWN"]), *(("difference", 1, AT[kind]) for kind in STEPPED)}
+    due |= {("encode", "8"), *(("look_up", kind, held) for kind in KIND_NUMBERS for held in (0, 1))}
+    return due - seen
+
+
 def full_missing(asked):
     """Whether a table of 1,024 places was never full for a stranger."""
     length = 2 * tables.length_of(1024)
@@ -355,8 +414,8 @@ def main():
     if done.returncode != 0 or found:
         print(f"status {done.returncode} {done.stderr.decode()}\n{found}")
         return 1
-    untried = [header_faults(), numbers_missing(asked), kinds_missing(asked), lost_missing(asked), full_missing(asked)]
-    untried.append(doubled_missing(asked))
+    untried = [header_faults(), numbers_missing(asked), kinds_missing(asked), lost_missing(asked), traffic_missing(asked)]
+    untried += [full_missing(asked), doubled_missing(asked)]
     if any(untried):
         print(f"the header has other numbers than the paper, or these were never tried: {untried}")
         return 1

@@ -15,15 +15,15 @@ from captures import BLOCK, MOST_RECORDS, SEAL, block, listing
 from make_samples import SAMPLES, resealed
 from positions import EVEN, ODD
 from programs import ROOT, ran
-from traffic import NO_TRANSPONDER, OTHER, TRANSPONDER
-from vectors.message_vectors import flipped, random_acceptable, random_no_position
+from traffic import GROUND, NO_TRANSPONDER, OTHER, TRANSPONDER
+from vectors.message_vectors import flipped, random_acceptable, random_no_position, random_reserved
 
 RANDOM_CAPTURES = 200
 
 
 def message(chance):
     """A message: of one of a few aircraft, of anybody, damaged, or noise."""
-    head, aa = chance.choice((TRANSPONDER, NO_TRANSPONDER, OTHER)), chance.choice((0, 1, 0xABCDEF, 2**24 - 1))
+    head, aa = chance.choice((TRANSPONDER, NO_TRANSPONDER, OTHER, *GROUND)), chance.choice((0, 1, 0xABCDEF, 2**24 - 1))
     place = chance.randrange(-(2**30), 2**30), chance.randrange(2**32)
     near = 2**29 + chance.randrange(10**6), 2**30 + chance.randrange(10**6)
     return chance.choice((
@@ -31,6 +31,7 @@ def message(chance):
         lambda: traffic.airborne(head, aa, chance.choice((EVEN, ODD)), place, chance.choice((9, 18, 20)), chance.getrandbits(12)),
         lambda: traffic.surface(head, aa, chance.choice((EVEN, ODD)), near),
         lambda: traffic.identification(head, aa, "ADDER1"),
+        lambda: chance.choice((traffic.velocity(head, aa, 9, 9), random_reserved(chance, aa))),
         lambda: random_no_position(chance, head, aa),
         lambda: random_acceptable(chance),
         lambda: flipped(random_acceptable(chance), chance.randrange(1, 113)),

@@ -9,12 +9,21 @@ at the first that changed. Of its calls one in 100 is compared here. The first d
 import sys
 from collections import Counter
 
+import messages
+from captures import KINDS
 from embedding import FUNCTIONS, outcome_text
 from programs import ran
+from tracks import kind_of
 
 SEED, CALLS, EVERY = 16, 600_000, 100
 MOST_SECONDS = 120
 NUMBERS = {*map(str, (*range(11), 12))}  # the paper's, and 12; 11 is answered by no C function, a bad block is counted
+
+
+def kind(call, outcome):
+    """The kind of a message that was received and accepted, or None."""
+    name, *words = call.split()
+    return KINDS[kind_of(messages.decode(bytes.fromhex(words[1])))] if name == "receive" and outcome.startswith("0 ") else None
 
 
 def main():
@@ -24,7 +33,7 @@ def main():
     if done.returncode != 0:
         print(f"status {done.returncode} {done.stderr.decode()}\n{sample[-1] if sample else ''}")
         return 1
-    names, answers = Counter(), Counter()
+    names, answers, kinds = Counter(), Counter(), set()
     for line in sample:
         call, outcome = line.split(" = ")
         if f"= {outcome}" != outcome_text(call):
@@ -32,7 +41,8 @@ def main():
             return 1
         names[call.split()[0]] += 1
         answers[outcome.split()[0]] += call.split()[0] != "table_bytes"
-    missing = {*FUNCTIONS} - {*names} | NUMBERS - {*answers}
+        kinds.add(kind(call, outcome))
+    missing = {*FUNCTIONS} - {*names} | NUMBERS - {*answers} | {*KINDS.values()} - kinds
     if missing and (seed, calls) == (SEED, CALLS):
         print(f"the sample has none of {missing}")
         return 1

@@ -25,7 +25,7 @@ from parity import GENERATOR, remainder, seal, sealed
 from positions import AIRBORNE, COUNTS, EVEN, FIGURES, ODD, STEP, SURFACE, UNIT, zone_count, zones
 from refusals import Refused, answer
 from tracks import Position, Saved, Track
-from traffic import OTHER, TRANSPONDER
+from traffic import ANOTHER, GROUND, ICAO, MODE_A, OTHER, TRANSPONDER
 from vectors import message_vectors, position_vectors, readings_vectors, table_vectors
 
 assertions = 0
@@ -237,6 +237,14 @@ def layouts():
     equal("subtypes taken", [s for s in range(8) if of_type[19, s]], [1, 2, 3, 4])
 
 
+def flag_in(bits):
+    """The flag, by the bit numbers of a message: ME bits 8, 21 and 9 are its bits 40, 53 and 41. None counts as 0."""
+    type_code = int(bits[32:37], 2)
+    if type_code == 0 or 9 <= type_code <= 18 or 20 <= type_code <= 22:
+        return bits[40 - 1]
+    return {**dict.fromkeys((5, 6, 7, 8), bits[53 - 1]), 19: bits[41 - 1]}.get(type_code, "0")
+
+
 def message_laws():
     """The order 1, 3, 4, 5, bit by bit; both round trips; what the encoder refuses."""
     chance = Random(12)
@@ -246,11 +254,13 @@ def message_laws():
             due = 1
         elif remainder(string) != 0:
             due = 3
-        elif bits[:5] != "10001" and bits[:8] not in ("10010000", "10010001"):
+        elif bits[:5] != "10001" and bits[:8] not in ("10010000", "10010001", "10010010", "10010101"):
             due = 4
         elif bits[32:37] > "10110":
             due = 5
         elif bits[32:37] == "10011" and not "001" <= bits[37:40] <= "100":
+            due = 5
+        elif bits[:8] == "10010101" and flag_in(bits) == "1":
             due = 5
         else:
             due = 0
@@ -264,7 +274,9 @@ def message_laws():
         fields = messages.HEAD + messages.layout(message["TYPE"], message.get("subtype"))
         name, first, last = chance.choice(fields)
         refused(8, messages.encode, message | {name: message[name] + (1 << last - first + 1)})
-        refused(8, messages.encode, message | {"DF": 18, "CA or CF": 2})
+        refused(8, messages.encode, message | {"DF": 18, "CA or CF": chance.choice((3, 4, 6, 7))})
+        reserved = answer(messages.encode, message | {"DF": 18, "CA or CF": 5}) == "refused 8"
+        equal("CF 5 encoded, unless the flag is set", reserved, flag_in(bits) == "1")
         refused(8, messages.encode, message | {"TYPE": chance.choice(range(23, 32))})
         refused(8, messages.encode, message | {"TYPE": 4 if message["TYPE"] > 4 else 5})
         if fields[4:] == messages.AIRBORNE:
@@ -624,6 +636,64 @@ def lost_positions():
     refused(3, lent_table.receive, made, message_vectors.flipped(lost, 60), 2_000)
 
 
+def kinds():
+    """R-3: the kind by DF, CF and flag; of DF 17 neither CA nor a bit of ME decides."""
+    due = {(18, 0, 0): 1, (18, 0, 1): 1, (18, 1, 0): 2, (18, 1, 1): 2, (18, 2, 0): 3, (18, 2, 1): 4, (18, 5, 0): 5}
+    due |= {(17, ca, flag): 1 for ca in range(8) for flag in (0, 1)}
+    due |= {(18, cf, flag): "refused 4" for cf in (3, 4, 6, 7) for flag in (0, 1)} | {(18, 5, 1): "refused 5"}
+    for (df, ca_or_cf, flag), kind in due.items():
+        for type_code, bit in ((0, 8), (5, 21), (8, 21), (9, 8), (18, 8), (20, 8), (22, 8), (19, 9)):
+            for others in (0, sum(message_vectors.FLAGS)):  # the flags of the other layouts
+                rest = others & ~(1 << 56 - bit) | flag << 56 - bit
+                rest = rest & ~(7 << 48) | 3 << 48 if type_code == 19 else rest
+                string = message_vectors.sealed_message(df, ca_or_cf, ONE, type_code, rest)
+                found = answer(lambda: tracks.key_of(messages.decode(string)))
+                equal(f"DF {df}, {ca_or_cf}, flag {flag}", found, kind if isinstance(kind, str) else str(kind << 24 | ONE))
+        for rest in (0, 2**51 - 1):
+            name = message_vectors.sealed_message(df, ca_or_cf, ONE, 4, rest)
+            plain = due[df, ca_or_cf, 0]
+            found = answer(lambda: tracks.key_of(messages.decode(name)))
+            equal("an identification has no flag", found, plain if isinstance(plain, str) else str(plain << 24 | ONE))
+
+
+def begun():
+    """R-3: of T, M and N a position message starts a track, whether or not a position comes out of it; nothing else does."""
+    for head in (TRANSPONDER, OTHER, *GROUND):
+        for type_code, subtype in table_vectors.EVERY_TYPE:
+            string = table_vectors.of_type(head, ONE, type_code, subtype)
+            position = type_code in (5, 6, 7, 8, *range(9, 19), 20, 21, 22)
+            may = position if head in GROUND else type_code != 0
+            key = tracks.key_of(messages.decode(string))
+            made, full = new_table(1), heard(new_table(1), (from_air(EVEN, aa=TWO), 1_000))
+            given = answer(lent_table.receive, made, string, 1_000)
+            equal("starts, or 12", given == "refused 12", not may)
+            equal("it is held", lent_table.look_up(made, key) is not None, may)
+            equal("6, or 12", answer(lent_table.receive, full, string, 1_000), "refused 6" if may else "refused 12")
+    pairs = [(one, other) for one in (TRANSPONDER, OTHER, *GROUND) for other in (TRANSPONDER, OTHER, *GROUND)]
+    for one, other in pairs:
+        made = heard(new_table(2), (from_air(EVEN, head=one), 1_000), (from_air(ODD, head=other), 1_400))
+        found = [track.position.known for _, track in lent_table.walk(made)]
+        equal("one address, two kinds: not paired", found, [1] if one == other else [0, 0])
+    letters = [captures.line(key, Track(position=Position(1, *HERE, 0)))[:8] for key in (KEY + (kind << 24) for kind in range(5))]
+    equal("the letters", letters, ["I ABCDEF", "O ABCDEF", "T ABCDEF", "M ABCDEF", "N ABCDEF"])
+
+
+def differences():
+    """R-3: of a velocity under CF 2 and 5 the height difference is unknown unless ME bit 36 is set; the rest is as it was."""
+    for subtype in (1, 2, 3, 4):
+        fields = messages.layout(19, subtype)
+        for source, sign, code in ((source, sign, code) for source in (0, 1) for sign in (0, 1) for code in (0, 1, 23, 127)):
+            body = dict.fromkeys(readings_vectors.widths(fields), 1) | {"TYPE": 19, "subtype": subtype, "rate source": source}
+            body |= {"difference sign": sign, "difference": code}
+            plain, of_ground = readings.body(fields, body), readings.body(fields, body, True)
+            equal("plain", plain["difference"], readings.difference(sign, code))
+            equal("the rest", of_ground | {"difference": 0}, plain | {"difference": 0})
+            equal("difference", of_ground["difference"], plain["difference"] if source else "unknown")
+    for head, cf in ((ICAO, 2), (MODE_A, 2), (ANOTHER, 5), (OTHER, 1)):
+        message = messages.decode(traffic.message(head, ONE, 19, subtype=1, difference=23))
+        equal("CF", (message["CA or CF"], messages.is_traffic(message)), (cf, cf != 1))
+
+
 def bytes_of_tracks():
     """A body of a track, read again; the layout's offsets; a table that no set-up made."""
     chance = Random(16)
@@ -680,7 +750,8 @@ class Swept:
         self.places = [at if at and time - at[1].heard < 125_000 else None for at in self.places]
         key = tracks.key_of(messages.decode(string))
         mine = [at[0] if at else None for at in self.places]
-        if key not in mine and string[4] < 8:  # TYPE 0
+        type_code, of_ground = string[4] >> 3, string[0] in (0x92, 0x95)  # DF 18 with CF 2 or 5
+        if key not in mine and (type_code == 0 or of_ground and type_code in (1, 2, 3, 4, 19)):
             raise Refused(12)
         if key not in mine and None not in mine:
             raise Refused(6)
@@ -702,7 +773,7 @@ def swept_tables():
         addresses = chance.sample(range(2**24), places + 1)
         for _ in range(150):
             time += chance.choices(table_vectors.STEPS, table_vectors.WEIGHTS)[0]
-            head, aa = chance.choice((TRANSPONDER, OTHER)), chance.choice(addresses)
+            head, aa = chance.choice((TRANSPONDER, OTHER, *GROUND)), chance.choice(addresses)
             string = table_vectors.random_message(chance, head, aa, table_vectors.moved(chance, HERE))
             if chance.randrange(4) == 0:
                 string = message_vectors.random_no_position(chance, head, aa)
@@ -713,15 +784,19 @@ def swept_tables():
             given = answer(lent_table.receive, made, string, now)
             due = answer(swept.receive, string, now)
             equal("refused or not", given if given.startswith("refused") else "None", due)
-            answers.add(("TYPE 0" if string[4] < 8 else "other", due))
+            sort = "TYPE 0" if string[4] < 8 else "position" if string[4] >> 3 not in (1, 2, 3, 4, 19) else "other"
+            answers.add((string[0] in (0x92, 0x95), sort, due))
             equal("the tracks held", lent_table.walk(made), swept.held())
             mine = int.from_bytes(string[1:4], "big") if not given.startswith("refused") else -1
             for key, track in lent_table.walk(made):
                 if key % 2**24 != mine:
                     equal("a stranger's message does nothing", track, before[key])
             equal("the first key", lent_table.next_key(made, 0), min(dict(swept.held()), default=None))
-    equal("6 and 12", {row for row in answers if row[1][-2:] in (" 6", "12")}, {("other", "refused 6"), ("TYPE 0", "refused 12")})
-    true("TYPE 0 accepted", ("TYPE 0", "None") in answers)
+    full = {(ground, "position", "refused 6") for ground in (False, True)} | {(False, "other", "refused 6")}
+    unheld = {(ground, "TYPE 0", "refused 12") for ground in (False, True)} | {(True, "other", "refused 12")}
+    equal("6 and 12", {row for row in answers if row[2][-2:] in (" 6", "12")}, full | unheld)
+    accepted = {(ground, sort, "None") for ground in (False, True) for sort in ("TYPE 0", "position", "other")}
+    equal("accepted", accepted - answers, set())
 
 
 # Captures and the listing
@@ -774,7 +849,7 @@ def positioned():
 
 
 def random_captures():
-    """Among the records of the random captures are TYPE 0s that are accepted, and some that earn 12."""
+    """Among the records of the random captures are TYPE 0s, and CF 2 and 5, that are accepted, and some that earn 12 or 5."""
     chance, seen = Random(11), set()
     for whole in [run_captures.random_capture(chance) for _ in range(20)]:
         made = new_table(captures.PLACES)
@@ -782,8 +857,12 @@ def random_captures():
             records = [] if answer(captures.records_of, one) == "refused 11" else captures.records_of(one)
             for time, string in records:
                 given = answer(lent_table.receive, made, string, time)
-                seen |= {given if given.startswith("refused") else "accepted"} if string[4] < 8 else set()
-    equal("TYPE 0 in captures", {"accepted", "refused 12", "refused 2"} - seen, set())
+                given = given if given.startswith("refused") else "accepted"
+                seen |= {given} if string[4] < 8 else set()
+                seen |= {(string[0] & 7, given)} if string[0] in (0x92, 0x95) and string[4] >= 8 else set()
+    due = {"accepted", "refused 12", "refused 2", (5, "refused 5")}
+    due |= {(cf, given) for cf in (2, 5) for given in ("accepted", "refused 12")}
+    equal("TYPE 0 and traffic in captures", due - seen, set())
 
 
 def blocks():
@@ -868,6 +947,9 @@ TESTS = [
     track_edges,
     track_rules,
     lost_positions,
+    kinds,
+    begun,
+    differences,
     bytes_of_tracks,
     swept_tables,
     listings,

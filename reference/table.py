@@ -7,7 +7,7 @@ Numbers are low byte first. A call changes the table in place, or raises Refused
 from messages import IDENTIFICATION, OVER_GROUND, SURFACE, THROUGH_AIR, decode, layout
 from positions import latitude_test
 from refusals import Refused
-from tracks import I, O, Position, Saved, Track, is_stale, key_of, starts, step
+from tracks import KINDS, Position, Saved, Track, is_stale, key_of, starts, step
 
 HEAD, KEY, BODY = 16, 4, 75
 HEARD, LATITUDE = 0, 33  # in a body; the latitude is the only value of it that has a range
@@ -143,7 +143,7 @@ def held_keys(table):
     clock, keys = clock_of(table), []
     for place, at in enumerate(range(body_at(table, 0), len(table), BODY)):
         key, heard = get(table, key_at(place), KEY), get(table, at + HEARD, 8)
-        in_range = key >> 24 in (I, O) and get(table, at + LATITUDE, 4) <= 2 * POLE
+        in_range = key >> 24 in KINDS and get(table, at + LATITUDE, 4) <= 2 * POLE
         keys.append(key if in_range and not is_stale(heard, clock) else None)
     return keys
 

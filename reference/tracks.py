@@ -1,9 +1,12 @@
-"""The paper, "Tracks": one track, and its step by one message; of TYPE 0 the request R-2. Times are whole milliseconds."""
+"""The paper, "Tracks": one track, and its step by one message; of TYPE 0 the request R-2, of kinds T, M and N the request R-3.
+
+Times are whole milliseconds.
+"""
 
 from typing import NamedTuple
 
 from messages import AIRBORNE as AIRBORNE_FIELDS
-from messages import IDENTIFICATION, decode, layout
+from messages import IDENTIFICATION, decode, flag, is_traffic, layout
 from messages import SURFACE as SURFACE_FIELDS
 from positions import AIRBORNE, EVEN, ODD, SURFACE, pair, single
 from refusals import Refused
@@ -12,7 +15,7 @@ STALE = 125_000  # a track goes when clock minus last heard is this or more
 PARTNER = 10_000  # paired with the other one if that is at most this old
 REFERENCE = 120_000  # read against the track's position if at most this old
 
-I, O = 1, 2  # the kinds, in the order of the listing
+I, O, T, M, N = KINDS = 1, 2, 3, 4, 5  # in the order of the listing
 
 
 class Saved(NamedTuple):
@@ -46,14 +49,22 @@ class Track(NamedTuple):
     saved: tuple = (Saved(), Saved())  # the latest even and the latest odd one, by F
 
 
+def kind_of(message):
+    """I for DF 17, and for DF 18 with CF 0; O for CF 1. CF 2 is T, or M with the flag set; CF 5 is N."""
+    if message["DF"] == 17:
+        return I
+    return {0: I, 1: O, 2: M if flag(message) else T, 5: N}[message["CA or CF"]]
+
+
 def key_of(message):
-    """A track's key is AA with its kind: I for DF 17 and for DF 18 CF 0, O for CF 1."""
-    kind = O if message["DF"] == 18 and message["CA or CF"] == 1 else I
-    return kind << 24 | message["AA"]
+    """A track's key is AA with its kind."""
+    return kind_of(message) << 24 | message["AA"]
 
 
 def starts(message):
-    """Whether a message may start a track: TYPE 0 never does."""
+    """Whether a message may start a track: TYPE 0 never does; of a ground station's traffic only a position message does."""
+    if is_traffic(message):
+        return 5 <= message["TYPE"] <= 18 or 20 <= message["TYPE"] <= 22
     return message["TYPE"] != 0
 
 

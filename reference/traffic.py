@@ -1,17 +1,23 @@
 """Messages of aircraft, for runs of the table and for captures."""
 
-from messages import HEAD, encode, layout
+from messages import HEAD, encode, flag_name, layout
 from positions import AIRBORNE, SURFACE
 from positions import encode as counts_of
+from readings import altitude as altitude_of
 
 TRANSPONDER, NO_TRANSPONDER, OTHER = (17, 5), (18, 0), (18, 1)  # DF, and CA or CF: kinds I, I and O
+# of a ground station's traffic service the flag too: kinds T, M and N
+ICAO, MODE_A, ANOTHER = GROUND = (18, 2, 0), (18, 2, 1), (18, 5, 0)
 
 
 def message(head, aa, type_code, **fields):
-    """14 bytes of remainder 0; the fields of ME by name, 0 where none is given."""
-    names = [name for name, _, _ in layout(type_code, fields.get("subtype"))]
+    """14 bytes of remainder 0; the fields of ME by name, 0 where none is given. The flag is the head's, where there is one."""
+    rows = layout(type_code, fields.get("subtype"))
+    names = [name for name, _, _ in rows]
     assert set(fields) <= set(names)
-    values = [*head, aa, type_code, *(fields.get(name, 0) for name in names)]
+    if len(head) == 3 and flag_name(rows):
+        fields[flag_name(rows)] = head[2]
+    values = [*head[:2], aa, type_code, *(fields.get(name, 0) for name in names)]
     return encode(dict(zip([name for name, _, _ in HEAD] + names, values)))
 
 
@@ -19,6 +25,11 @@ def altitude_code(feet):
     """The code with Q 1 of an altitude: N is seven bits, Q and four bits more."""
     n = (feet + 1000) // 25
     return n >> 4 << 5 | 1 << 4 | n & 15
+
+
+def hundreds_code(feet):
+    """The code with Q 0 of an altitude in hundreds of feet."""
+    return next(code for code in range(4096) if not code & 16 and altitude_of(code) == feet)
 
 
 def airborne(head, aa, i, place, type_code=11, altitude=888):

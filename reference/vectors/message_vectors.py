@@ -4,20 +4,38 @@ A record: one byte n, then n bytes. A line: `refused N`; or the fields in the or
 then the message encoded again, in hex.
 """
 
+from itertools import product
 from random import Random
 
 import published
-from messages import decode, encode
+from messages import AIRBORNE, IDENTIFICATION, SURFACE, decode, encode, layout
 from parity import GENERATOR, sealed
 from refusals import answer
+from traffic import GROUND, NO_TRANSPONDER, OTHER
 
-STARTING_TYPES = [*range(1, 23)]  # those that may start a track: all that are taken but TYPE 0
+STARTING_TYPES = [*range(1, 23)]  # those that may start a track of kind I or O: all that are taken but TYPE 0
+NOT_TAKEN = (3, 3, 4, 4, 6, 7)  # CFs of DF 18, for a draw
+FLAGS = 1 << 35, 1 << 48, 1 << 47  # ME bits 21, 8 and 9 in the last 51 bits of ME
 
 
 def sealed_message(df, ca_or_cf, aa, type_code, rest):
     """14 bytes of remainder 0 with these fields; rest is the last 51 bits of ME."""
     whole = ((df << 3 | ca_or_cf) << 24 | aa) << 56 | type_code << 51 | rest
     return sealed(whole.to_bytes(11, "big"))
+
+
+def flag_bit(type_code):
+    """Where a TYPE has the flag, in the last 51 bits of ME: on the surface, airborne, of a velocity; 0 where it has none."""
+    fields = layout(type_code, 1)
+    if fields in (None, IDENTIFICATION):
+        return 0
+    return FLAGS[0] if fields is SURFACE else FLAGS[1] if fields is AIRBORNE else FLAGS[2]
+
+
+def of_head(head, aa, type_code, rest):
+    """The message of a head; where that has a flag, it stands where the TYPE has it."""
+    bit = flag_bit(type_code) if len(head) == 3 else 0
+    return sealed_message(*head[:2], aa, type_code, rest & ~bit | bit * head[-1])
 
 
 def random_rest(chance, type_code):
@@ -49,14 +67,27 @@ def random_no_position(chance, head, aa):
     """A message of TYPE 0: as a sender should make it, or with any bits."""
     altitude = chance.choice((0, 888, *altitude_codes(), chance.getrandbits(12)))
     rest = chance.choice((0, chance.getrandbits(51)))
-    return sealed_message(*head, aa, 0, rest & ~(4095 << 36) | altitude << 36)
+    return of_head(head, aa, 0, rest & ~(4095 << 36) | altitude << 36)
+
+
+def random_traffic(chance):
+    """An acceptable message of a ground station's traffic service, of any TYPE but 0."""
+    type_code = chance.choice([*STARTING_TYPES, 19, 19, 19])
+    return of_head(chance.choice(GROUND), chance.getrandbits(24), type_code, random_rest(chance, type_code))
+
+
+def random_reserved(chance, aa):
+    """CF 5 with the flag set: good parity, and refused with 5."""
+    type_code = chance.choice((0, 5, 8, 11, 22, 19, 19))
+    return of_head((18, 5, 1), aa, type_code, random_rest(chance, type_code))
 
 
 def random_acceptable(chance):
-    """An acceptable message of any TYPE, often of TYPE 0."""
-    if chance.randrange(4):
-        return random_valid(chance)
-    head = chance.choice([(17, chance.randrange(8)), (18, 0), (18, 1)])
+    """An acceptable message of any kind and TYPE, often of TYPE 0."""
+    kind = chance.randrange(8)
+    if kind < 5:
+        return random_valid(chance) if kind < 3 else random_traffic(chance)
+    head = chance.choice([(17, chance.randrange(8)), NO_TRANSPONDER, OTHER, *GROUND])
     return random_no_position(chance, head, chance.getrandbits(24))
 
 
@@ -140,6 +171,44 @@ def no_position(chance):
         yield random_no_position(chance, (chance.choice((17, 18, chance.randrange(32))), chance.randrange(8)), chance.getrandbits(24))
 
 
+def each_flag(chance):
+    """Bits 21, 8 and 9 of ME, in each TYPE and subtype: under CF 5 that of its layout decides, elsewhere none does."""
+    for type_code, subtype in product(range(32), range(8)):
+        if subtype and type_code != 19:
+            continue
+        for head in ((18, 2), (18, 5), (17, 2), (17, 5), *((18, cf) for cf in (0, 1, 3, 4, 6, 7))):
+            for bits in product((0, 1), repeat=3) if head in ((18, 2), (18, 5)) else ((0, 0, 0), (1, 1, 1)):
+                flags = sum(bit * flag for bit, flag in zip(bits, FLAGS))
+                rest = chance.choice((0, chance.getrandbits(51))) & ~sum(FLAGS) | flags
+                rest = rest & ~(7 << 48) | subtype << 48 if type_code == 19 else rest
+                yield sealed_message(*head, chance.getrandbits(24), type_code, rest)
+
+
+def each_traffic_bit():
+    """Each bit alone under CF 2 and CF 5, in each layout and in AA; all of them; and each wrong in a message of kind M."""
+    layouts = (4, 0), (7, 0), (0, 0), (11, 0), (22, 0), (19, 1), (19, 2), (19, 3), (19, 4)
+    for cf, (type_code, subtype) in product((2, 5), layouts):
+        places = range(48 if type_code == 19 else 51)
+        yield from (sealed_message(18, cf, 0, type_code, subtype << 48 | 1 << place) for place in places)
+        yield sealed_message(18, cf, 2**24 - 1, type_code, subtype << 48 | 2 ** len(places) - 1)
+        yield from (sealed_message(18, cf, 1 << place, type_code, subtype << 48) for place in range(0, 24, 23))
+    good = of_head(GROUND[1], 0x123456, 11, 888 << 36)
+    yield good
+    yield from (flipped(good, place) for place in range(1, 113))
+
+
+def of_ground_stations(chance):
+    """CF 2 and 5: the flag of each layout; each bit; 3 and 4 before the 5 of the reserved flag; random ones."""
+    yield from each_flag(chance)
+    yield from each_traffic_bit()
+    for type_code, cf, wrong in product((0, 7, 11, 19, 31), (3, 4, 5, 6, 7), (False, True)):
+        string = sealed_message(18, cf, 0xABCDEF, type_code, sum(FLAGS))  # of TYPE 19 this is subtype 1
+        yield flipped(string, 100) if wrong else string
+    for _ in range(300):
+        yield random_traffic(chance)
+        yield random_no_position(chance, chance.choice(GROUND), chance.getrandbits(24))
+
+
 def strings():
     """The byte strings decoded."""
     chance = Random(3)
@@ -153,6 +222,7 @@ def strings():
     for _ in range(800):
         yield random_valid(chance)
     yield from no_position(Random(4))
+    yield from of_ground_stations(Random(5))
 
 
 def answered(string):

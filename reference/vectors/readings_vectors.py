@@ -1,10 +1,12 @@
 """Cases of readings_vectors.
 
 A record: question, a, b, code high byte, code low byte. A line: the reading, or `refused 8`.
-The last question is of a whole body: a is its layout, and 15 fields of eight bytes follow, TYPE first, then the others in
-the order of their bits, then zeros. A line: the layout and its readings, or `refused 8`.
+The last question is of a whole body: a is its layout, b is 1 if a ground station's traffic service sent it, else 0, and 15
+fields of eight bytes follow, TYPE first, then the others in the order of their bits, then zeros. A line: the layout and its
+readings, or `refused 8`.
 """
 
+from itertools import product
 from random import Random
 
 import messages
@@ -135,10 +137,31 @@ def bodies_without_position():
         yield from ((other, good | {"TYPE": type_code}) for type_code in range(32))
 
 
-def body_reading(number, message):
+def bodies_of_traffic():
+    """Of CF 2 and 5, and of others: each difference with ME bit 36 set and not; each field too wide; any body of any layout."""
+    chance = Random(5)
+    of_velocity = [(number, fields, kind) for number, (_, fields, kinds) in enumerate(LAYOUTS) for kind in kinds if kind[1]]
+    for (number, fields, kind), source, sign in product(of_velocity, (0, 1), (0, 1)):
+        good = fitting_body(chance, fields, *kind) | {"rate source": source, "difference sign": sign}
+        for code in (0, 1, 2, 126, 127, *chance.sample(range(3, 126), 8)):
+            yield number, good | {"difference": code}, True
+            yield number, good | {"difference": code}, False
+        for name, width in widths(fields).items():
+            yield number, good | {name: 1 << width}, True
+        yield from ((number, good | {"rate source": wide}, True) for wide in (2, 3, 255))
+    for number, (_, fields, kinds) in enumerate(LAYOUTS):
+        for type_code, subtype in [*kinds, *([(0, None)] if fields is messages.AIRBORNE else [])]:
+            for _ in range(6):
+                body = fitting_body(chance, fields, type_code, subtype)
+                yield number, body, True
+                yield number, body, False
+        yield from ((number, body | {"TYPE": wrong}, True) for wrong in (0, 4, 8, 11, 19, 22, 23, 31))
+
+
+def body_reading(number, message, traffic):
     """The layout's name, and its readings with a comma after each but the last."""
     name, fields, _ = LAYOUTS[number]
-    meant = readings.body(fields, message)
+    meant = readings.body(fields, message, traffic)
     if "text" in meant:
         meant["text"] = int.from_bytes(meant["text"].encode("ascii"), "big")
     if "GNSS" in meant:
@@ -152,7 +175,8 @@ def cases():
         question = NUMBER[name]
         record = bytes([question, a, b]) + code.to_bytes(2, "big")
         yield record, answer(QUESTIONS[question][3], a, b, code)
-    for number, message in (*bodies(), *bodies_without_position()):
+    others = [(number, message, False) for number, message in (*bodies(), *bodies_without_position())]
+    for number, message, traffic in (*others, *bodies_of_traffic()):
         fields = [*message.values(), *[0] * (FIELDS - len(message))]
-        record = bytes([BODY, number, 0, 0, 0]) + b"".join(value.to_bytes(8, "big") for value in fields)
-        yield record, answer(body_reading, number, message)
+        record = bytes([BODY, number, traffic, 0, 0]) + b"".join(value.to_bytes(8, "big") for value in fields)
+        yield record, answer(body_reading, number, message, traffic)

@@ -10,6 +10,10 @@ from positions import AIRBORNE, COUNTS, EVEN, FIGURES, ODD, SURFACE, zones
 from table import BODY, POLE, body_of, key_at, length_of
 from tracks import Position, Saved, Track
 from traffic import (
+    ANOTHER,
+    GROUND,
+    ICAO,
+    MODE_A,
     NO_TRANSPONDER,
     OTHER,
     TRANSPONDER,
@@ -22,12 +26,22 @@ from traffic import (
     velocity,
 )
 from vectors.bench import SPACE, Bench
-from vectors.message_vectors import altitude_codes, flipped, random_no_position, random_valid, sealed_message
+from vectors.message_vectors import (
+    FLAGS,
+    NOT_TAKEN,
+    altitude_codes,
+    flipped,
+    of_head,
+    random_no_position,
+    random_valid,
+    sealed_message,
+)
 from vectors.position_vectors import random_counts, random_latitude, random_longitude
 
-I, O = 1 << 24, 2 << 24  # the kinds, above the address
+I, O, T, M, N, END = (kind << 24 for kind in range(1, 7))  # the kinds, above the address, and what is above them
 ONE, TWO, THREE = 0xABCDEF, 0x4840D6, 0x000001  # addresses
 HEADS = [TRANSPONDER, NO_TRANSPONDER, OTHER]
+FIVE = {TRANSPONDER: I, OTHER: O, ICAO: T, MODE_A: M, ANOTHER: N}  # a head of each kind, in the order of the listing
 HERE = 2**29, 2**30  # 45 N 90 E
 NEAR = 2**29 + 2**20, 2**30 + 2**20  # a tenth of a degree away
 LAST = 2**64 - 1
@@ -49,10 +63,10 @@ def both(bench, aa, place, time, head=TRANSPONDER):
     bench.receive(airborne(head, aa, ODD, place), time + 400)
 
 
-def kept(bench, aa, start, end):
+def kept(bench, aa, start, end, head=TRANSPONDER):
     """Velocity messages that keep the track, every 50,000."""
     for time in range(start, end, 50_000):
-        bench.receive(velocity(TRANSPONDER, aa, 100, -50), time)
+        bench.receive(velocity(head, aa, 100, -50), time)
 
 
 def seen(bench):
@@ -119,7 +133,7 @@ def holding_ages(bench):
 def nothing_refreshes(bench):
     """A refused message refreshes no track: bad parity, DF, TYPE, length, late."""
     good = airborne(TRANSPONDER, ONE, EVEN, NEAR)
-    bad = [damaged(good), sealed_message(18, 2, ONE, 11, 0), sealed_message(17, 5, ONE, 31, 0)]
+    bad = [damaged(good), sealed_message(18, 3, ONE, 11, 0), sealed_message(17, 5, ONE, 31, 0)]
     bad += [sealed_message(17, 5, ONE, 23, 0), sealed_message(17, 5, ONE, 19, 5 << 48), good[:13], good + b"\0"]
     for string, end in product(bad, (125_999, 126_000)):
         bench.set_up(2)
@@ -301,7 +315,7 @@ def published_runs(bench):
 
 def refused_message(bad_length, bad_parity, bad_df, bad_type):
     """A message with some of these faults."""
-    string = sealed_message(18 if bad_df else 17, 2, TWO, 31 if bad_type else 11, 12345)
+    string = sealed_message(*((18, 3) if bad_df else (17, 2)), TWO, 31 if bad_type else 11, 12345)
     if bad_parity:
         string = damaged(string)
     return string[:13] if bad_length else string
@@ -423,7 +437,7 @@ def random_message(chance, head, aa, place):
     if kind == 10:
         return airborne_counts(head, aa, i, random_counts(chance, 2))
     string = random_valid(chance)
-    return sealed_message(*head, aa, string[4] >> 3, int.from_bytes(string[4:11], "big") % 2**51)
+    return of_head(head, aa, string[4] >> 3, int.from_bytes(string[4:11], "big") % 2**51)
 
 
 def moved(chance, place):
@@ -432,7 +446,7 @@ def moved(chance, place):
     return max(-POLE, min(POLE, latitude)), (place[1] + chance.randrange(-(2**20), 2**20)) % 2**32
 
 
-def random_run(bench, seed, places, steps, lost=False):
+def random_run(bench, seed, places, steps, lost=False, heads=HEADS, weights=(6, 1, 2)):
     """A few aircraft and fewer places; times that step by the edges; faults now and then; TYPE 0 if positions get lost."""
     chance = Random(seed)
     spots = {}
@@ -445,7 +459,7 @@ def random_run(bench, seed, places, steps, lost=False):
     time = chance.choice((0, 10**12, 2**63))
     for step in range(steps):
         time += chance.choices(STEPS, WEIGHTS)[0]
-        aa, head = chance.choice([*spots]), chance.choices(HEADS, (6, 1, 2))[0]
+        aa, head = chance.choice([*spots]), chance.choices(heads, weights)[0]
         spots[aa] = moved(chance, spots[aa])
         string, now, fault = random_message(chance, head, aa, spots[aa]), time, chance.randrange(30)
         if fault == 0:
@@ -453,11 +467,13 @@ def random_run(bench, seed, places, steps, lost=False):
         elif fault == 1 and time:
             now = max(0, time - chance.choice((1, 500, 10_000)))
         elif fault == 2:
-            string = sealed_message(18, chance.randrange(2, 8), aa, 11, 0)
+            string = sealed_message(18, chance.choice(NOT_TAKEN), aa, 11, 0)
         elif fault == 3:
             string = sealed_message(17, 0, aa, chance.randrange(23, 32), 0)
         elif lost and fault < 14:
             string = random_no_position(chance, head, aa)
+        elif fault == 14 and ANOTHER in heads:
+            string = sealed_message(18, 5, aa, chance.choice((0, 7, 11, 19)), sum(FLAGS))
         bench.receive(string, now)
         if step % 8 == 7:
             bench.whole()
@@ -551,7 +567,7 @@ def used(bench):
 def one_value_off(bench):
     """A table of three places with one value out of its range, or just in it."""
     for place in range(3):
-        for key in (ONE, I | ONE, O | ONE, 3 << 24 | ONE, 255 << 24 | ONE, I - 1, I, 3 << 24, (3 << 24) - 1):
+        for key in (ONE, I | ONE, O | ONE, T | ONE, 255 << 24 | ONE, I - 1, I, T, T - 1):
             three(bench)
             poke_number(bench, key_at(place), 4, key)
             used(bench)
@@ -686,7 +702,7 @@ def random_bytes(bench):
         bench.walk()
         bench.whole()
         poke_number(bench, 0, 8, chance.choice((0, 2**62)))
-        keys = b"".join(chance.randrange(I, 3 << 24).to_bytes(4, "little") for _ in range(min(places, 48)))
+        keys = b"".join(chance.randrange(I, T).to_bytes(4, "little") for _ in range(min(places, 48)))
         bench.poke(key_at(0), keys)
         bench.walk()
         for at in range(0, min(len(keys), 80), 4):
@@ -836,7 +852,7 @@ def order_of_twelve(bench):
         bench.receive(damaged(bytes(14)), 125_000)
         if bad_table:
             bench.lend(length_of(1) - 1)
-        string = sealed_message(18 if bad_df else 17, 2, TWO, 0, 888 << 36)
+        string = sealed_message(*((18, 3) if bad_df else (17, 2)), TWO, 0, 888 << 36)
         string = damaged(string) if bad_parity else string
         bench.receive(string[:13] if bad_length else string, 124_999 if late else 125_999)
         bench.lend(length_of(1))
@@ -889,6 +905,199 @@ def lost_in_any_table(bench):
         seen(bench)
 
 
+# A ground station's traffic service
+
+EVERY_TYPE = [*((type_code, 0) for type_code in range(23) if type_code != 19), *((19, subtype) for subtype in (1, 2, 3, 4))]
+
+
+def of_type(head, aa, type_code, subtype, rest=12345):
+    """A message of a TYPE, and of TYPE 19 of a subtype."""
+    return of_head(head, aa, type_code, subtype << 48 | rest)
+
+
+def not_positions(head, aa):
+    """A message of each sort that is no position message."""
+    yield identification(head, aa, "KLM1023")
+    yield velocity(head, aa, 40, -30, 128)
+    yield message(head, aa, 19, subtype=3)
+    yield from (no_position(head, aa, code) for code in (0, 888))
+
+
+def every_kind(bench):
+    """One address of each kind is five tracks, in the order I O T M N whatever the order in which they come."""
+    heads = [*FIVE]
+    for order in (heads, heads[::-1], [ICAO, TRANSPONDER, ANOTHER, MODE_A, OTHER]):
+        bench.set_up_at(7, HERE)
+        for time, head in enumerate(order):
+            both(bench, ONE, (HERE[0] + time * 2**24, HERE[1]), 1_000 * time, head)
+            bench.look_up(*(kind | ONE for kind in FIVE.values()))
+        for head, aa in ((MODE_A, 0), (ANOTHER, 2**24 - 1), (ICAO, 0)):
+            bench.receive(surface(head, aa, EVEN, NEAR), 9_000)
+        seen(bench)
+        bench.next(0, *(key for kind in (*FIVE.values(), END) for key in (kind - 1, kind, kind | ONE)), 2**32 - 1)
+
+
+def kinds_apart(bench):
+    """An even and an odd message of one address pair just where their kinds are one; nor is one read by another's position."""
+    for first, one, other in product(BOTH, FIVE, FIVE):
+        bench.set_up(2)
+        bench.receive(airborne(one, ONE, first, HERE), 1_000)
+        bench.receive(airborne(other, ONE, 1 - first, HERE), 1_400)
+        seen(bench)
+        if first == EVEN:
+            both(bench, ONE, HERE, 20_000, one)
+            bench.receive(airborne(other, ONE, EVEN, NEAR), 40_000)
+            bench.receive(surface(other, ONE, ODD, NEAR), 41_000)
+            seen(bench)
+
+
+def flag_of_each_layout(bench):
+    """ME bits 21, 8 and 9, set or not: that of the layout makes M of CF 2 and earns 5 under CF 5; of DF 17 none counts."""
+    some = [(1, 0), (4, 0), (5, 0), (8, 0), (0, 0), (9, 0), (18, 0), (20, 0), (22, 0), (19, 1), (19, 2), (19, 3), (19, 4)]
+    for head, (type_code, subtype) in product(((18, 2), (18, 5), (17, 2), (17, 5)), some):
+        bench.set_up(5)
+        for kind in FIVE:
+            bench.receive(airborne(kind, ONE, EVEN, HERE), 1_000)
+        for bits in product((0, 1), repeat=3):
+            rest = sum(bit * flag for bit, flag in zip(bits, FLAGS))
+            rest = rest % 2**48 | subtype << 48 if subtype else rest
+            bench.receive(sealed_message(*head, ONE, type_code, rest), 2_000)
+        bench.whole()
+
+
+def what_starts(bench):
+    """Each TYPE of each kind for a key that is not held, in an empty table and in a full one: starts, 12 or 6."""
+    for head, (type_code, subtype), full in product(FIVE, EVERY_TYPE, (False, True)):
+        bench.set_up(1)
+        if full:
+            bench.receive(airborne(TRANSPONDER, TWO, EVEN, HERE), 500)
+        bench.receive(of_type(head, ONE, type_code, subtype), 1_000)
+        bench.whole()
+
+
+def beside_its_twins(bench):
+    """What starts a track beside four of the same address, with a place left or none; and once it is held, all is taken."""
+    for head, places in product(FIVE, (4, 5)):
+        bench.set_up(places)
+        for other in FIVE:
+            if other != head:
+                bench.receive(airborne(other, ONE, EVEN, HERE), 1_000)
+        strings = [*not_positions(head, ONE), airborne(head, ONE, ODD, HERE), *not_positions(head, ONE)]
+        for time, string in enumerate(strings if head in GROUND else strings[3:]):
+            bench.receive(string, 2_000 + time)
+            bench.walk()
+        bench.whole()
+
+
+def traffic_refreshes(bench):
+    """Every message of its kind refreshes a track that is held; 5 and 12 refresh none, an identification none of kind M."""
+    for head, gap in product(GROUND, (124_999, 125_000)):
+        positions = [airborne(head, ONE, EVEN, NEAR), surface(head, ONE, ODD, NEAR)]
+        reserved = sealed_message(18, 5, ONE, 11, FLAGS[1])
+        for string in (*not_positions(head, ONE), *positions, reserved, *not_positions(OTHER, ONE)):
+            bench.set_up(3)
+            both(bench, ONE, HERE, 600, head)
+            bench.receive(string, 100_000)
+            bench.walk()
+            bench.receive(airborne(TRANSPONDER, TWO, EVEN, HERE), 100_000 + gap)
+            bench.look_up(FIVE[head] | ONE)
+            bench.receive(string, 100_000 + gap)
+            seen(bench)
+
+
+def order_of_traffic(bench):
+    """Every set of faults of a message with CF 5: 2, 3, 4, 5, then 12, or 6 for a position message, and what each leaves."""
+    for faults in product((False, True), repeat=7):
+        late, bad_parity, bad_cf, reserved, position, full, held = faults
+        bench.set_up(1)
+        bench.receive(airborne(ANOTHER, TWO if held else ONE, EVEN, HERE), 1_000 if full else 0)
+        bench.receive(damaged(bytes(14)), 125_000)
+        rest = (FLAGS[1] if position else FLAGS[2]) * reserved
+        type_code, rest = (11, rest | 12345) if position else (19, rest | 1 << 48)
+        string = sealed_message(18, 6 if bad_cf else 5, TWO, type_code, rest)
+        bench.receive(damaged(string) if bad_parity else string, 124_999 if late else 125_999)
+        seen(bench)
+
+
+def traffic_ages(bench):
+    """The ages of a partner and of a reference are those of other kinds: 10,000, and 120,000 with a site and without."""
+    for head, first, gap in product(GROUND, BOTH, (0, 10_000, 10_001)):
+        bench.set_up(1)
+        bench.receive(airborne(head, ONE, first, HERE), 1_000)
+        bench.receive(airborne(head, ONE, 1 - first, HERE), 1_000 + gap)
+        seen(bench)
+    for head, gap, site, made in product(GROUND, (120_000, 120_001), (None, NEAR), (airborne, surface)):
+        new(bench, 1, site)
+        both(bench, ONE, HERE, 1_000, head)
+        kept(bench, ONE, 1_400, 1_400 + gap, head)
+        bench.receive(made(head, ONE, EVEN, NEAR), 1_400 + gap)
+        seen(bench)
+
+
+def groups_of_traffic(bench):
+    """Each TYPE in one track of each kind, in several orders; then TYPE 0 with any bits, which leaves all but the altitude."""
+    chance = Random(24)
+    for head in GROUND:
+        bench.set_up_at(2, NEAR)
+        types, time = [*EVERY_TYPE] * 2, 0
+        chance.shuffle(types)
+        for type_code, subtype in ((11, 0), *types):
+            time += chance.randrange(3_000)
+            rest = chance.getrandbits(48 if type_code == 19 else 51)
+            bench.receive(of_type(head, ONE, type_code, subtype, rest), time)
+        seen(bench)
+        every_value(bench, head, ONE, HERE, time)
+        for code in altitude_codes():
+            time += 1_000
+            bench.receive(of_head(head, ONE, 0, chance.getrandbits(51) & ~(4095 << 36) | code << 36), time)
+        seen(bench)
+
+
+def crowd_of_traffic(bench):
+    """256 and 1,024 places, all held by keys of T, M and N that were poked: who is held, and strangers, 6 and 12."""
+    for places in (256, 1024):
+        bench.set_up(places)
+        keys = b"".join((FIVE[GROUND[place % 3]] | place).to_bytes(4, "little") for place in range(places))
+        for at in range(0, len(keys), 128):
+            bench.poke(key_at(0) + at, keys[at : at + 128])
+        for head, aa in product(GROUND, (0, 1, 2, places - 1, places)):
+            bench.receive(velocity(head, aa, 1, 1), 5)
+            bench.receive(airborne(head, aa, EVEN, HERE), 5)
+        bench.whole()
+        poke_number(bench, key_at(places - 1), 4, 0)  # the last place is free
+        for string in (*not_positions(ICAO, places), surface(ICAO, places, EVEN, HERE), *not_positions(ICAO, places)):
+            bench.receive(string, 9)
+        bench.whole()
+        bench.next(0, I, T - 1, T, T | places - 3, M, N, N | places, END - 1)
+
+
+def edges_of_kinds(bench):
+    """A table of three places with one key at an edge of a kind; from 6 x 2^24 on it is out of its range."""
+    for place, key in product(range(3), (M | ONE, N | ONE, END | ONE, T, M - 1, M, N - 1, N, END - 1, END)):
+        three(bench)
+        poke_number(bench, key_at(place), 4, key)
+        seen(bench)
+        bench.look_up(key)
+        for head in FIVE:
+            bench.receive(velocity(head, key % 2**24, 5, 5), 6_000)
+        seen(bench)
+
+
+def any_traffic_stepped(bench):
+    """Tracks of any values, of kinds T, M and N, each stepped by one message."""
+    chance = Random(33)
+    for _ in range(120):
+        clock, head = chance.choice((0, 130_000, 10**9, LAST - 5)), chance.choice(GROUND)
+        new(bench, 1, chance.choice((None, HERE)))
+        poke_number(bench, 0, 8, clock)
+        track = random_track(chance, clock)
+        poke_place(bench, 1, 0, FIVE[head] | ONE, track)
+        spot = moved(chance, (track.position.latitude, track.position.longitude))
+        string = random_message(chance, head, ONE, spot) if chance.randrange(4) else random_no_position(chance, head, ONE)
+        bench.receive(string, min(LAST, clock + chance.choice((0, 1, 5))))
+        bench.whole()
+
+
 SCRIPTS = [
     listing_example,
     partner_ages,
@@ -937,6 +1146,21 @@ LOST = [
     lost_in_any_table,
 ]
 LOST_RUNS = [(58, 1, 150), (59, 2, 200), (60, 5, 250)]
+TRAFFIC = [
+    every_kind,
+    kinds_apart,
+    flag_of_each_layout,
+    what_starts,
+    beside_its_twins,
+    traffic_refreshes,
+    order_of_traffic,
+    traffic_ages,
+    groups_of_traffic,
+    crowd_of_traffic,
+    edges_of_kinds,
+    any_traffic_stepped,
+]
+TRAFFIC_RUNS = [(63, 1, 150), (64, 3, 250), (65, 8, 300)]
 
 
 def run(bench):
@@ -951,6 +1175,10 @@ def run(bench):
         script(bench)
     for seed, places, steps in LOST_RUNS:
         random_run(bench, seed, places, steps, lost=True)
+    for script in TRAFFIC:
+        script(bench)
+    for seed, places, steps in TRAFFIC_RUNS:
+        random_run(bench, seed, places, steps, lost=True, heads=[*HEADS, *GROUND], weights=(3, 1, 2, 4, 4, 4))
     return bench
 
 

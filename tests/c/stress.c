@@ -86,7 +86,7 @@ static void make_message(uint8_t *message) {
         return;
     }
     if (kind > 1) {
-        message[0] = (uint8_t)ONE_OF(17 << 3 | 5, 17 << 3, 18 << 3, 18 << 3 | 1);
+        message[0] = (uint8_t)ONE_OF(17 << 3 | 5, 17 << 3, 18 << 3, 18 << 3 | 1, 18 << 3 | 2, 18 << 3 | 2, 18 << 3 | 5);
         message[4] = (uint8_t)(type << 3 | (type == 19 ? 1 + below(4) : below(8)));
         if (type == 0 && below(4) == 0) { /* no altitude either */
             message[5] = 0;
@@ -271,7 +271,7 @@ static uint64_t make_time(uint64_t clock) {
 }
 
 static uint64_t make_number(enum function function, int i, uint64_t time) {
-    uint64_t key = ONE_OF(1, 2) << 24 | below(4) * 0x010101;
+    uint64_t key = (1 + below(5)) << 24 | below(4) * 0x010101;
     switch (function) {
     case RECEIVE:
         return time;

@@ -19,12 +19,11 @@ use Rattle.fields.specs.Bytes.{Bytes}
 use Rattle.fields.proofs.Bools.{by-test}
 use Rattle.layouts.specs.declared.bodies.Body.{Body}
 use Rattle.layouts.specs.declared.bodies.Body.the-variants as body
-use Rattle.readings.specs.Bodies.{readingsOf}
 use Rattle.messages.specs.declared.Message.{Message}
 use Rattle.messages.specs.declared.Decoded.{Decoded}
 use Rattle.messages.specs.declared.Decoded.the-variants as decode
 use Rattle.encoder.specs.declared.Encoded.the-variants as encode
-use Rattle.messages.specs.Message.{decoded, messageFits}
+use Rattle.messages.specs.Message.{decoded, keyOf, messageFits}
 use Rattle.encoder.specs.Encoded.{encodedBytes}
 use Rattle.messages.proofs.BothWays as messages
 use Rattle.encoder.proofs.BothWays as encoder
@@ -36,7 +35,7 @@ use Rattle.table_bytes.specs.Layout.{clockOf}
 use Rattle.report.specs.Listing.{rowFor, rowsIn, lineText, lineFor, headerFor}
 use Rattle.rows.specs.From.{messageFrom}
 use Rattle.rows.specs.declared.message.Four.{Four}
-use Rattle.rows.specs.Rows.{rowOf, bodyRow, fourOf, messageRow}
+use Rattle.rows.specs.Rows.{rowOf, bodyRow, messageFour, messageRow}
 use Rattle.rows.specs.Same.{Same}
 use Rattle.rows.proofs.BothWays.{from-row}
 use Rattle.rows.proofs.ReadBack.{from-same}
@@ -46,25 +45,25 @@ use Rattle.addercoil.proofs.Encoding.{encode-right}
 
 -- ---- a row fills its array
 
-row-length : (m : Message) (b : Body) (four : Four) → length (bodyRow m b four) ≡ 28
+row-length : (m : Message) (key : ℕ) (b : Body) (four : Four) → length (bodyRow m key b four) ≡ 28
 unfolding rowOf
-row-length m (body.Identification b) four = refl
-row-length m (body.Surface b) four = refl
-row-length m (body.Airborne b) four = refl
-row-length m (body.Ground b) four = refl
-row-length m (body.Air b) four = refl
+row-length m key (body.Identification b) four = refl
+row-length m key (body.Surface b) four = refl
+row-length m key (body.Airborne b) four = refl
+row-length m key (body.Ground b) four = refl
+row-length m key (body.Air b) four = refl
 
-row-filled : (m : Message) (b : Body) (four : Four) → filled 28 (bodyRow m b four) ≡ bodyRow m b four
+row-filled : (m : Message) (key : ℕ) (b : Body) (four : Four) → filled 28 (bodyRow m key b four) ≡ bodyRow m key b four
 unfolding rowOf
-row-filled m (body.Identification b) four = refl
-row-filled m (body.Surface b) four = refl
-row-filled m (body.Airborne b) four = refl
-row-filled m (body.Ground b) four = refl
-row-filled m (body.Air b) four = refl
+row-filled m key (body.Identification b) four = refl
+row-filled m key (body.Surface b) four = refl
+row-filled m key (body.Airborne b) four = refl
+row-filled m key (body.Ground b) four = refl
+row-filled m key (body.Air b) four = refl
 
 row-into : (out : List ℕ) (m : Message) → length out ≡ 28 → into 28 out (gives (messageRow m)) ≡ sent 0 (messageRow m)
 unfolding into
-row-into out m h = rw (eq-eqb _ _ h) (ap (sent 0) (ap (λ (n : ℕ). filled n (messageRow m)) h ∙ row-filled m (m .body) (fourOf (readingsOf (m .body)))))
+row-into out m h = rw (eq-eqb _ _ h) (ap (sent 0) (ap (λ (n : ℕ). filled n (messageRow m)) h ∙ row-filled m (keyOf m) (m .body) (messageFour m)))
 
 decoded-into : (s out : List ℕ) (m : Message) → length out ≡ 28 → decoded s ≡ decode.Message m → into 28 out (messageSaid (decoded s)) ≡ sent 0 (messageRow m)
 decoded-into s out m h d = ap (λ (x : Decoded). into 28 out (messageSaid x)) d ∙ row-into out m h
@@ -77,7 +76,7 @@ decoded-encoded s fields out m h f l d =
     let g = encoder.decoded-encoded s out m h l d in
     let fit = messages.decoded-good s m h d .0 in
     ap (λ (x : Sent). encodedFrom (x .array) out) (decoded-into s fields m f d)
-    ∙ sym (encode-right out (messageRow m) (rw (eq-eqb _ _ (row-length m (m .body) (fourOf (readingsOf (m .body)))), eq-eqb _ _ l)) (sym (from-row m fit)) (sym (ap₂ sent (ap encodedNumber (g .0)) (g .1))))
+    ∙ sym (encode-right out (messageRow m) (rw (eq-eqb _ _ (row-length m (keyOf m) (m .body) (messageFour m)), eq-eqb _ _ l)) (sym (from-row m fit)) (sym (ap₂ sent (ap encodedNumber (g .0)) (g .1))))
 
 -- ---- fields that are accepted, encoded and decoded, come back equal
 

@@ -8,7 +8,7 @@ ghost use mathlib.Core.List.{_++_};
 ghost use lib.ListN.{length};
 ghost use Rattle.fields.specs.Packing.{pack, fits};
 ghost use Rattle.fields.specs.Bytes.{bytesOf};
-ghost use Rattle.messages.specs.Message.{formatTaken, headWidths, headFields, sealedBy};
+ghost use Rattle.messages.specs.Message.{headTaken, headWidths, headFields, sealedBy};
 ghost use Rattle.encoder.specs.Encoded.{meOf, encoded, encodedBytes};
 
 pub enum Encoded {
@@ -23,9 +23,9 @@ fn head_of(m: Message) -> u64
 }
 
 fn head_fits(m: Message) -> bool
-    ensures { λ r. ⌜ r ≡ (fits headWidths (headFields m) && formatTaken (m .format) (m .control)) ⌝ }
+    ensures { λ r. ⌜ r ≡ (fits headWidths (headFields m) && headTaken m) ⌝ }
 {
-    let taken = messages::format_taken(m.format, m.control);
+    let taken = messages::head_taken(m);
     (m.format < 32) & (m.control < 8) & (m.address < 0x100_0000) & taken
 }
 

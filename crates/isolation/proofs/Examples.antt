@@ -17,10 +17,10 @@ use Rattle.parity.specs.Parity.{remainder}
 use Rattle.memory.specs.Offsets.{tableSize, wholePlaces}
 use Rattle.messages.specs.declared.Decoded.{Decoded}
 use Rattle.messages.specs.declared.Decoded.the-variants as decode
-use Rattle.messages.specs.Message.{opened}
-use Rattle.whereabouts.specs.Located.{noSite}
+use Rattle.messages.specs.Message.{opened, kindOf}
+use Rattle.whereabouts.specs.Located.{noSite, surfacePosition}
 use Rattle.track.specs.declared.Track.{Track}
-use Rattle.track.specs.Track.{groupTrack}
+use Rattle.track.specs.Track.{groupTrack, surfaceTrack}
 use Rattle.track.specs.Meaning.{meantGroups, meantPosition, meantSaved, meant}
 use Rattle.memory.specs.Bytes.{numberAt, lowBytes, put}
 use Rattle.place.specs.Place.{savedFrom, groupsIn, lowered, positionIn, writtenIn, trackOf, abovePole, marksOf, savedNumber, savedBytes, messageBytes, spotBytes, bodyOf}
@@ -37,7 +37,7 @@ use Rattle.slice_table.specs.Slice.{Slice, sliceOf, slice}
 use Rattle.isolation.specs.Runs.{Call, own, Alike, Alike.end, Alike.its, Alike.others, Rule, call, NeverFull, Seen, seen, Isolation}
 use Rattle.isolation.specs.Wrong.{numberIn, overwriting, refreshing, kindless}
 
--- ---- five messages: two of I ABCDEF, the second of TYPE 0, of I 123456, of O ABCDEF, and one whose parity is wrong
+-- ---- six messages: two of I ABCDEF, the second of TYPE 0, of I 123456, of O ABCDEF, of T ABCDEF, and one whose parity is wrong
 
 abbrev mine : List ℕ
 mine = 0x8D ∷ 0xAB ∷ 0xCD ∷ 0xEF ∷ 0x20 ∷ 0x2C ∷ 0xC3 ∷ 0x71 ∷ 0xC3 ∷ 0x2C ∷ 0xE0 ∷ 0x42 ∷ 0xEA ∷ 0x5C ∷ []
@@ -50,6 +50,9 @@ strange = 0x8D ∷ 0x12 ∷ 0x34 ∷ 0x56 ∷ 0x20 ∷ 0x2C ∷ 0xC3 ∷ 0x71 �
 
 abbrev twin : List ℕ
 twin = 0x91 ∷ 0xAB ∷ 0xCD ∷ 0xEF ∷ 0x20 ∷ 0x2C ∷ 0xC3 ∷ 0x71 ∷ 0xC3 ∷ 0x2C ∷ 0xE0 ∷ 0x67 ∷ 0x97 ∷ 0xD1 ∷ []
+
+abbrev traffic : List ℕ
+traffic = 0x92 ∷ 0xAB ∷ 0xCD ∷ 0xEF ∷ 0x3A ∷ 0x8A ∷ 0x35 ∷ 0x32 ∷ 0x3F ∷ 0xAE ∷ 0xBD ∷ 0xC0 ∷ 0xAB ∷ 0x93 ∷ []
 
 abbrev noise : List ℕ
 noise = 0 ∷ 0 ∷ 0 ∷ 0 ∷ 0 ∷ 0 ∷ 0 ∷ 0 ∷ 0 ∷ 0 ∷ 1 ∷ 0 ∷ 0 ∷ 0 ∷ []
@@ -87,6 +90,9 @@ stranger = at strange refl refl 2000 (omega arith)
 abbrev other-kind : Call
 other-kind = at twin refl refl 2000 (omega arith)
 
+abbrev of-traffic : Call
+of-traffic = at traffic refl refl 2000 (omega arith)
+
 abbrev refused-first : Call
 refused-first = at noise refl refl 1000 (omega arith)
 
@@ -107,9 +113,9 @@ lastOf (x ∷ y ∷ r) = lastOf (y ∷ r)
 -- ---- whose the calls are: computed
 
 own-calls : (own key first ≡ true) × (own key second ≡ true) × (own key stranger-first ≡ false) × (own key stranger ≡ false) × (own key other-kind ≡ false)
-    × (own key refused-first ≡ false) × (own key refused ≡ false) × (own key no-position ≡ true)
-unfolding own remainder remainderFrom reduce opened
-own-calls = (refl, refl, refl, refl, refl, refl, refl, refl)
+    × (own key refused-first ≡ false) × (own key refused ≡ false) × (own key no-position ≡ true) × (own key of-traffic ≡ false)
+unfolding own remainder remainderFrom reduce opened kindOf
+own-calls = (refl, refl, refl, refl, refl, refl, refl, refl, refl)
 
 own-first : own key first ≡ true
 own-first = own-calls .0
@@ -150,6 +156,7 @@ module _ {S : Type 0} (F : Form S) (empty : ℕ → S) where
         × (number-after 1 stranger-first second ≡ 6)
     pub silent-one : (number-after 1 stranger-first no-position ≡ 12) × (number-after 1 refused-first no-position ≡ 12)
         × (number-after 1 first no-position ≡ 0) × (end-of (received F) 1 (first ∷ no-position ∷ []) ≡ 2001)
+    pub twin-of-traffic : (number-after 2 first of-traffic ≡ 0) × (end-of (received F) 2 (first ∷ of-traffic ∷ []) ≡ 1001)
     pub by-overwriting : (number-to-first (overwriting F) 1 ≡ 0) × (end-of (overwriting F) 1 (first ∷ stranger ∷ []) ≡ 0) × (end-of (overwriting F) 1 (first ∷ refused ∷ []) ≡ 1001)
     pub by-refreshing : (number-to-first (refreshing F) 2 ≡ 0) × (end-of (refreshing F) 2 (first ∷ stranger ∷ []) ≡ 2001) × (end-of (refreshing F) 2 (first ∷ refused ∷ []) ≡ 1001)
     pub by-kindless : (number-to-first (kindless F) 2 ≡ 0) × (end-of (kindless F) 2 (first ∷ other-kind ∷ []) ≡ 2001) × (end-of (kindless F) 2 (first ∷ refused ∷ []) ≡ 1001)
@@ -197,6 +204,18 @@ module _ {S : Type 0} (F : Form S) (empty : ℕ → S) where
       x .silent-one .3,
     )
 
+    -- the twin of its AA that a traffic service reports is accepted, and does nothing to it
+    pub traffic-isolated : Alike key (first ∷ of-traffic ∷ []) (first ∷ refused ∷ [])
+        × NeverFull (received F) key (ready 2) (first ∷ of-traffic ∷ []) × (number-after 2 first of-traffic ≡ 0)
+        × (end-of (received F) 2 (first ∷ of-traffic ∷ []) ≡ 1001) × (end-of (received F) 2 (first ∷ refused ∷ []) ≡ 1001)
+    traffic-isolated = (
+      alike of-traffic (own-calls .8) refl,
+      never-full (received F) 2 (x .done-2) (x .held-in-both .0) of-traffic (own-calls .8),
+      x .twin-of-traffic .0,
+      x .twin-of-traffic .1,
+      x .held-in-both .2,
+    )
+
     -- why 'table full' is excepted: of two newcomers to one place the second is refused
     pub proviso-needed : ((s : S) (xs ys : List Call) → setUp F s noSite .answer ≡ Done → Alike key xs ys
         → seen F (received F) key (setUp F s noSite .table) xs ≡ seen F (received F) key (setUp F s noSite .table) ys) → ⊥
@@ -225,7 +244,7 @@ abbrev pub empty-bytes : ℕ → List ℕ
 empty-bytes n = replicate (tableSize n) 0
 
 pub in-bytes : Computed bytes empty-bytes
-unfolding remainder remainderFrom reduce opened own isHeld holds setUp placeOf freePlace delivered received viewAt wholePlaces siteFrom keyAt bodyAt moved stored emptied numberAt lowBytes put savedFrom groupsIn lowered positionIn writtenIn meantGroups meantPosition meantSaved meant trackOf abovePole marksOf savedNumber savedBytes messageBytes spotBytes bodyOf ranges.inRange groupTrack
+unfolding remainder remainderFrom reduce opened kindOf own isHeld holds setUp placeOf freePlace delivered received viewAt wholePlaces siteFrom keyAt bodyAt moved stored emptied numberAt lowBytes put savedFrom groupsIn lowered positionIn writtenIn meantGroups meantPosition meantSaved meant trackOf abovePole marksOf savedNumber savedBytes messageBytes spotBytes bodyOf ranges.inRange groupTrack surfaceTrack surfacePosition
 in-bytes =
     record {
       done-1 = refl;
@@ -233,6 +252,7 @@ in-bytes =
       held-in-both = (refl, refl, refl);
       one-place = (refl, refl, refl);
       silent-one = (refl, refl, refl, refl);
+      twin-of-traffic = (refl, refl);
       by-overwriting = (refl, refl, refl);
       by-refreshing = (refl, refl, refl);
       by-kindless = (refl, refl, refl);
@@ -242,7 +262,7 @@ abbrev pub empty-slice : ℕ → Slice
 empty-slice n = sliceOf (headOf 0 noSite) (replicate n slots.noPlace)
 
 pub in-slice : Computed slice empty-slice
-unfolding remainder remainderFrom reduce opened own isHeld holds setUp placeOf freePlace delivered received viewAt meantGroups meantPosition meantSaved meant slots.inRange slots.trackFits slots.groupsFit slots.countsFit placesFit siteOf groupTrack
+unfolding remainder remainderFrom reduce opened kindOf own isHeld holds setUp placeOf freePlace delivered received viewAt meantGroups meantPosition meantSaved meant slots.inRange slots.trackFits slots.groupsFit slots.countsFit placesFit siteOf groupTrack surfaceTrack surfacePosition
 in-slice =
     record {
       done-1 = refl;
@@ -250,6 +270,7 @@ in-slice =
       held-in-both = (refl, refl, refl);
       one-place = (refl, refl, refl);
       silent-one = (refl, refl, refl, refl);
+      twin-of-traffic = (refl, refl);
       by-overwriting = (refl, refl, refl);
       by-refreshing = (refl, refl, refl);
       by-kindless = (refl, refl, refl);

@@ -45,7 +45,7 @@ refreshed F s (suc i) time = heardAt F (refreshed F s i time) i (F .cell s i) ti
 abbrev pub refreshing : {S : Type 0} → Form S → Rule S
 refreshing F = insteadOf F 0 (λ s message time. after (decoded message) (refreshed F s (F .count s) time))
 
--- ---- a key without its kind: O is taken for I
+-- ---- a key without its kind: every other is taken for I
 
 abbrev pub asI : Decoded → Decoded
 asI (decode.Refused r) = decode.Refused r

@@ -10,16 +10,22 @@ use borrow.Author.Tests.{le-leb, lt-ltb, leb-true, ltb-true}
 use Rattle.fields.proofs.Bools.{each, both}
 use Rattle.keys.specs.Keys.{kinds, numberOf, low24, keyFor, endOfKeys, isKey, kindIn, addressIn}
 use Rattle.keys.specs.declared.Kind.{Kind}
-use Rattle.keys.specs.declared.Kind.the-variants.{I, O}
+use Rattle.keys.specs.declared.Kind.the-variants.{I, O, T, M, N}
 
 -- each kind stands in the list at its number
-pub numbered : (k : Kind) → getD kinds (numberOf k - 1) O ≡ k
+pub numbered : (k : Kind) → getD kinds (numberOf k - 1) N ≡ k
 numbered I = refl
 numbered O = refl
+numbered T = refl
+numbered M = refl
+numbered N = refl
 
 pub number-range : (k : Kind) → (1 ≤ numberOf k) × (numberOf k ≤ length kinds)
 number-range I = (omega arith, omega arith)
 number-range O = (omega arith, omega arith)
+number-range T = (omega arith, omega arith)
+number-range M = (omega arith, omega arith)
+number-range N = (omega arith, omega arith)
 
 bounds : (key : ℕ) → isKey key ≡ true → (2 ^ 24 ≤ key) × (key < endOfKeys)
 bounds key h =
@@ -36,24 +42,27 @@ key-range k a =
 pub keys-apart : (k l : Kind) (a b : ℕ) → keyFor k a ≡ keyFor l b → (k ≡ l) × (low24 a ≡ low24 b)
 keys-apart k l a b e =
     let n : numberOf k ≡ numberOf l = omega arith in
-    (sym (numbered k) ∙ ap (λ (n : ℕ). getD kinds (n - 1) O) n ∙ numbered l, omega arith)
+    (sym (numbered k) ∙ ap (λ (n : ℕ). getD kinds (n - 1) N) n ∙ numbered l, omega arith)
 
 -- ---- a key's kind and address back
 
 pub kind-back : (k : Kind) (a : ℕ) → kindIn (keyFor k a) ≡ k
 kind-back k a =
     let n : keyFor k a / 2 ^ 24 ≡ numberOf k = omega arith in
-    ap (λ (n : ℕ). getD kinds (n - 1) O) n ∙ numbered k
+    ap (λ (n : ℕ). getD kinds (n - 1) N) n ∙ numbered k
 
 pub address-back : (k : Kind) (a : ℕ) → addressIn (keyFor k a) ≡ low24 a
 address-back k a = omega arith
 
 -- at a number of the list stands the kind with that number
-listed : (n : ℕ) → 1 ≤ n → n ≤ length kinds → numberOf (getD kinds (n - 1) O) ≡ n
+listed : (n : ℕ) → 1 ≤ n → n ≤ length kinds → numberOf (getD kinds (n - 1) N) ≡ n
 listed zero l m = absurd (let z : ⊥ = omega arith in z)
 listed (suc zero) l m = refl
 listed (suc (suc zero)) l m = refl
-listed (suc (suc (suc n))) l m = absurd (let z : ⊥ = omega arith in z)
+listed (suc (suc (suc zero))) l m = refl
+listed (suc (suc (suc (suc zero)))) l m = refl
+listed (suc (suc (suc (suc (suc zero))))) l m = refl
+listed (suc (suc (suc (suc (suc (suc n)))))) l m = absurd (let z : ⊥ = omega arith in z)
 
 pub key-back : (key : ℕ) → isKey key ≡ true → keyFor (kindIn key) (addressIn key) ≡ key
 key-back key h =

@@ -1,25 +1,39 @@
--- A track's key, as document 01 has it: AA with its kind, I or O. In one number the kind stands above the 24 bits of the address.
+-- A track's key, as document 01 has it: AA with its kind, I or O, and in 02's R-3 also T, M or N. In one number the kind stands above the 24 bits of the address.
 use Prim.Native.Nat.{ℕ, _+_, _-_, _*_, _/_, _%_, _^_}
-use mathlib.Core.Bool.{Bool, _&&_}
+use mathlib.Core.Bool.{Bool, true, false, _&&_}
 use mathlib.Core.List.{List, [], _∷_}
 use lib.Dec.{leb, ltb}
 use lib.ListN.{length, getD}
 use Rattle.keys.specs.declared.Kind.{Kind}
-use Rattle.keys.specs.declared.Kind.the-variants.{I, O}
+use Rattle.keys.specs.declared.Kind.the-variants.{I, O, T, M, N}
 
 -- the kinds in the order of their keys
 abbrev pub kinds : List Kind
-kinds = I ∷ O ∷ []
+kinds = I ∷ O ∷ T ∷ M ∷ N ∷ []
 
 -- each with its number, the top byte of its keys: its place in the list, counted from 1
 abbrev pub numberOf : Kind → ℕ
 numberOf I = 1
 numberOf O = 2
+numberOf T = 3
+numberOf M = 4
+numberOf N = 5
 
 -- .. and its letter, in ASCII
 abbrev pub letterOf : Kind → ℕ
 letterOf I = 73
 letterOf O = 79
+letterOf T = 84
+letterOf M = 77
+letterOf N = 78
+
+-- whether a ground station's traffic service sends it
+abbrev pub isTraffic : Kind → Bool
+isTraffic I = false
+isTraffic O = false
+isTraffic T = true
+isTraffic M = true
+isTraffic N = true
 
 -- the 24 bits of an address
 abbrev pub low24 : ℕ → ℕ
@@ -39,7 +53,7 @@ isKey key = leb (2 ^ 24) key && ltb key endOfKeys
 
 -- a key's kind; a number below every key counts with the first kind, one above with the last
 abbrev pub kindIn : ℕ → Kind
-kindIn key = getD kinds (key / 2 ^ 24 - 1) O
+kindIn key = getD kinds (key / 2 ^ 24 - 1) N
 
 -- a key's letter
 abbrev pub letterIn : ℕ → ℕ

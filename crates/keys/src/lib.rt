@@ -6,10 +6,13 @@ ghost use Rattle.keys.specs.Keys.{numberOf, letterOf, keyFor, kindIn, le
 pub enum Kind {
     I,
     O,
+    T,
+    M,
+    N,
 }
 
 // Above every key.
-pub const END: u32 = 0x300_0000;
+pub const END: u32 = 0x600_0000;
 
 // The top byte of a kind's keys.
 fn number_of(kind: Kind) -> u32
@@ -18,6 +21,9 @@ fn number_of(kind: Kind) -> u32
     match kind {
         Kind::I => 1,
         Kind::O => 2,
+        Kind::T => 3,
+        Kind::M => 4,
+        Kind::N => 5,
     }
 }
 
@@ -27,6 +33,9 @@ fn letter_of(kind: Kind) -> u8
     match kind {
         Kind::I => b'I',
         Kind::O => b'O',
+        Kind::T => b'T',
+        Kind::M => b'M',
+        Kind::N => b'N',
     }
 }
 
@@ -41,7 +50,19 @@ pub fn key_for(kind: Kind, address: u32) -> u32
 fn kind_in(key: u32) -> Kind
     ensures { λ r. ⌜ r ≡ kindIn key ⌝ }
 {
-    if key < 0x200_0000 { Kind::I } else { Kind::O }
+    if key < 0x200_0000 {
+        return Kind::I;
+    }
+    if key < 0x300_0000 {
+        return Kind::O;
+    }
+    if key < 0x400_0000 {
+        return Kind::T;
+    }
+    if key < 0x500_0000 {
+        return Kind::M;
+    }
+    Kind::N
 }
 
 // A key's letter in ASCII.

@@ -17,10 +17,11 @@ use Rattle.fields.proofs.Fits.{fits-fit, unpack-fits}
 use Rattle.fields.proofs.Packing.{pack-unpack, pack-lt}
 use Rattle.layouts.specs.Layouts.{isIdentification, isSurface, isAirborne, identificationWidths, surfaceWidths, airborneWidths}
 use Rattle.layouts.specs.Velocity.{isGround, isAir, velocityWidths}
-use Rattle.layouts.specs.Bodies.{layoutAt, takenAs, taken, bodyType, bodyFields, bodyWidths, typeAgrees, bodyMe, bodyFits, written}
+use Rattle.layouts.specs.Bodies.{layoutAt, typeIn, layoutOf, flagBy, flagIn, takenAs, taken, bodyType, flagOf, bodyFields, bodyWidths, typeAgrees, bodyMe, bodyFits, written}
 use Rattle.layouts.specs.declared.bodies.Body.{Body}
 use Rattle.layouts.specs.declared.bodies.Body.the-variants as body
 use Rattle.layouts.specs.declared.bodies.Layout.{Layout}
+use Rattle.layouts.specs.declared.bodies.Layout.the-variants as layout
 use Rattle.layouts.specs.declared.bodies.Taken.{Taken}
 use Rattle.layouts.specs.declared.bodies.Taken.the-variants as read
 use Rattle.layouts.specs.declared.bodies.Written.the-variants as write
@@ -111,13 +112,30 @@ read-back (body.Air b) e =
     ∙ ap (λ (t : ℕ). takenAs (layoutAt t (b .subtype)) n) h
     ∙ simp (above 1 2 (b .subtype) (from-low 3 4 (b .subtype) r), r) (ap (λ x. read.Body (body.Air x)) (back air b f))
 
--- the TYPE too
-pub type-back : (b : Body) → bodyFits b ≡ true → me 1 5 (bodyMe b) ≡ bodyType b
-type-back (body.Identification b) e = ap (λ (l : List ℕ). getD l 0 0) (unpacked identification b (fitting (body.Identification b) e))
-type-back (body.Surface b) e = ap (λ (l : List ℕ). getD l 0 0) (unpacked surface b (fitting (body.Surface b) e))
-type-back (body.Airborne b) e = ap (λ (l : List ℕ). getD l 0 0) (unpacked airborne b (fitting (body.Airborne b) e))
-type-back (body.Ground b) e = ap (λ (l : List ℕ). getD l 0 0) (unpacked ground b (fitting (body.Ground b) e))
-type-back (body.Air b) e = ap (λ (l : List ℕ). getD l 0 0) (unpacked air b (fitting (body.Air b) e))
+-- ---- TYPE and the flag, by the bits
+
+-- of what the bits n were read as, by a TYPE and a flag
+abbrev Marked : ℕ → ℕ → Taken → Type 0
+Marked type flag (read.Body b) = (bodyType b ≡ type) × (flagOf b ≡ flag)
+Marked type flag (read.Refused r) = Unit
+
+marked-as : (l : Layout) (n : ℕ) → Marked (typeIn n) (flagBy l (me 21 21 n) (me 8 8 n) (me 9 9 n)) (takenAs l n)
+marked-as layout.Identification n = (refl, refl)
+marked-as layout.Surface n = (refl, refl)
+marked-as layout.Airborne n = (refl, refl)
+marked-as layout.Ground n = (refl, refl)
+marked-as layout.Air n = (refl, refl)
+marked-as layout.NotTaken n = tt
+
+marked : (n : ℕ) (b : Body) → taken n ≡ read.Body b → (bodyType b ≡ typeIn n) × (flagOf b ≡ flagIn n)
+marked n b e = subst (Marked (typeIn n) (flagIn n)) e (marked-as (layoutOf n) n)
+
+-- a layout's own fields are what the bits say of every layout
+pub type-read : (n : ℕ) (b : Body) → taken n ≡ read.Body b → bodyType b ≡ typeIn n
+type-read n b e = marked n b e .0
+
+pub flag-read : (n : ℕ) (b : Body) → taken n ≡ read.Body b → flagOf b ≡ flagIn n
+flag-read n b e = marked n b e .1
 
 -- ---- what is read is written back
 

@@ -14,6 +14,14 @@ use Rattle.layouts.proofs.bodies.me_of.Kinds as me-of-kinds
 use Rattle.layouts.proofs.bodies.me_of.Reads as me-of
 use Rattle.layouts.proofs.bodies.type_of.Kinds as type-of-kinds
 use Rattle.layouts.proofs.bodies.type_of.Reads as type-of
+use Rattle.layouts.proofs.bodies.type_in.Kinds as type-in-kinds
+use Rattle.layouts.proofs.bodies.type_in.Reads as type-in
+use Rattle.layouts.proofs.bodies.is_position.Kinds as is-position-kinds
+use Rattle.layouts.proofs.bodies.is_position.Reads as is-position
+use Rattle.layouts.proofs.bodies.flag_in.Kinds as flag-in-kinds
+use Rattle.layouts.proofs.bodies.flag_in.Reads as flag-in
+use Rattle.layouts.proofs.bodies.flag_of.Kinds as flag-of-kinds
+use Rattle.layouts.proofs.bodies.flag_of.Reads as flag-of
 use Rattle.layouts.proofs.surface.surface_of.Kinds as surface-of-kinds
 use Rattle.layouts.proofs.surface.surface_of.Reads as surface-of
 use Rattle.layouts.proofs.airborne.airborne_fits.Kinds as airborne-fits-kinds
@@ -41,6 +49,18 @@ is-taken-once κs args x y left left′ p q = p ∙ sym q
 
 pub type-of-once : OneAnswer 0 type-of-kinds.ps type-of-kinds.r type-of.Post
 type-of-once κs args x y left left′ p q = p ∙ sym q
+
+pub type-in-once : OneAnswer 0 type-in-kinds.ps type-in-kinds.r type-in.Post
+type-in-once κs args x y left left′ p q = p ∙ sym q
+
+pub is-position-once : OneAnswer 0 is-position-kinds.ps is-position-kinds.r is-position.Post
+is-position-once κs args x y left left′ p q = p ∙ sym q
+
+pub flag-in-once : OneAnswer 0 flag-in-kinds.ps flag-in-kinds.r flag-in.Post
+flag-in-once κs args x y left left′ p q = p ∙ sym q
+
+pub flag-of-once : OneAnswer 0 flag-of-kinds.ps flag-of-kinds.r flag-of.Post
+flag-of-once κs args x y left left′ p q = p ∙ sym q
 
 pub surface-of-once : OneAnswer 0 surface-of-kinds.ps surface-of-kinds.r surface-of.Post
 surface-of-once κs args x y left left′ p q = p ∙ sym q

@@ -26,8 +26,11 @@ layoutAt type subtype =
     layout.NotTaken))))
 
 -- TYPE is bits 1-5, the subtype bits 6-8
+abbrev pub typeIn : ℕ → ℕ
+typeIn n = me 1 5 n
+
 abbrev pub layoutOf : ℕ → Layout
-layoutOf n = layoutAt (me 1 5 n) (me 6 8 n)
+layoutOf n = layoutAt (typeIn n) (me 6 8 n)
 
 abbrev pub isTaken : Layout → Bool
 isTaken layout.Identification = true
@@ -49,6 +52,19 @@ takenAs layout.NotTaken n = read.Refused TypeCode
 abbrev pub taken : ℕ → Taken
 taken n = takenAs (layoutOf n) n
 
+-- the flag that tells the address of a traffic service's message, as source 002 has it: a bit of its own on the surface, in the air and of a velocity. Identification has none, which counts as 0
+abbrev pub flagBy : Layout → ℕ → ℕ → ℕ → ℕ
+flagBy layout.Identification surface air velocity = 0
+flagBy layout.Surface surface air velocity = surface
+flagBy layout.Airborne surface air velocity = air
+flagBy layout.Ground surface air velocity = velocity
+flagBy layout.Air surface air velocity = velocity
+flagBy layout.NotTaken surface air velocity = 0
+
+-- bit 21 on the surface, 8 in the air, 9 of a velocity
+abbrev pub flagIn : ℕ → ℕ
+flagIn n = flagBy (layoutOf n) (me 21 21 n) (me 8 8 n) (me 9 9 n)
+
 -- how many bits each field of a layout has, in the order of their bits
 abbrev pub layoutWidths : Layout → List ℕ
 layoutWidths layout.Identification = identificationWidths
@@ -58,7 +74,7 @@ layoutWidths layout.Ground = velocityWidths
 layoutWidths layout.Air = velocityWidths
 layoutWidths layout.NotTaken = []
 
--- a body's layout, its TYPE, its fields in the order of their bits, how many bits each has, and whether TYPE and subtype are those of the layout
+-- a body's layout, its TYPE, its flag, its fields in the order of their bits, how many bits each has, and whether TYPE and subtype are those of the layout
 abbrev pub bodyLayout : Body → Layout
 bodyLayout (body.Identification b) = layout.Identification
 bodyLayout (body.Surface b) = layout.Surface
@@ -72,6 +88,14 @@ bodyType (body.Surface b) = b .typecode
 bodyType (body.Airborne b) = b .typecode
 bodyType (body.Ground b) = b .typecode
 bodyType (body.Air b) = b .typecode
+
+-- the flag by the names of its fields
+abbrev pub flagOf : Body → ℕ
+flagOf (body.Identification b) = 0
+flagOf (body.Surface b) = b .t
+flagOf (body.Airborne b) = b .bit8
+flagOf (body.Ground b) = b .bit9
+flagOf (body.Air b) = b .bit9
 
 abbrev pub bodyFields : Body → List ℕ
 bodyFields (body.Identification b) = identificationFields b

@@ -16,9 +16,16 @@ isIdentification type = leb 1 type && leb type 4
 abbrev pub isSurface : ℕ → Bool
 isSurface type = leb 5 type && leb type 8
 
+abbrev pub isAirbornePosition : ℕ → Bool
+isAirbornePosition type = (leb 9 type && leb type 18) || (leb 20 type && leb type 22)
+
 -- TYPE 0 has no position, but this layout
 abbrev pub isAirborne : ℕ → Bool
-isAirborne type = eqb type 0 || ((leb 9 type && leb type 18) || (leb 20 type && leb type 22))
+isAirborne type = eqb type 0 || isAirbornePosition type
+
+-- position messages, on the surface or in the air
+abbrev pub isPosition : ℕ → Bool
+isPosition type = isSurface type || isAirbornePosition type
 
 -- ---- what the bits say
 

@@ -22,7 +22,8 @@ use crate::velocity::ground_of;
 use refusals::Refusal;
 ghost use mathlib.Core.Path.{_≡_};
 ghost use mathlib.Core.Bool.{true};
-ghost use Rattle.layouts.specs.Bodies.{layoutOf, isTaken, taken, written, bodyType, bodyMe, bodyFits};
+ghost use Rattle.layouts.specs.Bodies.{typeIn, layoutOf, isTaken, flagIn, taken, written, bodyType, flagOf, bodyMe, bodyFits};
+ghost use Rattle.layouts.specs.Layouts.{isPosition};
 
 pub enum Body {
     Identification(Identification),
@@ -93,6 +94,36 @@ pub fn is_taken(me: u64) -> bool
     }
 }
 
+// TYPE of ME.
+pub fn type_in(me: u64) -> u8
+    ensures { λ r. ⌜ r ≡ typeIn me ⌝ }
+{
+    (me / 0x8_0000_0000_0000 % 32) as u8
+}
+
+// Whether a message of a TYPE has a position.
+pub fn is_position(typecode: u8) -> bool
+    ensures { λ r. ⌜ r ≡ isPosition typecode ⌝ }
+{
+    let t = typecode;
+    ((5 <= t) & (t <= 8)) | (((9 <= t) & (t <= 18)) | ((20 <= t) & (t <= 22)))
+}
+
+// The flag that tells the address of a traffic service's message, by ME's bit 21, 8 or 9.
+pub fn flag_in(me: u64) -> u8
+    ensures { λ r. ⌜ r ≡ flagIn me ⌝ }
+{
+    let layout = layout_of(me);
+    match layout {
+        Layout::Identification => 0,
+        Layout::Surface => (me / 0x8_0000_0000 % 2) as u8,
+        Layout::Airborne => (me / 0x1_0000_0000_0000 % 2) as u8,
+        Layout::Ground => (me / 0x8000_0000_0000 % 2) as u8,
+        Layout::Air => (me / 0x8000_0000_0000 % 2) as u8,
+        Layout::NotTaken => 0,
+    }
+}
+
 // What the 56 bits of ME say. What a number has above them is not read.
 pub fn body_of(me: u64) -> Taken
     ensures { λ r. ⌜ r ≡ taken me ⌝ }
@@ -118,6 +149,19 @@ pub fn type_of(b: Body) -> u8
         Body::Airborne(x) => x.typecode,
         Body::Ground(x) => x.typecode,
         Body::Air(x) => x.typecode,
+    }
+}
+
+// The same flag of a body.
+pub fn flag_of(b: Body) -> u8
+    ensures { λ r. ⌜ r ≡ flagOf b ⌝ }
+{
+    match b {
+        Body::Identification(_) => 0,
+        Body::Surface(x) => x.t,
+        Body::Airborne(x) => x.bit8,
+        Body::Ground(x) => x.bit9,
+        Body::Air(x) => x.bit9,
     }
 }
 

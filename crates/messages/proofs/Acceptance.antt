@@ -1,8 +1,8 @@
 -- An acceptable message is one that is decoded: both go by the same tests, and TYPE and subtype choose a layout or none. What its ME is unpacked to is packed to the same ME.
 -- Assumes nothing.
 use Prim.Native.Nat.{ℕ, _/_, _^_}
-use mathlib.Core.Path.{_≡_, refl, ap, subst, _∙_}
-use mathlib.Core.Bool.{Bool, true, false, cond, not}
+use mathlib.Core.Path.{_≡_, refl, sym, ap, ap₂, subst, _∙_}
+use mathlib.Core.Bool.{Bool, true, false, cond, not, _||_}
 use mathlib.Core.List.{List}
 use native.Mathlib.Omega.{arith}
 use native.Mathlib.Nat.{mod-lt}
@@ -13,22 +13,22 @@ use Rattle.refusals.specs.declared.Refusal.the-variants.{Length, Parity, Format
 use Rattle.refusals.specs.Said.{number}
 use Rattle.fields.specs.Bytes.{number as numeral}
 use Rattle.parity.specs.Parity.{remainder}
-use Rattle.layouts.specs.Bodies.{layoutOf, isTaken, takenAs, taken, bodyMe, bodyFits}
+use Rattle.layouts.specs.Bodies.{layoutOf, isTaken, flagIn, takenAs, taken, bodyMe, bodyFits}
 use Rattle.layouts.specs.declared.bodies.Body.{Body}
 use Rattle.layouts.specs.declared.bodies.Layout.{Layout}
 use Rattle.layouts.specs.declared.bodies.Layout.the-variants as layout
 use Rattle.layouts.specs.declared.bodies.Taken.{Taken}
 use Rattle.layouts.specs.declared.bodies.Taken.the-variants as read
 use Rattle.layouts.proofs.BothWays.{read-good}
-use Rattle.messages.specs.Message.{bits, formatTaken, opened, decoded}
-use Rattle.messages.specs.Accepted.{frameOf, framed, accepted, openedAs, IsAccepted}
+use Rattle.messages.specs.Message.{bits, formatTaken, isReserved, opened, decoded}
+use Rattle.messages.specs.Accepted.{frameOf, frameReserved, framed, accepted, openedAs, IsAccepted}
 use Rattle.messages.specs.Said.{acceptedSaid, earns1, earns3, earns4, acceptTable}
 use Rattle.messages.specs.declared.Frame.{Frame}
 use Rattle.messages.specs.declared.Message.{Message}
 use Rattle.messages.specs.declared.Accepted.{Accepted}
 use Rattle.messages.specs.declared.Accepted.the-variants as accept
 use Rattle.messages.specs.declared.Decoded.the-variants as decode
-use Rattle.messages.proofs.Exactly.{layout-in}
+use Rattle.messages.proofs.Flags.{layout-in, flag-in}
 
 -- ---- a layout, or none
 
@@ -51,14 +51,20 @@ module _ (f : Frame) where
   abbrev a : Bool
   a = formatTaken (f .format) (f .control)
 
+  abbrev t : Bool
+  t = isTaken (layoutOf (f .me))
+
+  -- opened by 4, by the flag, or by ME: what `framed` refuses, and what it gives back
   opens : opened (f .format) (f .control) (f .address) (f .me) ≡ openedAs (framed f)
   unfolding opened framed
-  opens = by-cases a (isTaken (layoutOf (f .me))) refl refl (reads (layoutOf (f .me)) (f .me))
+  opens = by-cases a t (frameReserved f) refl refl refl (reads (layoutOf (f .me)) (f .me))
     where
-      by-cases : (b t : Bool) → a ≡ b → isTaken (layoutOf (f .me)) ≡ t → Reads t (taken (f .me)) → opened (f .format) (f .control) (f .address) (f .me) ≡ openedAs (framed f)
-      by-cases false t e k r = rw e
-      by-cases true true e k r = rw (e, k, e)
-      by-cases true false e k r = rw (e, k, r)
+      by-cases : (x y z : Bool) → a ≡ x → t ≡ y → frameReserved f ≡ z → Reads y (taken (f .me)) → opened (f .format) (f .control) (f .address) (f .me) ≡ openedAs (framed f)
+      by-cases false y z e k q r = rw e
+      by-cases true true true e k q r = rw (e, k, q)
+      by-cases true false true e k q r = rw (e, k, q)
+      by-cases true false false e k q r = rw (e, k, q, r)
+      by-cases true true false e k q r = let g : framed f ≡ accept.Frame f = rw (e, k, q) in sym (ap openedAs g)
 
 pub accepted-opened : (s : List ℕ) → decoded s ≡ openedAs (accepted s)
 accepted-opened s = by-cases (eqb (length s) 14) (eqb (remainder s) 0)
@@ -78,6 +84,7 @@ messageOf f b = record { format = f .format; control = f .control; address = f .
 -- a frame that was accepted opens to a body that fits, whose bits are its ME
 pub record Opens (f : Frame) : Type 0 where
   pub body : Body
+  pub reads : taken (f .me) ≡ read.Body body
   pub message : openedAs (accept.Frame f) ≡ decode.Message (messageOf f body)
   pub fits : bodyFits body ≡ true
   pub same : bodyMe body ≡ f .me
@@ -92,26 +99,30 @@ module _ (g f : Frame) where
   tested true true e = e
 
   -- what `framed` asks of a frame that it gives back
-  passed : (b t : Bool) → cond (not b) (accept.Refused Format) (cond (not t) (accept.Refused TypeCode) (accept.Frame g)) ≡ accept.Frame f → (b ≡ true) × ((t ≡ true) × (g ≡ f))
-  passed false t e = no-frame e
-  passed true false e = no-frame e
-  passed true true e = (refl, (refl, cc))
+  passed : (b t r : Bool) → cond (not b) (accept.Refused Format) (cond (not t || r) (accept.Refused TypeCode) (accept.Frame g)) ≡ accept.Frame f
+      → (b ≡ true) × (t ≡ true) × (r ≡ false) × (g ≡ f)
+  passed false t r e = no-frame e
+  passed true false r e = no-frame e
+  passed true true true e = no-frame e
+  passed true true false e = (refl, refl, refl, cc)
 
-opened-as : (g : Frame) (b : Body) → formatTaken (g .format) (g .control) ≡ true → taken (g .me) ≡ read.Body b → openedAs (accept.Frame g) ≡ decode.Message (messageOf g b)
+opened-as : (g : Frame) (b : Body) → formatTaken (g .format) (g .control) ≡ true → frameReserved g ≡ false → taken (g .me) ≡ read.Body b
+    → openedAs (accept.Frame g) ≡ decode.Message (messageOf g b)
 unfolding opened
-opened-as g b h r = rw (h, r)
+opened-as g b h q r = rw (h, q, r)
 
 pub frame-opens : (f : Frame) → IsAccepted f → Opens f
 unfolding framed
 frame-opens f a =
     let s : List ℕ = a .0 in
     let g : Frame = frameOf s in
-    let p = passed g f (formatTaken (g .format) (g .control)) (isTaken (layoutOf (g .me))) (tested g f (eqb (length s) 14) (eqb (remainder s) 0) (a .1)) in
-    let r : Reads true (taken (g .me)) = subst (λ (t : Bool). Reads t (taken (g .me))) (p .1 .0) (reads (layoutOf (g .me)) (g .me)) in
-    of-frame g (p .0) (r .0) (r .1) (read-good (g .me) (r .0) (mod-lt (numeral s / 2 ^ 24) (lit< tt)) (r .1)) (p .1 .1)
+    let p = passed g f (formatTaken (g .format) (g .control)) (isTaken (layoutOf (g .me))) (frameReserved g) (tested g f (eqb (length s) 14) (eqb (remainder s) 0) (a .1)) in
+    let r : Reads true (taken (g .me)) = subst (λ (t : Bool). Reads t (taken (g .me))) (p .1) (reads (layoutOf (g .me)) (g .me)) in
+    of-frame g (p .0) (p .2) (r .0) (r .1) (read-good (g .me) (r .0) (mod-lt (numeral s / 2 ^ 24) (lit< tt)) (r .1)) (p .3)
   where
-    of-frame : (g : Frame) → formatTaken (g .format) (g .control) ≡ true → (b : Body) → taken (g .me) ≡ read.Body b → (bodyFits b ≡ true) × (bodyMe b ≡ g .me) → g ≡ f → Opens f
-    of-frame g h b r good q = subst Opens q (record { body = b; message = opened-as g b h r; fits = good .0; same = good .1 })
+    of-frame : (g : Frame) → formatTaken (g .format) (g .control) ≡ true → frameReserved g ≡ false → (b : Body) → taken (g .me) ≡ read.Body b
+        → (bodyFits b ≡ true) × (bodyMe b ≡ g .me) → g ≡ f → Opens f
+    of-frame g h n b r good q = subst Opens q (record { body = b; reads = r; message = opened-as g b h n r; fits = good .0; same = good .1 })
 
 -- ---- document 01's table
 
@@ -126,5 +137,5 @@ accept-says-the-table s =
     says (earns1 s) _ _
     ∙ ap (cond (earns1 s) (number 1)) (says (earns3 s) _ _
     ∙ ap (cond (earns3 s) (number 3)) (says (earns4 s) _ _
-    ∙ ap (cond (earns4 s) (number 4)) (says (not (isTaken (layoutOf (bits 33 88 s)))) _ _
-    ∙ ap (λ (l : Layout). cond (not (isTaken l)) (number 5) (acceptedSaid (accept.Frame (frameOf s)))) (layout-in s))))
+    ∙ ap (cond (earns4 s) (number 4)) (says (not (isTaken (layoutOf (bits 33 88 s))) || frameReserved (frameOf s)) _ _
+    ∙ ap₂ (λ (l : Layout) (k : ℕ). cond (not (isTaken l) || isReserved (bits 1 5 s) (bits 6 8 s) k) (number 5) (acceptedSaid (accept.Frame (frameOf s)))) (layout-in s) (flag-in s))))

@@ -3,39 +3,46 @@
 -- Assumes nothing.
 use Prim.Native.Nat.{ℕ, _/_, _%_, _^_, _<_}
 use mathlib.Core.Path.{_≡_, refl, sym, ap, ap₂, subst, _∙_}
-use mathlib.Core.Bool.{Bool, true, not, _&&_}
+use mathlib.Core.Bool.{Bool, true, false, not}
 use mathlib.Core.List.{List, _++_}
 use native.Mathlib.Nat.{mod-eq-of-lt, mod-lt}
 use native.Mathlib.Omega.{arith}
 use lib.Dec.{eqb, lit<}
 use lib.ListN.{length, take, drop, getD, take-append-drop, length-drop}
 use lib.Seq.{take-add}
-use borrow.Author.Tests.{eqb-true, not-false}
+use borrow.Author.Tests.{eqb-true, not-true, not-false}
 use Rattle.fields.specs.Packing.{pack, unpack, Fit, fits}
 use Rattle.fields.specs.Bytes.{number, bytesOf, Bytes}
-use Rattle.fields.proofs.Bools.{and-left, and-right, both, by-test}
+use Rattle.fields.proofs.Bools.{each, both, by-test}
 use Rattle.fields.proofs.Fits.{fits-fit, unpack-fits}
 use Rattle.fields.proofs.Packing.{pack-lt, unpack-pack, pack-unpack}
 use Rattle.fields.proofs.Bytes.{bytes-take, bytes-drop, fit-bytes, number-bytes, bytes-number}
 use Rattle.parity.specs.Parity.{remainder}
 use Rattle.parity.proofs.Seal.{sealed, only-sealed}
-use Rattle.layouts.specs.Bodies.{taken, bodyMe, bodyFits}
-use Rattle.layouts.proofs.BothWays.{written-read, read-good, me-lt}
+use Rattle.layouts.specs.Bodies.{taken, flagIn, flagOf, bodyMe, bodyFits}
+use Rattle.layouts.proofs.BothWays.{written-read, read-good, flag-read, me-lt}
 use Rattle.layouts.specs.declared.bodies.Taken.{Taken}
 use Rattle.layouts.specs.declared.bodies.Taken.the-variants as read
-use Rattle.messages.specs.Message.{bits, formatTaken, withBody, opened, decoded, headWidths, headFields, messageFits, sealedBy, messageBytes}
+use Rattle.messages.specs.Message.{bits, formatTaken, isReserved, withBody, opened, decoded, headWidths, headFields, headTaken, messageFits, sealedBy, messageBytes}
 use Rattle.messages.specs.declared.Frame.{Frame}
 use Rattle.messages.specs.declared.Message.{Message}
 use Rattle.messages.specs.declared.Decoded.{Decoded}
 use Rattle.messages.specs.declared.Decoded.the-variants as decode
+use Rattle.messages.proofs.Fitting.{fits-head, fits-taken, fits-body}
 use Rattle.messages.proofs.Parts.{four, seven, head-lt, me-is, head-is, frame-is}
 
 -- ---- what is encoded is decoded to the same fields
 
-opened-back : (m : Message) → formatTaken (m .format) (m .control) ≡ true → bodyFits (m .body) ≡ true
+opened-back : (m : Message) → headTaken m ≡ true → bodyFits (m .body) ≡ true
     → opened (m .format) (m .control) (m .address) (bodyMe (m .body)) ≡ decode.Message m
 unfolding opened
-opened-back m t b = rw t (ap (withBody (m .format) (m .control) (m .address)) (written-read (bodyMe (m .body)) (m .body) (rw b)))
+opened-back m h b =
+    let n : ℕ = bodyMe (m .body) in
+    let r : ℕ → Bool = isReserved (m .format) (m .control) in
+    let t = each (formatTaken (m .format) (m .control)) (not (r (flagOf (m .body)))) h in
+    let e : taken n ≡ read.Body (m .body) = written-read n (m .body) (rw b) in
+    let f : r (flagIn n) ≡ false = ap r (sym (flag-read n (m .body) e)) ∙ not-true (r (flagOf (m .body))) (t .1) in
+    rw (t .0, f) (ap (withBody (m .format) (m .control) (m .address)) e)
 
 -- a message's bytes from the numbers of its first four and next seven
 frame : ℕ → ℕ → List ℕ
@@ -61,16 +68,13 @@ message-bytes m = frame-bytes (pack headWidths (headFields m)) (bodyMe (m .body)
 pub encoded-decoded : (m : Message) → messageFits m ≡ true → decoded (messageBytes m) ≡ decode.Message m
 unfolding frame
 encoded-decoded m e =
-    let f : Bool = fits headWidths (headFields m) in
-    let t : Bool = formatTaken (m .format) (m .control) in
-    let l : f && t ≡ true = and-left (f && t) (bodyFits (m .body)) e in
-    let b : bodyFits (m .body) ≡ true = and-right (f && t) (bodyFits (m .body)) e in
-    let g : Fit headWidths (headFields m) = fits-fit headWidths (headFields m) (and-left f t l) in
+    let b : bodyFits (m .body) ≡ true = fits-body m e in
+    let g : Fit headWidths (headFields m) = fits-fit headWidths (headFields m) (fits-head m e) in
     let h : ℕ = pack headWidths (headFields m) in
     let u : unpack headWidths h ≡ headFields m = unpack-pack headWidths (headFields m) g in
     frame-decoded h (bodyMe (m .body)) (pack-lt headWidths (headFields m) g) (me-lt (m .body) b)
     ∙ ap (λ (x : List ℕ). opened (getD x 0 0) (getD x 1 0) (getD x 2 0) (bodyMe (m .body))) u
-    ∙ opened-back m (and-right f t l) b
+    ∙ opened-back m (fits-taken m e) b
 
 -- ---- what is decoded is encoded to the same bytes
 
@@ -99,22 +103,23 @@ module _ (s : List ℕ) (e : length s ≡ 14) (h : Bytes s) (z : remainder s ≡
       let q : remainder (take 11 s ++ drop 11 s) ≡ 0 = ap remainder (take-append-drop 11 s) ∙ z in
       ap sealedBy j ∙ ap (λ (y : List ℕ). take 11 s ++ y) (sym (only-sealed (take 11 s) (drop 11 s) l (bytes-drop 11 s h) q)) ∙ take-append-drop 11 s
 
-  body-good : formatTaken (bits 1 5 s) (bits 6 8 s) ≡ true → (b : Taken) → taken (bits 33 88 s) ≡ b
+  body-good : formatTaken (bits 1 5 s) (bits 6 8 s) ≡ true → isReserved (bits 1 5 s) (bits 6 8 s) (flagIn (bits 33 88 s)) ≡ false → (b : Taken) → taken (bits 33 88 s) ≡ b
       → Good s (withBody (bits 1 5 s) (bits 6 8 s) (bits 9 32 s) b)
   unfolding head frame
-  body-good t (read.Body b) p =
+  body-good t r (read.Body b) p =
       let g = read-good (bits 33 88 s) b (mod-lt (number s / 2 ^ 24) (lit< tt)) p in
       let f = ap (fits headWidths) (head-is s e h) ∙ unpack-fits headWidths head in (
-        both (both f t) (g .0),
+        both (both f (both t (ap not (ap (isReserved (bits 1 5 s) (bits 6 8 s)) (flag-read (bits 33 88 s) b p) ∙ r)))) (g .0),
         framed _ _ (ap (pack headWidths) (head-is s e h) ∙ pack-unpack headWidths head ∙ mod-eq-of-lt (head-lt s e h)) (g .1 ∙ me-is s e h),
       )
-  body-good t (read.Refused r) p = tt
+  body-good t r (read.Refused q) p = tt
 
   opened-good : Good s (opened (bits 1 5 s) (bits 6 8 s) (bits 9 32 s) (bits 33 88 s))
   unfolding opened
   opened-good =
       by-test (Good s) (not (formatTaken (bits 1 5 s) (bits 6 8 s))) _ _ (λ t. tt)
-      (λ t. body-good (not-false (formatTaken (bits 1 5 s) (bits 6 8 s)) t) (taken (bits 33 88 s)) refl)
+      (λ t. by-test (Good s) (isReserved (bits 1 5 s) (bits 6 8 s) (flagIn (bits 33 88 s))) _ _ (λ r. tt)
+      (λ r. body-good (not-false (formatTaken (bits 1 5 s) (bits 6 8 s)) t) r (taken (bits 33 88 s)) refl))
 
 pub decoded-good : (s : List ℕ) (m : Message) → Bytes s → decoded s ≡ decode.Message m → (messageFits m ≡ true) × (messageBytes m ≡ s)
 decoded-good s m h d =

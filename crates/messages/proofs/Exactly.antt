@@ -3,20 +3,21 @@
 -- Assumes nothing.
 use Prim.Native.Nat.{ℕ, _+_, _*_, _/_, _%_, _^_}
 use mathlib.Core.Path.{_≡_, refl, sym, ap, ap₂, _∙_}
-use mathlib.Core.Bool.{Bool, true, false, cond, not}
+use mathlib.Core.Bool.{Bool, true, false, cond, not, _&&_, _||_}
 use mathlib.Core.List.{List, _∷_, _++_}
-use mathlib.Core.Logic.{_↔_}
+use mathlib.Core.Logic.{_↔_, _⊎_, inl, inr, ⊎-elim}
 use native.Mathlib.Omega.{arith}
 use lib.Dec.{eqb}
-use borrow.Author.Tests.{eq-eqb}
+use borrow.Author.Tests.{eq-eqb, eqb-true, not-true}
 use Rattle.refusals.specs.Numbers.{numberOf}
 use Rattle.refusals.specs.Said.{Said, number, gives}
-use Rattle.fields.specs.Packing.{field, total, unpack, me}
+use Rattle.fields.specs.Packing.{field, total, unpack}
 use Rattle.fields.specs.Bytes.{number as numeral}
+use Rattle.fields.proofs.Bools.{each, either}
 use Rattle.fields.proofs.Packing.{unpack-above}
 use Rattle.layouts.specs.Layouts.{identificationWidths, surfaceWidths, airborneWidths}
 use Rattle.layouts.specs.Velocity.{groundOf, airOf, groundFields, airFields, velocityWidths}
-use Rattle.layouts.specs.Bodies.{layoutAt, layoutOf, isTaken, takenAs, layoutWidths, bodyLayout}
+use Rattle.layouts.specs.Bodies.{layoutOf, isTaken, flagIn, takenAs, layoutWidths, bodyLayout}
 use Rattle.layouts.specs.Said.{Values, values}
 use Rattle.layouts.specs.declared.bodies.Body.the-variants as body
 use Rattle.layouts.specs.declared.bodies.Layout.{Layout}
@@ -24,21 +25,16 @@ use Rattle.layouts.specs.declared.bodies.Layout.the-variants as layout
 use Rattle.layouts.specs.declared.velocity.Ground.{Ground}
 use Rattle.layouts.specs.declared.velocity.Air.{Air}
 use Rattle.messages.specs.Accepted.{Acceptable}
-use Rattle.messages.specs.Message.{bits, withBody, opened, decoded, headWidths}
-use Rattle.messages.specs.Said.{said, earns1, earns3, earns4, layoutIn, earns5, valuesIn, table}
+use Rattle.messages.specs.Message.{bits, isReserved, withBody, opened, decoded, headWidths}
+use Rattle.messages.specs.Said.{said, earns1, earns3, earns4, layoutIn, flagAt, earns5, valuesIn, table}
 use Rattle.messages.specs.declared.Message.{Message}
 use Rattle.messages.specs.declared.Decoded.{Decoded}
 use Rattle.messages.specs.declared.Decoded.the-variants as decode
+use Rattle.messages.proofs.Flags.{layout-in, flag-in}
 
 -- ---- fields of a part of the bits
 
 module _ (n : ℕ) where
-  pub type-is : me 1 5 (field 112 33 88 n) ≡ field 112 33 37 n
-  type-is = omega arith
-
-  subtype-is : me 6 8 (field 112 33 88 n) ≡ field 112 38 40 n
-  subtype-is = omega arith
-
   before-pi : field 112 1 88 n ≡ field 112 1 32 n * 2 ^ 56 + field 112 33 88 n
   before-pi = omega arith
 
@@ -63,10 +59,6 @@ said-of false x y = refl
 
 -- ---- ME: one layout, or none
 
--- TYPE and subtype by the bits of the message
-pub layout-in : (s : List ℕ) → layoutOf (bits 33 88 s) ≡ layoutIn s
-layout-in s = ap₂ layoutAt (type-is (numeral s)) (subtype-is (numeral s))
-
 abbrev by-widths : Layout → ℕ → Said Values
 by-widths l n = cond (not (isTaken l)) (number 5) (gives (values l (unpack (headWidths ++ layoutWidths l) (field 112 1 88 n))))
 
@@ -80,12 +72,24 @@ layout-says layout.NotTaken n = refl
 
 -- ---- the whole
 
+-- 5 for either reason
+for-either : (r t : Bool) (x : Said Values) → cond r (number 5) (cond t (number 5) x) ≡ cond (t || r) (number 5) x
+for-either true true x = refl
+for-either true false x = refl
+for-either false true x = refl
+for-either false false x = refl
+
 opened-says : (s : List ℕ)
     → said (opened (bits 1 5 s) (bits 6 8 s) (bits 9 32 s) (bits 33 88 s)) ≡ cond (earns4 s) (number 4) (cond (earns5 s) (number 5) (gives (valuesIn s)))
 unfolding opened
 opened-says s =
+    let n : ℕ = bits 33 88 s in
+    let r : ℕ → Bool = isReserved (bits 1 5 s) (bits 6 8 s) in
     said-of (earns4 s) _ _
-    ∙ ap (cond (earns4 s) (number 4)) (layout-says (layoutOf (bits 33 88 s)) (numeral s) ∙ ap (λ (l : Layout). by-widths l (numeral s)) (layout-in s))
+    ∙ ap (cond (earns4 s) (number 4)) (said-of (r (flagIn n)) _ _
+    ∙ ap (cond (r (flagIn n)) (number 5)) (layout-says (layoutOf n) (numeral s))
+    ∙ for-either (r (flagIn n)) (not (isTaken (layoutOf n))) _
+    ∙ ap₂ (λ (l : Layout) (k : ℕ). cond (not (isTaken l) || r k) (number 5) (gives (values l (unpack (headWidths ++ layoutWidths l) (bits 1 88 s))))) (layout-in s) (flag-in s))
 
 -- what the decoder answers is what the table says
 pub says-the-table : (s : List ℕ) → said (decoded s) ≡ table s
@@ -173,12 +177,29 @@ module _ (s : List ℕ) where
     λ p. says-the-table s ∙ rw (p .0, p .1, p .2),
   )
 
-  -- 5 exactly when it earns none of 1, 3 and 4, and its TYPE or subtype is not taken
+  -- 5 exactly when it earns none of 1, 3 and 4, and there is one of two reasons
   pub five-exactly : said (decoded s) ≡ number 5 ↔ (earns1 s ≡ false) × (earns3 s ≡ false) × (earns4 s ≡ false) × (earns5 s ≡ true)
   five-exactly = (
     λ e. fourth (earns1 s) (earns3 s) (earns4 s) (earns5 s) (valuesIn s) (sym (says-the-table s) ∙ e),
     λ p. says-the-table s ∙ rw (p .0, p .1, p .2, p .3),
   )
+
+  -- its TYPE or subtype is not taken, or it is DF 18 with CF 5 and the flag set
+  pub five-reasons : earns5 s ≡ true ↔ (isTaken (layoutIn s) ≡ false) ⊎ ((bits 1 5 s ≡ 18) × (bits 6 8 s ≡ 5) × (flagAt s ≡ 1))
+  five-reasons = (
+    λ e. ⊎-elim (λ t. inl (not-true (isTaken (layoutIn s)) t)) (λ r. inr (reserved r)) (either (not (isTaken (layoutIn s))) _ e),
+    ⊎-elim (λ t. rw t) (λ p. rw (p .0, p .1, p .2) (or-true (not (isTaken (layoutIn s))))),
+  )
+    where
+      reserved : isReserved (bits 1 5 s) (bits 6 8 s) (flagAt s) ≡ true → (bits 1 5 s ≡ 18) × (bits 6 8 s ≡ 5) × (flagAt s ≡ 1)
+      reserved r =
+          let p = each (eqb (bits 1 5 s) 18 && eqb (bits 6 8 s) 5) (eqb (flagAt s) 1) r in
+          let q = each (eqb (bits 1 5 s) 18) (eqb (bits 6 8 s) 5) (p .0) in
+          (eqb-true (bits 1 5 s) 18 (q .0), eqb-true (bits 6 8 s) 5 (q .1), eqb-true (flagAt s) 1 (p .1))
+
+      or-true : (t : Bool) → t || true ≡ true
+      or-true true = refl
+      or-true false = refl
 
   -- acceptable exactly when it earns none of the four
   pub accepted-exactly : Acceptable s ↔ (earns1 s ≡ false) × (earns3 s ≡ false) × (earns4 s ≡ false) × (earns5 s ≡ false)

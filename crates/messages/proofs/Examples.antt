@@ -2,7 +2,7 @@
 -- Assumes nothing.
 use Prim.Native.Nat.{ℕ}
 use mathlib.Core.Path.{_≡_, refl, sym, ap, _∙_}
-use mathlib.Core.Bool.{true}
+use mathlib.Core.Bool.{true, false}
 use mathlib.Core.List.{List, [], _∷_}
 use native.Mathlib.Omega.{arith}
 use lib.Dec.{lit≤}
@@ -15,8 +15,8 @@ use Rattle.layouts.specs.declared.bodies.Layout.the-variants as layout
 use Rattle.messages.specs.declared.Message.{Message}
 use Rattle.messages.specs.declared.Decoded.the-variants as decode
 use Rattle.messages.specs.Damaged.{Damaged}
-use Rattle.messages.specs.Message.{decoded, opened, messageFits, messageBytes}
-use Rattle.messages.specs.Said.{said}
+use Rattle.messages.specs.Message.{decoded, opened, kindOf, messageFits, messageBytes}
+use Rattle.messages.specs.Said.{said, keyIn, startsIn}
 use Rattle.messages.proofs.Exactly.{accepted-exactly}
 
 -- 8D4840D6202CC371C32CE0576098
@@ -58,7 +58,90 @@ pub examples : (said (decoded identification) ≡ gives (values layout.Identific
 unfolding remainder remainderFrom reduce opened
 examples = (refl, refl, refl, refl, refl, refl, refl, refl)
 
--- TYPE 0 both ways: its bytes are decoded to these fields, which are taken and give the same bytes
+-- 9240621D58C382D690C8ACE58DA2: CF 2, airborne, even, the flag not set
+abbrev traffic : List ℕ
+traffic = 0x92 ∷ 0x40 ∷ 0x62 ∷ 0x1D ∷ 0x58 ∷ 0xC3 ∷ 0x82 ∷ 0xD6 ∷ 0x90 ∷ 0xC8 ∷ 0xAC ∷ 0xE5 ∷ 0x8D ∷ 0xA2 ∷ []
+
+-- 9240621D59C386435CC41278BE24: CF 2, airborne, odd, the flag set: the same AA says a Mode A code and a track number
+abbrev traffic-mode-a : List ℕ
+traffic-mode-a = 0x92 ∷ 0x40 ∷ 0x62 ∷ 0x1D ∷ 0x59 ∷ 0xC3 ∷ 0x86 ∷ 0x43 ∷ 0x5C ∷ 0xC4 ∷ 0x12 ∷ 0x78 ∷ 0xBE ∷ 0x24 ∷ []
+
+-- 9540621D58C382D690C8AC932FC3: CF 5, airborne, the flag not set
+abbrev traffic-other : List ℕ
+traffic-other = 0x95 ∷ 0x40 ∷ 0x62 ∷ 0x1D ∷ 0x58 ∷ 0xC3 ∷ 0x82 ∷ 0xD6 ∷ 0x90 ∷ 0xC8 ∷ 0xAC ∷ 0x93 ∷ 0x2F ∷ 0xC3 ∷ []
+
+-- 9540621D59C382D690C8AC4F5534: CF 5, airborne, the flag set
+abbrev traffic-reserved : List ℕ
+traffic-reserved = 0x95 ∷ 0x40 ∷ 0x62 ∷ 0x1D ∷ 0x59 ∷ 0xC3 ∷ 0x82 ∷ 0xD6 ∷ 0x90 ∷ 0xC8 ∷ 0xAC ∷ 0x4F ∷ 0x55 ∷ 0x34 ∷ []
+
+-- 9240621D3A8A3D323FAEBDB411E3: CF 2, on the surface, the flag set, which is bit 53
+abbrev traffic-surface : List ℕ
+traffic-surface = 0x92 ∷ 0x40 ∷ 0x62 ∷ 0x1D ∷ 0x3A ∷ 0x8A ∷ 0x3D ∷ 0x32 ∷ 0x3F ∷ 0xAE ∷ 0xBD ∷ 0xB4 ∷ 0x11 ∷ 0xE3 ∷ []
+
+-- 9240621D99C409940838171979CB: CF 2, a velocity, the flag set, which is bit 41
+abbrev traffic-velocity : List ℕ
+traffic-velocity = 0x92 ∷ 0x40 ∷ 0x62 ∷ 0x1D ∷ 0x99 ∷ 0xC4 ∷ 0x09 ∷ 0x94 ∷ 0x08 ∷ 0x38 ∷ 0x17 ∷ 0x19 ∷ 0x79 ∷ 0xCB ∷ []
+
+-- 9240621D212CC371C32CE03F92AE: CF 2, identification, which has no flag: bits 40, 41 and 53 decide nothing
+abbrev traffic-name : List ℕ
+traffic-name = 0x92 ∷ 0x40 ∷ 0x62 ∷ 0x1D ∷ 0x21 ∷ 0x2C ∷ 0xC3 ∷ 0x71 ∷ 0xC3 ∷ 0x2C ∷ 0xE0 ∷ 0x3F ∷ 0x92 ∷ 0xAE ∷ []
+
+-- 8D40621D59C382D690C8ACF41950: DF 17 with CA 5, and bit 40 set
+abbrev transponder : List ℕ
+transponder = 0x8D ∷ 0x40 ∷ 0x62 ∷ 0x1D ∷ 0x59 ∷ 0xC3 ∷ 0x82 ∷ 0xD6 ∷ 0x90 ∷ 0xC8 ∷ 0xAC ∷ 0xF4 ∷ 0x19 ∷ 0x50 ∷ []
+
+-- 9340621D58C382D690C8ACBDFCDA: CF 3
+abbrev coarse : List ℕ
+coarse = 0x93 ∷ 0x40 ∷ 0x62 ∷ 0x1D ∷ 0x58 ∷ 0xC3 ∷ 0x82 ∷ 0xD6 ∷ 0x90 ∷ 0xC8 ∷ 0xAC ∷ 0xBD ∷ 0xFC ∷ 0xDA ∷ []
+
+-- 9140621D58C382D690C8AC0D1E2A: CF 1
+abbrev other : List ℕ
+other = 0x91 ∷ 0x40 ∷ 0x62 ∷ 0x1D ∷ 0x58 ∷ 0xC3 ∷ 0x82 ∷ 0xD6 ∷ 0x90 ∷ 0xC8 ∷ 0xAC ∷ 0x0D ∷ 0x1E ∷ 0x2A ∷ []
+
+-- 9540621D00381ED690C8AC6FD6A6: CF 5, TYPE 0
+abbrev traffic-altitude : List ℕ
+traffic-altitude = 0x95 ∷ 0x40 ∷ 0x62 ∷ 0x1D ∷ 0x00 ∷ 0x38 ∷ 0x1E ∷ 0xD6 ∷ 0x90 ∷ 0xC8 ∷ 0xAC ∷ 0x6F ∷ 0xD6 ∷ 0xA6 ∷ []
+
+-- the five kinds by their keys; one AA has five, so no two of the kinds are one track
+pub five-kinds : (keyIn airborne ≡ 0x140621D)
+    × (keyIn traffic ≡ 0x340621D)
+    × (keyIn traffic-mode-a ≡ 0x440621D)
+    × (keyIn traffic-surface ≡ 0x440621D)
+    × (keyIn traffic-velocity ≡ 0x440621D)
+    × (keyIn traffic-name ≡ 0x340621D)
+    × (keyIn traffic-other ≡ 0x540621D)
+    × (keyIn transponder ≡ 0x140621D)
+    × (keyIn other ≡ 0x240621D)
+unfolding kindOf
+five-kinds = (refl, refl, refl, refl, refl, refl, refl, refl, refl)
+
+-- what earns 5 and 4
+pub traffic-refused : (said (decoded traffic-reserved) ≡ number 5) × (said (decoded coarse) ≡ number 4)
+unfolding remainder remainderFrom reduce opened
+traffic-refused = (refl, refl)
+
+-- what may start a track: of the traffic service positions alone
+pub traffic-starts : (startsIn traffic ≡ true)
+    × (startsIn traffic-surface ≡ true)
+    × (startsIn traffic-velocity ≡ false)
+    × (startsIn traffic-other ≡ true)
+    × (startsIn traffic-name ≡ false)
+    × (startsIn traffic-altitude ≡ false)
+    × (startsIn ground ≡ true)
+    × (startsIn identification ≡ true)
+unfolding kindOf
+traffic-starts = (refl, refl, refl, refl, refl, refl, refl, refl)
+
+-- an even message of T and an odd one of M, of one AA, are never a pair: their keys differ
+pub never-paired : keyIn traffic ≡ keyIn traffic-mode-a → ⊥
+never-paired e = let z : _≡_ {A = ℕ} 0x340621D 0x440621D = sym (five-kinds .1) ∙ e ∙ five-kinds .2 in omega arith
+
+-- ---- both ways: the bytes are decoded to these fields, which are taken and give the same bytes
+
+abbrev BothWays : List ℕ → Message → Type 0
+BothWays bytes m = (decoded bytes ≡ decode.Message m) × (messageFits m ≡ true) × (messageBytes m ≡ bytes)
+
+-- TYPE 0
 abbrev no-position-fields : Message
 no-position-fields = record {
   format = 17;
@@ -67,9 +150,22 @@ no-position-fields = record {
   body = body.Airborne (record { typecode = 0; surveillance = 3; bit8 = 1; altitude = 897; t = 1; f = 1; latitude = record { 0 = 93000 }; longitude = record { 0 = 51372 } });
 }
 
-pub no-position-both-ways : (decoded no-position ≡ decode.Message no-position-fields) × (messageFits no-position-fields ≡ true) × (messageBytes no-position-fields ≡ no-position)
+pub no-position-both-ways : BothWays no-position no-position-fields
 unfolding seal remainder remainderFrom reduce opened
 no-position-both-ways = (refl, refl, refl)
+
+-- the traffic service, with the flag set
+abbrev mode-a-fields : Message
+mode-a-fields = record {
+  format = 18;
+  control = 2;
+  address = 0x40621D;
+  body = body.Airborne (record { typecode = 11; surveillance = 0; bit8 = 1; altitude = 3128; t = 0; f = 1; latitude = record { 0 = 74158 }; longitude = record { 0 = 50194 } });
+}
+
+pub traffic-both-ways : BothWays traffic-mode-a mode-a-fields
+unfolding seal remainder remainderFrom reduce opened
+traffic-both-ways = (refl, refl, refl)
 
 -- so two accepted messages are told apart
 abbrev fieldsIn : Said Values → List ℕ

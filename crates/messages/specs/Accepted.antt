@@ -2,31 +2,34 @@
 use Prim.Native.Nat.{ℕ}
 use mathlib.Core.List.{List}
 use mathlib.Core.Path.{_≡_}
-use mathlib.Core.Bool.{Bool, cond, not}
+use mathlib.Core.Bool.{Bool, cond, not, _||_}
 use lib.Dec.{eqb}
 use lib.ListN.{length}
 use Rattle.refusals.specs.declared.Refusal.the-variants.{Length, Parity, Format, TypeCode}
-use Rattle.keys.specs.Keys.{keyFor}
+use Rattle.keys.specs.Keys.{isTraffic}
 use Rattle.parity.specs.Parity.{remainder}
-use Rattle.fields.specs.Packing.{me}
-use Rattle.layouts.specs.Bodies.{layoutOf, isTaken}
+use Rattle.layouts.specs.Bodies.{typeIn, layoutOf, isTaken, flagIn}
 use Rattle.messages.specs.declared.Frame.{Frame}
 use Rattle.messages.specs.declared.Message.{Message}
 use Rattle.messages.specs.declared.Accepted.{Accepted}
 use Rattle.messages.specs.declared.Accepted.the-variants as accept
 use Rattle.messages.specs.declared.Decoded.{Decoded}
 use Rattle.messages.specs.declared.Decoded.the-variants as decode
-use Rattle.messages.specs.Message.{bits, formatTaken, opened, decoded, kindOf, startsBy}
+use Rattle.messages.specs.Message.{bits, formatTaken, isReserved, opened, decoded, kindOf, keyBy, startsBy}
 
 -- DF, CA or CF, AA and ME
 abbrev pub frameOf : List ℕ → Frame
 frameOf s = record { format = bits 1 5 s; control = bits 6 8 s; address = bits 9 32 s; me = bits 33 88 s }
 
--- 4, then 5
+-- CF 5 with the flag set
+abbrev pub frameReserved : Frame → Bool
+frameReserved f = isReserved (f .format) (f .control) (flagIn (f .me))
+
+-- 4, then 5 for either reason
 unfoldable pub framed : Frame → Accepted
 framed f =
     cond (not (formatTaken (f .format) (f .control))) (accept.Refused Format)
-    (cond (not (isTaken (layoutOf (f .me)))) (accept.Refused TypeCode)
+    (cond (not (isTaken (layoutOf (f .me))) || frameReserved f) (accept.Refused TypeCode)
     (accept.Frame f))
 
 -- 1, then 3, then 4 and 5
@@ -43,11 +46,11 @@ openedAs (accept.Refused r) = decode.Refused r
 
 -- the key of its track
 abbrev pub frameKey : Frame → ℕ
-frameKey f = keyFor (kindOf (f .format) (f .control)) (f .address)
+frameKey f = keyBy (f .format) (f .control) (flagIn (f .me)) (f .address)
 
--- whether it may start a track; TYPE is bits 1-5 of ME
+-- whether it may start a track
 abbrev pub frameStarts : Frame → Bool
-frameStarts f = startsBy (me 1 5 (f .me))
+frameStarts f = startsBy (isTraffic (kindOf (f .format) (f .control) (flagIn (f .me)))) (typeIn (f .me))
 
 -- the decoder takes it
 abbrev pub Acceptable : List ℕ → Type 0

@@ -4,14 +4,15 @@ use mathlib.Core.List.{List, [], _∷_, _++_}
 use mathlib.Core.Bool.{Bool, cond, not, _&&_, _||_}
 use lib.Dec.{leb, eqb}
 use lib.ListN.{length}
-use Rattle.refusals.specs.declared.Refusal.the-variants.{Length, Parity, Format}
+use Rattle.refusals.specs.declared.Refusal.the-variants.{Length, Parity, Format, TypeCode}
 use Rattle.fields.specs.Packing.{field, pack, fits}
 use Rattle.fields.specs.Bytes.{number, bytesOf}
-use Rattle.keys.specs.Keys.{keyFor}
+use Rattle.keys.specs.Keys.{keyFor, isTraffic}
 use Rattle.keys.specs.declared.Kind.{Kind}
-use Rattle.keys.specs.declared.Kind.the-variants.{I, O}
+use Rattle.keys.specs.declared.Kind.the-variants.{I, O, T, M, N}
 use Rattle.parity.specs.Parity.{remainder, seal}
-use Rattle.layouts.specs.Bodies.{taken, bodyType, bodyMe, bodyFits}
+use Rattle.layouts.specs.Layouts.{isPosition}
+use Rattle.layouts.specs.Bodies.{taken, flagIn, bodyType, flagOf, bodyMe, bodyFits}
 use Rattle.layouts.specs.declared.bodies.Taken.{Taken}
 use Rattle.layouts.specs.declared.bodies.Taken.the-variants as read
 use Rattle.messages.specs.declared.Message.{Message}
@@ -22,9 +23,13 @@ use Rattle.messages.specs.declared.Decoded.the-variants as decode
 abbrev pub bits : ℕ → ℕ → List ℕ → ℕ
 bits from to s = field 112 from to (number s)
 
--- taken: DF 17 with any CA, and DF 18 with CF 0 or 1
+-- taken: DF 17 with any CA, and DF 18 with CF 0, 1, 2 or 5
 abbrev pub formatTaken : ℕ → ℕ → Bool
-formatTaken format control = eqb format 17 || (eqb format 18 && leb control 1)
+formatTaken format control = eqb format 17 || (eqb format 18 && (leb control 2 || eqb control 5))
+
+-- reserved: DF 18 with CF 5 and the flag set
+abbrev pub isReserved : ℕ → ℕ → ℕ → Bool
+isReserved format control flag = eqb format 18 && eqb control 5 && eqb flag 1
 
 -- ---- decoding
 
@@ -33,11 +38,12 @@ abbrev pub withBody : ℕ → ℕ → ℕ → Taken → Decoded
 withBody format control address (read.Body b) = decode.Message (record { format = format; control = control; address = address; body = b })
 withBody format control address (read.Refused r) = decode.Refused r
 
--- by DF, CA or CF, AA and ME: 4, then 5
+-- by DF, CA or CF, AA and ME: 4, then 5, for a flag that is reserved or a TYPE or subtype that is not taken
 unfoldable pub opened : ℕ → ℕ → ℕ → ℕ → Decoded
 opened format control address me =
     cond (not (formatTaken format control)) (decode.Refused Format)
-    (withBody format control address (taken me))
+    (cond (isReserved format control (flagIn me)) (decode.Refused TypeCode)
+    (withBody format control address (taken me)))
 
 -- 1, then 3, then 4 and 5. DF is bits 1-5, CA or CF 6-8, AA 9-32, ME 33-88
 abbrev pub decoded : List ℕ → Decoded
@@ -48,22 +54,39 @@ decoded s =
 
 -- ---- the key of a track
 
--- I: DF 17, and DF 18 with CF 0. O: DF 18 with CF 1
-abbrev pub kindOf : ℕ → ℕ → Kind
-kindOf format control = cond (eqb format 18 && eqb control 1) O I
+-- DF 18. O: CF 1. T: CF 2 without the flag, and M with it. N: CF 5. I: CF 0
+abbrev pub kindBy : ℕ → ℕ → Kind
+kindBy control flag =
+    cond (eqb control 1) O
+    (cond (eqb control 2) (cond (eqb flag 0) T M)
+    (cond (eqb control 5) N I))
+
+-- I: DF 17 too, whatever its CA and the bit that would be the flag
+unfoldable pub kindOf : ℕ → ℕ → ℕ → Kind
+kindOf format control flag = cond (eqb format 18) (kindBy control flag) I
 
 -- AA with its kind
+abbrev pub keyBy : ℕ → ℕ → ℕ → ℕ → ℕ
+keyBy format control flag address = keyFor (kindOf format control flag) address
+
 abbrev pub keyOf : Message → ℕ
-keyOf m = keyFor (kindOf (m .format) (m .control)) (m .address)
+keyOf m = keyBy (m .format) (m .control) (flagOf (m .body)) (m .address)
+
+-- whether a ground station's traffic service sent it: by its kind, T, M or N, which is by DF and CF alone
+abbrev pub trafficBy : ℕ → ℕ → Bool
+trafficBy format control = eqb format 18 && (eqb control 2 || eqb control 5)
+
+abbrev pub traffic : Message → Bool
+traffic m = isTraffic (kindOf (m .format) (m .control) (flagOf (m .body)))
 
 -- ---- what may start a track
 
--- by TYPE: all but 0, which only ever adds to a track that is held
-abbrev pub startsBy : ℕ → Bool
-startsBy type = not (eqb type 0)
+-- by TYPE: of the traffic service position messages alone, of others all but 0, which only ever adds to a track that is held
+abbrev pub startsBy : Bool → ℕ → Bool
+startsBy served type = cond served (isPosition type) (not (eqb type 0))
 
 abbrev pub starts : Message → Bool
-starts m = startsBy (bodyType (m .body))
+starts m = startsBy (traffic m) (bodyType (m .body))
 
 -- ---- the bytes that say a message
 
@@ -74,9 +97,13 @@ headWidths = 5 ∷ 3 ∷ 24 ∷ []
 abbrev pub headFields : Message → List ℕ
 headFields m = m .format ∷ m .control ∷ m .address ∷ []
 
+-- whether DF and CF are taken, and the flag is not reserved
+abbrev pub headTaken : Message → Bool
+headTaken m = formatTaken (m .format) (m .control) && not (isReserved (m .format) (m .control) (flagOf (m .body)))
+
 -- whether each field fits its bits, in a message that would earn neither 4 nor 5
 abbrev pub messageFits : Message → Bool
-messageFits m = fits headWidths (headFields m) && formatTaken (m .format) (m .control) && bodyFits (m .body)
+messageFits m = fits headWidths (headFields m) && headTaken m && bodyFits (m .body)
 
 -- bytes with the three behind them that make the remainder 0: PI is bits 89-112
 abbrev pub sealedBy : List ℕ → List ℕ

@@ -1,17 +1,18 @@
 -- What an answer says in document 01's terms: a number of its table, or the layout of ME with the values of all fields in the order of their bits.
 use Prim.Native.Nat.{ℕ}
 use mathlib.Core.List.{List, [], _∷_, _++_}
-use mathlib.Core.Bool.{Bool, cond, not}
+use mathlib.Core.Bool.{Bool, cond, not, _||_}
 use lib.Dec.{eqb}
 use lib.ListN.{length}
 use Rattle.refusals.specs.Numbers.{numberOf}
 use Rattle.refusals.specs.Said.{Said, number, gives}
 use Rattle.fields.specs.Packing.{unpack}
+use Rattle.keys.specs.Keys.{isTraffic}
 use Rattle.parity.specs.Parity.{remainder}
-use Rattle.layouts.specs.Bodies.{layoutAt, isTaken, layoutWidths, bodyLayout, bodyFields}
+use Rattle.layouts.specs.Bodies.{layoutAt, isTaken, flagBy, layoutWidths, bodyLayout, bodyFields}
 use Rattle.layouts.specs.Said.{Values, values}
 use Rattle.layouts.specs.declared.bodies.Layout.{Layout}
-use Rattle.messages.specs.Message.{bits, formatTaken, startsBy, headWidths, headFields}
+use Rattle.messages.specs.Message.{bits, formatTaken, isReserved, kindOf, keyBy, startsBy, headWidths, headFields}
 use Rattle.messages.specs.declared.Accepted.{Accepted}
 use Rattle.messages.specs.declared.Accepted.the-variants as accept
 use Rattle.messages.specs.declared.Decoded.{Decoded}
@@ -45,13 +46,21 @@ earns4 s = not (formatTaken (bits 1 5 s) (bits 6 8 s))
 abbrev pub layoutIn : List ℕ → Layout
 layoutIn s = layoutAt (bits 33 37 s) (bits 38 40 s)
 
--- 5: TYPE or subtype not taken
+-- the flag: bit 53 of the message on the surface, 40 in the air, 41 of a velocity
+abbrev pub flagAt : List ℕ → ℕ
+flagAt s = flagBy (layoutIn s) (bits 53 53 s) (bits 40 40 s) (bits 41 41 s)
+
+-- 5: TYPE or subtype not taken, or CF 5 with the flag set
 abbrev pub earns5 : List ℕ → Bool
-earns5 s = not (isTaken (layoutIn s))
+earns5 s = not (isTaken (layoutIn s)) || isReserved (bits 1 5 s) (bits 6 8 s) (flagAt s)
+
+-- the key of the message's track
+abbrev pub keyIn : List ℕ → ℕ
+keyIn s = keyBy (bits 1 5 s) (bits 6 8 s) (flagAt s) (bits 9 32 s)
 
 -- whether the message may start a track
 abbrev pub startsIn : List ℕ → Bool
-startsIn s = startsBy (bits 33 37 s)
+startsIn s = startsBy (isTraffic (kindOf (bits 1 5 s) (bits 6 8 s) (flagAt s))) (bits 33 37 s)
 
 -- the layout, and all fields of the bits before PI by its widths
 abbrev pub valuesIn : List ℕ → Values

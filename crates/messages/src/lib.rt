@@ -4,12 +4,13 @@ use layouts::Body;
 use layouts::Taken;
 use refusals::Refusal;
 ghost use mathlib.Core.Path.{_≡_};
+ghost use mathlib.Core.Bool.{cond};
 ghost use lib.Dec.{eqb};
 ghost use lib.ListN.{length};
 ghost use Rattle.parity.specs.Parity.{remainder};
-ghost use Rattle.keys.specs.Keys.{keyFor};
-ghost use Rattle.messages.specs.Message.{formatTaken, withBody, opened, decoded, kindOf, keyOf, startsBy, starts};
-ghost use Rattle.messages.specs.Accepted.{frameOf, framed, accepted, frameKey, frameStarts};
+ghost use Rattle.layouts.specs.Bodies.{flagIn};
+ghost use Rattle.messages.specs.Message.{formatTaken, isReserved, headTaken, withBody, opened, decoded, kindBy, kindOf, keyBy, keyOf, trafficBy, traffic, startsBy, starts};
+ghost use Rattle.messages.specs.Accepted.{frameOf, frameReserved, framed, accepted, frameKey, frameStarts};
 
 pub struct Message {
     // DF
@@ -40,10 +41,26 @@ pub enum Accepted {
 }
 
 // Whether DF, and of DF 18 the CF, is taken.
-pub fn format_taken(format: u8, control: u8) -> bool
+fn format_taken(format: u8, control: u8) -> bool
     ensures { λ r. ⌜ r ≡ formatTaken format control ⌝ }
 {
-    (format == 17) | ((format == 18) & (control <= 1))
+    (format == 17) | ((format == 18) & ((control <= 2) | (control == 5)))
+}
+
+// Whether the flag is reserved, as it is with CF 5 where it is set.
+fn is_reserved(format: u8, control: u8, flag: u8) -> bool
+    ensures { λ r. ⌜ r ≡ isReserved format control flag ⌝ }
+{
+    (format == 18) & (control == 5) & (flag == 1)
+}
+
+// Whether DF and CF, with the flag, are taken.
+pub fn head_taken(m: Message) -> bool
+    ensures { λ r. ⌜ r ≡ headTaken m ⌝ }
+{
+    let body = m.body;
+    let reserved = is_reserved(m.format, m.control, layouts::flag_of(body));
+    format_taken(m.format, m.control) & !reserved
 }
 
 fn parity_right(s: &[u8]) -> bool
@@ -66,6 +83,23 @@ fn frame_of(s: &[u8]) -> Frame
     }
 }
 
+// Whether the flag of a frame is reserved. A message of DF 17 does not pay for it.
+fn frame_reserved(f: Frame) -> bool
+    ensures { λ r. ⌜ r ≡ frameReserved f ⌝ }
+{
+    if f.format != 18 {
+        return false;
+    }
+    is_reserved(f.format, f.control, layouts::flag_in(f.me))
+}
+
+// Whether the traffic service sent it, whatever the flag.
+fn traffic_by(format: u8, control: u8) -> bool
+    ensures { λ r. ⌜ r ≡ trafficBy format control ⌝ }
+{
+    (format == 18) & ((control == 2) | (control == 5))
+}
+
 // A message whose parity is right: 4, then 5.
 fn framed_as(f: Frame) -> Accepted
     ensures { λ r. ⌜ r ≡ framed f ⌝ }
@@ -73,7 +107,7 @@ fn framed_as(f: Frame) -> Accepted
     if !format_taken(f.format, f.control) {
         return Accepted::Refused(Refusal::Format);
     }
-    if !layouts::is_taken(f.me) {
+    if !layouts::is_taken(f.me) | frame_reserved(f) {
         return Accepted::Refused(Refusal::TypeCode);
     }
     Accepted::Frame(f)
@@ -106,15 +140,27 @@ fn with_body(format: u8, control: u8, address: u32, taken: Taken) -> Decoded
     }
 }
 
+// The same answer. `traffic_by` is asked first, since it is asked again of the decoded message, for its readings: the compiler keeps it.
+fn decoder_reserves(f: Frame) -> bool
+    ensures { λ r. ⌜ r ≡ frameReserved f ⌝ }
+{
+    if !traffic_by(f.format, f.control) {
+        return false;
+    }
+    frame_reserved(f)
+}
+
 // A message whose parity is right, with its ME unpacked.
 fn opened_of(f: Frame) -> Decoded
     ensures { λ r. ⌜ r ≡ opened (f .format) (f .control) (f .address) (f .me) ⌝ }
 {
-    if format_taken(f.format, f.control) {
-        with_body(f.format, f.control, f.address, layouts::body_of(f.me))
-    } else {
-        Decoded::Refused(Refusal::Format)
+    if !format_taken(f.format, f.control) {
+        return Decoded::Refused(Refusal::Format);
     }
+    if decoder_reserves(f) {
+        return Decoded::Refused(Refusal::TypeCode);
+    }
+    with_body(f.format, f.control, f.address, layouts::body_of(f.me))
 }
 
 // What 14 bytes say, or why they are refused.
@@ -130,40 +176,77 @@ pub fn decode(s: &[u8]) -> Decoded
     opened_of(frame_of(s))
 }
 
-fn kind_of(format: u8, control: u8) -> Kind
-    ensures { λ r. ⌜ r ≡ kindOf format control ⌝ }
+// The kind of a message of DF 18.
+fn kind_by(control: u8, flag: u8) -> Kind
+    ensures { λ r. ⌜ r ≡ kindBy control flag ⌝ }
 {
-    if (format == 18) & (control == 1) {
-        Kind::O
-    } else {
-        Kind::I
+    if control == 1 {
+        return Kind::O;
     }
+    if control == 2 {
+        return if flag == 0 { Kind::T } else { Kind::M };
+    }
+    if control == 5 {
+        return Kind::N;
+    }
+    Kind::I
 }
 
-fn key_from(format: u8, control: u8, address: u32) -> u32
-    ensures { λ r. ⌜ r ≡ keyFor (kindOf format control) address ⌝ }
+fn kind_of(format: u8, control: u8, flag: u8) -> Kind
+    ensures { λ r. ⌜ r ≡ kindOf format control flag ⌝ }
 {
-    keys::key_for(kind_of(format, control), address)
+    if format == 18 {
+        return kind_by(control, flag);
+    }
+    Kind::I
 }
 
-// The key of a message's track: AA with its kind.
+// The key of a track: AA with its kind, by DF, CF and the flag.
+pub fn key_by(format: u8, control: u8, flag: u8, address: u32) -> u32
+    ensures { λ r. ⌜ r ≡ keyBy format control flag address ⌝ }
+{
+    keys::key_for(kind_of(format, control, flag), address)
+}
+
+// That of a message.
 pub fn key_of(m: Message) -> u32
     ensures { λ r. ⌜ r ≡ keyOf m ⌝ }
 {
-    key_from(m.format, m.control, m.address)
+    let body = m.body;
+    key_by(m.format, m.control, layouts::flag_of(body), m.address)
 }
 
-// The same of its frame.
+// The flag where the kind goes by it; a message of DF 17 does not pay for it.
+fn frame_flag(f: Frame) -> u8
+    ensures { λ r. ⌜ r ≡ cond (eqb (f .format) 18) (flagIn (f .me)) 0 ⌝ }
+{
+    if f.format != 18 {
+        return 0;
+    }
+    layouts::flag_in(f.me)
+}
+
+// That of a frame.
 pub fn frame_key(f: Frame) -> u32
     ensures { λ r. ⌜ r ≡ frameKey f ⌝ }
 {
-    key_from(f.format, f.control, f.address)
+    key_by(f.format, f.control, frame_flag(f), f.address)
 }
 
-// The one test of what may start a track, by TYPE.
-fn starts_by(typecode: u8) -> bool
-    ensures { λ r. ⌜ r ≡ startsBy typecode ⌝ }
+// Whether a ground station's traffic service sent it.
+pub fn is_traffic(m: Message) -> bool
+    ensures { λ r. ⌜ r ≡ traffic m ⌝ }
 {
+    traffic_by(m.format, m.control)
+}
+
+// The one test of what may start a track: whether the traffic service sent it, and TYPE.
+fn starts_by(served: bool, typecode: u8) -> bool
+    ensures { λ r. ⌜ r ≡ startsBy served typecode ⌝ }
+{
+    if served {
+        return layouts::is_position(typecode);
+    }
     typecode != 0
 }
 
@@ -172,12 +255,12 @@ pub fn starts(m: Message) -> bool
     ensures { λ r. ⌜ r ≡ starts m ⌝ }
 {
     let body = m.body;
-    starts_by(layouts::type_of(body))
+    starts_by(is_traffic(m), layouts::type_of(body))
 }
 
 // The same of its frame.
 pub fn frame_starts(f: Frame) -> bool
     ensures { λ r. ⌜ r ≡ frameStarts f ⌝ }
 {
-    starts_by((f.me / 0x8_0000_0000_0000 % 32) as u8)
+    starts_by(traffic_by(f.format, f.control), layouts::type_in(f.me))
 }

@@ -3,7 +3,7 @@
 -- Assumes nothing.
 use Prim.Native.Nat.{ℕ, _-_, _<_, _^_}
 use mathlib.Core.Path.{_≡_, refl, ap, subst⁻¹, _∙_}
-use mathlib.Core.Bool.{Bool, true, false, cond, _||_}
+use mathlib.Core.Bool.{Bool, true, false, cond, _&&_, _||_, not}
 use native.Mathlib.Omega.{arith}
 use borrow.Author.Tests.{lt-leb}
 use lib.Dec.{leb, eqb}
@@ -18,17 +18,18 @@ use Rattle.fields.proofs.Bools.{by-test, through}
 use Rattle.characters.specs.Text.{categorySetOf, textOf}
 use Rattle.characters.specs.Said.{categorySetSaid, textSaid, setMeans, textMeans}
 use Rattle.characters.proofs.Promised.{set-says, text-says}
+use Rattle.layouts.specs.declared.velocity.Vertical.{Vertical}
 use Rattle.layouts.specs.declared.bodies.Body.{Body}
 use Rattle.layouts.specs.declared.bodies.Body.the-variants as body
 use Rattle.layouts.specs.Bodies.{bodyFits}
 use Rattle.layouts.proofs.BothWays.{fitting}
 use Rattle.readings.specs.Altitude.{bit, fiveHundreds, hundreds, altitudeOf}
 use Rattle.readings.specs.Amounts.{Scale, stepped, amount, speeds, rates, differences, speedOf, rateOf, differenceOf}
-use Rattle.readings.specs.Bodies.{bodyReadings, readingsOf}
+use Rattle.readings.specs.Bodies.{heightDifference, bodyReadings, readingsOf}
 use Rattle.readings.specs.Headings.{headingOf}
 use Rattle.readings.specs.Movement.{movementOf}
 use Rattle.readings.specs.Said.{Amount, unknown, over, figure, altitudeSaid, speedSaid, rateSaid, differenceSaid, headingSaid, movementSaid, readingsSaid}
-use Rattle.readings.specs.Said.{altitudeMeans, speedMeans, rateMeans, differenceMeans, headingMeans, movementMeans, bodyMeans, Given, AllGiven, Alone}
+use Rattle.readings.specs.Said.{altitudeMeans, speedMeans, rateMeans, differenceMeans, heightMeans, headingMeans, movementMeans, bodyMeans, Given, AllGiven, Alone}
 use Rattle.readings.specs.declared.bodies.Readings.the-variants.{Refused}
 use Rattle.readings.proofs.altitude.altitude_of.Kinds as altitude-of-kinds
 use Rattle.readings.proofs.altitude.altitude_of.Reads as altitude-of
@@ -106,63 +107,69 @@ signed-within bits sign code g h e = rw (lt-leb 2 sign g, lt-leb (2 ^ bits) code
 speed-within : (subtype direction code : ℕ) → subtype < 8 → direction < 2 → code < 1024 → speedSaid (speedOf subtype direction code) ≡ gives (speedMeans subtype direction code)
 speed-within s d c f g h = rw (lt-leb 8 s f, lt-leb 2 d g, lt-leb 1024 c h) at (speed-says s d c)
 
+height-within : (v : Vertical) (traffic : Bool) → v .below < 2 → v .difference < 128 → differenceSaid (heightDifference (v .source) (v .below) (v .difference) traffic) ≡ gives (heightMeans v traffic)
+unfolding heightDifference
+height-within v traffic g h =
+    through differenceSaid gives (traffic && not (eqb (v .source) 1)) refl
+    (signed-within 7 (v .below) (v .difference) g h (difference-says (v .below) (v .difference)))
+
 pub altitude-known : (code : ℕ) → code < 4096 → Given (altitudeSaid (altitudeOf code))
 altitude-known code h = subst⁻¹ Given (within 12 code h (altitude-says code)) tt
 
 -- ---- of a body
 
-pub fitting-says : (b : Body) → bodyFits b ≡ true → readingsSaid (bodyReadings b) ≡ gives (bodyMeans b)
-fitting-says (body.Identification b) e =
+pub fitting-says : (b : Body) (traffic : Bool) → bodyFits b ≡ true → readingsSaid (bodyReadings b traffic) ≡ gives (bodyMeans b traffic)
+fitting-says (body.Identification b) traffic e =
     let f = fitting (body.Identification b) e in
     rw (within 5 (b .typecode) (f .0) (set-says (b .typecode)), within 48 (b .characters) (f .1 .1 .0) (text-says (b .characters)))
-fitting-says (body.Surface b) e =
+fitting-says (body.Surface b) traffic e =
     let f = fitting (body.Surface b) e in
     rw (within 7 (b .movement) (f .1 .0) (movement-says (b .movement)), within 7 (b .heading) (f .1 .1 .1 .0) (heading-says 7 (b .heading)))
-fitting-says (body.Airborne b) e =
+fitting-says (body.Airborne b) traffic e =
     let f = fitting (body.Airborne b) e in
     rw (within 12 (b .altitude) (f .1 .1 .1 .0) (altitude-says (b .altitude)))
-fitting-says (body.Ground b) e =
+fitting-says (body.Ground b) traffic e =
     let f = fitting (body.Ground b) e in
     let v = f .1 .1 .1 .1 .1 .1 .1 .1 .1 in
     rw (
       speed-within (b .subtype) (b .west) (b .eastward) (f .1 .0) (f .1 .1 .1 .1 .1 .0) (f .1 .1 .1 .1 .1 .1 .0),
       speed-within (b .subtype) (b .south) (b .northward) (f .1 .0) (f .1 .1 .1 .1 .1 .1 .1 .0) (f .1 .1 .1 .1 .1 .1 .1 .1 .0),
       signed-within 9 (b .vertical .down) (b .vertical .rate) (v .1 .0) (v .1 .1 .0) (rate-says (b .vertical .down) (b .vertical .rate)),
-      signed-within 7 (b .vertical .below) (b .vertical .difference) (v .1 .1 .1 .1 .0) (v .1 .1 .1 .1 .1 .0) (difference-says (b .vertical .below) (b .vertical .difference)),
+      height-within (b .vertical) traffic (v .1 .1 .1 .1 .0) (v .1 .1 .1 .1 .1 .0),
     )
-fitting-says (body.Air b) e =
+fitting-says (body.Air b) traffic e =
     let f = fitting (body.Air b) e in
     let v = f .1 .1 .1 .1 .1 .1 .1 .1 .1 in
     rw (
       within 10 (b .heading) (f .1 .1 .1 .1 .1 .1 .0) (heading-says 10 (b .heading)),
       speed-within (b .subtype) 0 (b .airspeed) (f .1 .0) (omega arith) (f .1 .1 .1 .1 .1 .1 .1 .1 .0),
       signed-within 9 (b .vertical .down) (b .vertical .rate) (v .1 .0) (v .1 .1 .0) (rate-says (b .vertical .down) (b .vertical .rate)),
-      signed-within 7 (b .vertical .below) (b .vertical .difference) (v .1 .1 .1 .1 .0) (v .1 .1 .1 .1 .1 .0) (difference-says (b .vertical .below) (b .vertical .difference)),
+      height-within (b .vertical) traffic (v .1 .1 .1 .1 .0) (v .1 .1 .1 .1 .1 .0),
     )
 
-pub readings-say : (b : Body) → readingsSaid (readingsOf b) ≡ cond (bodyFits b) (gives (bodyMeans b)) (number 8)
+pub readings-say : (b : Body) (traffic : Bool) → readingsSaid (readingsOf b traffic) ≡ cond (bodyFits b) (gives (bodyMeans b traffic)) (number 8)
 unfolding readingsOf
-readings-say b = by-fit (bodyFits b) refl
+readings-say b traffic = by-fit (bodyFits b) refl
   where
-    by-fit : (t : Bool) → bodyFits b ≡ t → readingsSaid (cond t (bodyReadings b) (Refused Field)) ≡ cond t (gives (bodyMeans b)) (number 8)
-    by-fit true e = fitting-says b e
+    by-fit : (t : Bool) → bodyFits b ≡ t → readingsSaid (cond t (bodyReadings b traffic) (Refused Field)) ≡ cond t (gives (bodyMeans b traffic)) (number 8)
+    by-fit true e = fitting-says b traffic e
     by-fit false e = refl
 
 -- ---- a refusal stands alone: with no value beside it
 
-all-given : (b : Body) → AllGiven (bodyMeans b)
-all-given (body.Identification b) = (tt, tt)
-all-given (body.Surface b) = (tt, tt)
-all-given (body.Airborne b) = tt
-all-given (body.Ground b) = (tt, tt, tt, tt)
-all-given (body.Air b) = (tt, tt, tt, tt)
+all-given : (b : Body) (traffic : Bool) → AllGiven (bodyMeans b traffic)
+all-given (body.Identification b) traffic = (tt, tt)
+all-given (body.Surface b) traffic = (tt, tt)
+all-given (body.Airborne b) traffic = tt
+all-given (body.Ground b) traffic = (tt, tt, tt, tt)
+all-given (body.Air b) traffic = (tt, tt, tt, tt)
 
 -- of a body that fits every reading gives something
-pub fitting-given : (b : Body) → bodyFits b ≡ true → Alone (readingsSaid (bodyReadings b))
-fitting-given b e = subst⁻¹ Alone (fitting-says b e) (all-given b)
+pub fitting-given : (b : Body) (traffic : Bool) → bodyFits b ≡ true → Alone (readingsSaid (bodyReadings b traffic))
+fitting-given b traffic e = subst⁻¹ Alone (fitting-says b traffic e) (all-given b traffic)
 
-pub refused-alone : (b : Body) → Alone (readingsSaid (readingsOf b))
-refused-alone b = subst⁻¹ Alone (readings-say b) (by-test Alone (bodyFits b) _ _ (λ _. all-given b) (λ _. tt))
+pub refused-alone : (b : Body) (traffic : Bool) → Alone (readingsSaid (readingsOf b traffic))
+refused-alone b traffic = subst⁻¹ Alone (readings-say b traffic) (by-test Alone (bodyFits b) _ _ (λ _. all-given b traffic) (λ _. tt))
 
 -- ---- and so does whatever meets a contract
 
@@ -203,5 +210,5 @@ movement-of-promised κs args x left p = ap movementSaid p ∙ movement-says (ar
 
 pub readings-of-promised : (κs : Lfts 0) (args : Dens κs readings-of-kinds.ps) (x : resT readings-of-kinds.r κs .Denot)
     (left : AtExit (endedOf 0 readings-of-kinds.ps readings-of-kinds.r) κs) → readings-of.Post κs args x left
-    → readingsSaid x ≡ cond (bodyFits (args .0)) (gives (bodyMeans (args .0))) (number 8)
-readings-of-promised κs args x left p = ap readingsSaid p ∙ readings-say (args .0)
+    → readingsSaid x ≡ cond (bodyFits (args .0)) (gives (bodyMeans (args .0) (args .1 .0))) (number 8)
+readings-of-promised κs args x left p = ap readingsSaid p ∙ readings-say (args .0) (args .1 .0)

@@ -1,6 +1,6 @@
 -- Answers at which a likely slip would show: each is computed from the definitions.
 -- Assumes nothing.
-use Prim.Native.Nat.{ℕ, _*_, _^_}
+use Prim.Native.Nat.{ℕ, _+_, _*_, _^_}
 use mathlib.Core.Path.{_≡_, refl}
 use mathlib.Core.Bool.{true, false}
 use lib.IntN.{pos, negsuc}
@@ -9,7 +9,7 @@ use Rattle.layouts.specs.Layouts.{identificationOf, surfaceOf, airborneOf}
 use Rattle.layouts.specs.Velocity.{groundOf, airOf}
 use Rattle.layouts.specs.declared.bodies.Body.{Body}
 use Rattle.layouts.specs.declared.bodies.Body.the-variants as body
-use Rattle.readings.specs.Bodies.{readingsOf}
+use Rattle.readings.specs.Bodies.{readingsOf, heightDifference}
 use Rattle.readings.specs.Altitude.{altitudeOf, byHundreds, sixLess, straight, fiveHundreds, hundreds, grayStep}
 use Rattle.readings.specs.Amounts.{speedOf, rateOf, differenceOf, amount, signed, times}
 use Rattle.readings.specs.Headings.{headingOf}
@@ -18,9 +18,11 @@ use Rattle.characters.specs.Text.{categorySetOf, shown, textOf}
 use Rattle.readings.specs.declared.altitude.Altitude.the-variants as altitude
 use Rattle.readings.specs.declared.amounts.Speed.the-variants as speed
 use Rattle.readings.specs.declared.amounts.Rate.the-variants as rate
+use Rattle.readings.specs.declared.amounts.Difference.{Difference}
 use Rattle.readings.specs.declared.amounts.Difference.the-variants as difference
 use Rattle.readings.specs.declared.headings.Heading.the-variants as heading
 use Rattle.readings.specs.declared.movement.Movement.the-variants as movement
+use Rattle.readings.specs.declared.bodies.GroundReadings.{GroundReadings}
 use Rattle.readings.specs.declared.bodies.Readings.the-variants as readings
 use Rattle.characters.specs.declared.CategorySet.the-variants as set
 use Rattle.characters.specs.declared.Text.the-variants as text
@@ -65,41 +67,50 @@ past-the-top = (refl, refl)
 -- ---- whole bodies, of published messages
 
 -- 8D4840D6202CC371C32CE0576098: set A, "KLM1023 ", the first character the highest byte
-pub published-identification : readingsOf (body.Identification (identificationOf 0x202CC371C32CE0)) ≡ readings.Identification (record { set = set.A; text = text.Shown 0x4B4C4D3130323320 })
+pub published-identification : readingsOf (body.Identification (identificationOf 0x202CC371C32CE0)) false ≡ readings.Identification (record { set = set.A; text = text.Shown 0x4B4C4D3130323320 })
 unfolding readingsOf categorySetOf textOf shown
 published-identification = refl
 
 -- 8C4841753AAB238733C8CD4020B1: 18 knots, 50/128 of a turn
-pub published-surface : readingsOf (body.Surface (surfaceOf 0x3AAB238733C8CD)) ≡ readings.Surface (record { movement = movement.LowerEdge 864; heading = heading.Turn 1677721600 })
+pub published-surface : readingsOf (body.Surface (surfaceOf 0x3AAB238733C8CD)) false ≡ readings.Surface (record { movement = movement.LowerEdge 864; heading = heading.Turn 1677721600 })
 unfolding readingsOf movementOf lowerEdge
 published-surface = refl
 
 -- 8D40621D58C382D690C8AC2863A7: 38,000 feet of pressure altitude; TYPE 18 has that too, and TYPE 20 a GNSS height
-pub published-airborne : (readingsOf (body.Airborne (airborneOf 0x58C382D690C8AC)) ≡ readings.Airborne (record { altitude = altitude.Feet (pos 38000); gnss = false }))
-    × (readingsOf (body.Airborne (airborneOf (18 * 2 ^ 51))) ≡ readings.Airborne (record { altitude = altitude.Unknown; gnss = false }))
-    × (readingsOf (body.Airborne (airborneOf (20 * 2 ^ 51))) ≡ readings.Airborne (record { altitude = altitude.Unknown; gnss = true }))
+pub published-airborne : (readingsOf (body.Airborne (airborneOf 0x58C382D690C8AC)) false ≡ readings.Airborne (record { altitude = altitude.Feet (pos 38000); gnss = false }))
+    × (readingsOf (body.Airborne (airborneOf (18 * 2 ^ 51))) false ≡ readings.Airborne (record { altitude = altitude.Unknown; gnss = false }))
+    × (readingsOf (body.Airborne (airborneOf (20 * 2 ^ 51))) false ≡ readings.Airborne (record { altitude = altitude.Unknown; gnss = true }))
 unfolding readingsOf altitudeOf
 published-airborne = (refl, refl, refl)
 
--- 8D485020994409940838175B284F: west 8, south 159 knots, 832 feet per minute down, 550 feet above
-pub published-ground : readingsOf (body.Ground (groundOf 0x99440994083817)) ≡ readings.Ground (record {
+abbrev groundWith : Difference → GroundReadings
+groundWith d = record {
   east = speed.Knots (negsuc 7);
   north = speed.Knots (negsuc 158);
   rate = rate.FeetPerMinute (negsuc 831);
-  difference = difference.Feet (pos 550);
-})
-unfolding readingsOf speedOf rateOf differenceOf amount signed times
+  difference = d;
+}
+
+-- 8D485020994409940838175B284F: west 8, south 159 knots, 832 feet per minute down, 550 feet above
+pub published-ground : readingsOf (body.Ground (groundOf 0x99440994083817)) false ≡ readings.Ground (groundWith (difference.Feet (pos 550)))
+unfolding readingsOf heightDifference speedOf rateOf differenceOf amount signed times
 published-ground = refl
 
 -- 8DA05F219B06B6AF189400CBC33F: 694/1024 of a turn, 375 knots, which have no direction, 2,304 feet per minute down, difference unknown
-pub published-air : readingsOf (body.Air (airOf 0x9B06B6AF189400)) ≡ readings.Air (record {
+pub published-air : readingsOf (body.Air (airOf 0x9B06B6AF189400)) false ≡ readings.Air (record {
   heading = heading.Turn 2910846976;
   airspeed = speed.Knots (pos 375);
   rate = rate.FeetPerMinute (negsuc 2303);
   difference = difference.Unknown;
 })
-unfolding readingsOf speedOf rateOf differenceOf amount signed times
+unfolding readingsOf heightDifference speedOf rateOf differenceOf amount signed times
 published-air = refl
+
+-- the first of the two in a traffic message: it has no height difference, and one with ME bit 36 set has the one that stands there
+pub traffic-difference : (readingsOf (body.Ground (groundOf 0x99440994083817)) true ≡ readings.Ground (groundWith difference.Unknown))
+    × (readingsOf (body.Ground (groundOf (0x99440994083817 + 2 ^ 20))) true ≡ readings.Ground (groundWith (difference.Feet (pos 550))))
+unfolding readingsOf heightDifference speedOf rateOf differenceOf amount signed times
+traffic-difference = (refl, refl)
 
 -- ---- whole bodies that are refused
 
@@ -122,10 +133,10 @@ groundAs subtype nacv = body.Ground (record {
 })
 
 -- TYPE 200 is no GNSS height, nor is TYPE 19; subtype 9 is refused once, with no value beside it, and subtype 3, which is through air, too; so is a field that is not read
-pub refused-whole : (readingsOf (airborneAs 200) ≡ readings.Refused Field)
-    × (readingsOf (airborneAs 19) ≡ readings.Refused Field)
-    × (readingsOf (groundAs 9 0) ≡ readings.Refused Field)
-    × (readingsOf (groundAs 3 0) ≡ readings.Refused Field)
-    × (readingsOf (groundAs 1 8) ≡ readings.Refused Field)
+pub refused-whole : (readingsOf (airborneAs 200) false ≡ readings.Refused Field)
+    × (readingsOf (airborneAs 19) false ≡ readings.Refused Field)
+    × (readingsOf (groundAs 9 0) false ≡ readings.Refused Field)
+    × (readingsOf (groundAs 3 0) false ≡ readings.Refused Field)
+    × (readingsOf (groundAs 1 8) false ≡ readings.Refused Field)
 unfolding readingsOf
 refused-whole = (refl, refl, refl, refl, refl)

@@ -9,16 +9,16 @@ use Rattle.readings.specs.Bodies.{bodyReadings, readingsOf}
 use Rattle.readings.specs.declared.bodies.Readings.{Readings}
 use Rattle.readings.specs.declared.bodies.Readings.the-variants.{Refused}
 
-abbrev chosen : Body → Bool → Readings
-chosen b t = cond t (bodyReadings b) (Refused Field)
+abbrev chosen : Body → Bool → Bool → Readings
+chosen b traffic t = cond t (bodyReadings b traffic) (Refused Field)
 
 -- `t` is the answer of a test of the fields
-pub read : (b : Body) (t : Bool) → t ≡ bodyFits b → not t ≡ false → readingsOf b ≡ bodyReadings b
+pub read : (b : Body) (traffic t : Bool) → t ≡ bodyFits b → not t ≡ false → readingsOf b traffic ≡ bodyReadings b traffic
 unfolding readingsOf
-read b true p q = ap (chosen b) (sym p)
-read b false p q = absurd (true≢false q)
+read b traffic true p q = ap (chosen b traffic) (sym p)
+read b traffic false p q = absurd (true≢false q)
 
-pub unread : (b : Body) (t : Bool) → t ≡ bodyFits b → not t ≡ true → readingsOf b ≡ Refused Field
+pub unread : (b : Body) (traffic t : Bool) → t ≡ bodyFits b → not t ≡ true → readingsOf b traffic ≡ Refused Field
 unfolding readingsOf
-unread b true p q = absurd (false≢true q)
-unread b false p q = ap (chosen b) (sym p)
+unread b traffic true p q = absurd (false≢true q)
+unread b traffic false p q = ap (chosen b traffic) (sym p)

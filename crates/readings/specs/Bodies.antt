@@ -1,7 +1,7 @@
--- What the fields of a body mean, for each layout of ME.
+-- What the fields of a body mean, for each layout of ME; those of a velocity in a traffic service's message (CF 2 and 5) or in another.
 use Prim.Native.Nat.{ℕ}
-use mathlib.Core.Bool.{Bool, cond}
-use lib.Dec.{leb}
+use mathlib.Core.Bool.{Bool, cond, _&&_, not}
+use lib.Dec.{leb, eqb}
 use Rattle.refusals.specs.declared.Refusal.the-variants.{Field}
 use Rattle.layouts.specs.declared.identification.Identification.{Identification}
 use Rattle.layouts.specs.declared.surface.Surface.{Surface}
@@ -16,6 +16,8 @@ use Rattle.readings.specs.Amounts.{speedOf, rateOf, differenceOf}
 use Rattle.readings.specs.Headings.{headingOf}
 use Rattle.readings.specs.Movement.{movementOf}
 use Rattle.characters.specs.Text.{categorySetOf, textOf}
+use Rattle.readings.specs.declared.amounts.Difference.{Difference}
+use Rattle.readings.specs.declared.amounts.Difference.the-variants as difference
 use Rattle.readings.specs.declared.bodies.IdentificationReadings.{IdentificationReadings}
 use Rattle.readings.specs.declared.bodies.SurfaceReadings.{SurfaceReadings}
 use Rattle.readings.specs.declared.bodies.AirborneReadings.{AirborneReadings}
@@ -37,31 +39,38 @@ isGnss type = leb 20 type
 abbrev pub airborneMeans : Airborne → AirborneReadings
 airborneMeans b = record { altitude = altitudeOf (b .altitude); gnss = isGnss (b .typecode) }
 
-abbrev pub groundMeans : Ground → GroundReadings
-groundMeans b = record {
+-- source 002, 2.2.17.3.4: in a traffic message ME bit 36 says whether a height difference stands in bits 49 to 56, which have other fields where it is 0
+abbrev pub ifThere : {A : Type 0} → (unknown there : A) (source : ℕ) (traffic : Bool) → A
+ifThere unknown there source traffic = cond (traffic && not (eqb source 1)) unknown there
+
+unfoldable pub heightDifference : ℕ → ℕ → ℕ → Bool → Difference
+heightDifference source below code traffic = ifThere difference.Unknown (differenceOf below code) source traffic
+
+abbrev pub groundMeans : Ground → Bool → GroundReadings
+groundMeans b traffic = record {
   east = speedOf (b .subtype) (b .west) (b .eastward);
   north = speedOf (b .subtype) (b .south) (b .northward);
   rate = rateOf (b .vertical .down) (b .vertical .rate);
-  difference = differenceOf (b .vertical .below) (b .vertical .difference);
+  difference = heightDifference (b .vertical .source) (b .vertical .below) (b .vertical .difference) traffic;
 }
 
 -- an airspeed has no direction
-abbrev pub airMeans : Air → AirReadings
-airMeans b = record {
+abbrev pub airMeans : Air → Bool → AirReadings
+airMeans b traffic = record {
   heading = headingOf 10 (b .heading);
   airspeed = speedOf (b .subtype) 0 (b .airspeed);
   rate = rateOf (b .vertical .down) (b .vertical .rate);
-  difference = differenceOf (b .vertical .below) (b .vertical .difference);
+  difference = heightDifference (b .vertical .source) (b .vertical .below) (b .vertical .difference) traffic;
 }
 
 -- of a body whose fields fit
-abbrev pub bodyReadings : Body → Readings
-bodyReadings (body.Identification b) = readings.Identification (identificationMeans b)
-bodyReadings (body.Surface b) = readings.Surface (surfaceMeans b)
-bodyReadings (body.Airborne b) = readings.Airborne (airborneMeans b)
-bodyReadings (body.Ground b) = readings.Ground (groundMeans b)
-bodyReadings (body.Air b) = readings.Air (airMeans b)
+abbrev pub bodyReadings : Body → Bool → Readings
+bodyReadings (body.Identification b) traffic = readings.Identification (identificationMeans b)
+bodyReadings (body.Surface b) traffic = readings.Surface (surfaceMeans b)
+bodyReadings (body.Airborne b) traffic = readings.Airborne (airborneMeans b)
+bodyReadings (body.Ground b) traffic = readings.Ground (groundMeans b traffic)
+bodyReadings (body.Air b) traffic = readings.Air (airMeans b traffic)
 
 -- a field wider than its bits, or a TYPE or subtype of another layout, is refused
-unfoldable pub readingsOf : Body → Readings
-readingsOf b = cond (bodyFits b) (bodyReadings b) (readings.Refused Field)
+unfoldable pub readingsOf : Body → Bool → Readings
+readingsOf b traffic = cond (bodyFits b) (bodyReadings b traffic) (readings.Refused Field)

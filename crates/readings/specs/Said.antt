@@ -6,11 +6,12 @@ use lib.IntN.{ℤ, pos}
 use Rattle.refusals.specs.Numbers.{numberOf}
 use Rattle.refusals.specs.Said.{Said, number, gives}
 use Rattle.characters.specs.Said.{SetName, categorySetSaid, textSaid, setMeans, textMeans}
+use Rattle.layouts.specs.declared.velocity.Vertical.{Vertical}
 use Rattle.layouts.specs.declared.bodies.Body.{Body}
 use Rattle.layouts.specs.declared.bodies.Body.the-variants as body
 use Rattle.readings.specs.Altitude.{altitudeBy}
 use Rattle.readings.specs.Amounts.{stepped, speeds, rates, differences}
-use Rattle.readings.specs.Bodies.{isGnss}
+use Rattle.readings.specs.Bodies.{isGnss, ifThere}
 use Rattle.readings.specs.Headings.{turnOf}
 use Rattle.readings.specs.Movement.{movementBy}
 use Rattle.readings.specs.declared.altitude.Altitude.{Altitude}
@@ -106,6 +107,9 @@ rateMeans sign code = stepped unknown figure over rates sign code
 abbrev pub differenceMeans : ℕ → ℕ → Amount
 differenceMeans sign code = stepped unknown figure over differences sign code
 
+abbrev pub heightMeans : Vertical → Bool → Amount
+heightMeans v traffic = ifThere unknown (differenceMeans (v .below) (v .difference)) (v .source) traffic
+
 abbrev pub headingMeans : ℕ → ℕ → Amount
 headingMeans bits code = figure (pos (turnOf bits code))
 
@@ -113,16 +117,16 @@ abbrev pub movementMeans : ℕ → Amount
 movementMeans c = movementBy unknown stopped edge andUp reserved c
 
 -- .. and of a body whose fields all do: no reading in it is a number
-abbrev pub bodyMeans : Body → Meaning
-bodyMeans (body.Identification b) = identification (gives (setMeans (b .typecode))) (gives (textMeans (b .characters)))
-bodyMeans (body.Surface b) = surface (gives (movementMeans (b .movement))) (gives (headingMeans 7 (b .heading)))
-bodyMeans (body.Airborne b) = airborne (gives (altitudeMeans (b .altitude))) (isGnss (b .typecode))
-bodyMeans (body.Ground b) =
+abbrev pub bodyMeans : Body → Bool → Meaning
+bodyMeans (body.Identification b) traffic = identification (gives (setMeans (b .typecode))) (gives (textMeans (b .characters)))
+bodyMeans (body.Surface b) traffic = surface (gives (movementMeans (b .movement))) (gives (headingMeans 7 (b .heading)))
+bodyMeans (body.Airborne b) traffic = airborne (gives (altitudeMeans (b .altitude))) (isGnss (b .typecode))
+bodyMeans (body.Ground b) traffic =
     ground (gives (speedMeans (b .subtype) (b .west) (b .eastward))) (gives (speedMeans (b .subtype) (b .south) (b .northward)))
-    (gives (rateMeans (b .vertical .down) (b .vertical .rate))) (gives (differenceMeans (b .vertical .below) (b .vertical .difference)))
-bodyMeans (body.Air b) =
+    (gives (rateMeans (b .vertical .down) (b .vertical .rate))) (gives (heightMeans (b .vertical) traffic))
+bodyMeans (body.Air b) traffic =
     air (gives (headingMeans 10 (b .heading))) (gives (speedMeans (b .subtype) 0 (b .airspeed)))
-    (gives (rateMeans (b .vertical .down) (b .vertical .rate))) (gives (differenceMeans (b .vertical .below) (b .vertical .difference)))
+    (gives (rateMeans (b .vertical .down) (b .vertical .rate))) (gives (heightMeans (b .vertical) traffic))
 
 -- ---- a refusal stands alone
 

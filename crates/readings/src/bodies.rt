@@ -24,7 +24,8 @@ use layouts::Identification;
 use layouts::Surface;
 use refusals::Refusal;
 ghost use mathlib.Core.Path.{_≡_};
-ghost use Rattle.readings.specs.Bodies.{readingsOf};
+ghost use mathlib.Core.Bool.{Bool};
+ghost use Rattle.readings.specs.Bodies.{heightDifference, readingsOf};
 
 pub struct IdentificationReadings {
     pub set: CategorySet,
@@ -69,7 +70,7 @@ pub enum Readings {
 
 // The category set, by TYPE, and the eight characters.
 fn identification_readings(b: Identification) -> Readings
-    ensures { λ r. ⌜ r ≡ readingsOf (Body.Identification b) ⌝ }
+    ensures { λ r. ⌜ ((traffic : Bool) → r ≡ readingsOf (Body.Identification b) traffic) ⌝ }
 {
     if !layouts::identification_fits(b) {
         return Readings::Refused(Refusal::Field);
@@ -82,7 +83,7 @@ fn identification_readings(b: Identification) -> Readings
 
 // The movement, and the heading whatever its status bit says.
 fn surface_readings(b: Surface) -> Readings
-    ensures { λ r. ⌜ r ≡ readingsOf (Body.Surface b) ⌝ }
+    ensures { λ r. ⌜ ((traffic : Bool) → r ≡ readingsOf (Body.Surface b) traffic) ⌝ }
 {
     if !layouts::surface_fits(b) {
         return Readings::Refused(Refusal::Field);
@@ -95,7 +96,7 @@ fn surface_readings(b: Surface) -> Readings
 
 // The altitude, and which of the two it is.
 fn airborne_readings(b: Airborne) -> Readings
-    ensures { λ r. ⌜ r ≡ readingsOf (Body.Airborne b) ⌝ }
+    ensures { λ r. ⌜ ((traffic : Bool) → r ≡ readingsOf (Body.Airborne b) traffic) ⌝ }
 {
     if !layouts::airborne_fits(b) {
         return Readings::Refused(Refusal::Field);
@@ -106,9 +107,19 @@ fn airborne_readings(b: Airborne) -> Readings
     })
 }
 
+// Of a traffic service's message ME bit 36, which is the rate's source elsewhere, says whether a height difference stands in it.
+fn height_difference(source: u8, below: u8, code: u8, traffic: bool) -> Difference
+    ensures { λ r. ⌜ r ≡ heightDifference source below code traffic ⌝ }
+{
+    if traffic & (source != 1) {
+        return Difference::Unknown;
+    }
+    difference_of(below, code)
+}
+
 // The speeds to the east and to the north, the vertical rate and the height difference.
-fn ground_readings(b: Ground) -> Readings
-    ensures { λ r. ⌜ r ≡ readingsOf (Body.Ground b) ⌝ }
+fn ground_readings(b: Ground, traffic: bool) -> Readings
+    ensures { λ r. ⌜ r ≡ readingsOf (Body.Ground b) traffic ⌝ }
 {
     if !layouts::ground_fits(b) {
         return Readings::Refused(Refusal::Field);
@@ -118,13 +129,13 @@ fn ground_readings(b: Ground) -> Readings
         east: speed_of(b.subtype, b.west, b.eastward),
         north: speed_of(b.subtype, b.south, b.northward),
         rate: rate_of(v.down, v.rate),
-        difference: difference_of(v.below, v.difference),
+        difference: height_difference(v.source, v.below, v.difference, traffic),
     })
 }
 
 // An airspeed has no direction bit: it is never below zero.
-fn air_readings(b: Air) -> Readings
-    ensures { λ r. ⌜ r ≡ readingsOf (Body.Air b) ⌝ }
+fn air_readings(b: Air, traffic: bool) -> Readings
+    ensures { λ r. ⌜ r ≡ readingsOf (Body.Air b) traffic ⌝ }
 {
     if !layouts::air_fits(b) {
         return Readings::Refused(Refusal::Field);
@@ -134,19 +145,19 @@ fn air_readings(b: Air) -> Readings
         heading: heading_of(b.heading),
         airspeed: speed_of(b.subtype, 0, b.airspeed),
         rate: rate_of(v.down, v.rate),
-        difference: difference_of(v.below, v.difference),
+        difference: height_difference(v.source, v.below, v.difference, traffic),
     })
 }
 
-// What the fields of a body mean. One with a field wider than its bits, or a TYPE or subtype of another layout, is refused.
-pub fn readings_of(b: Body) -> Readings
-    ensures { λ r. ⌜ r ≡ readingsOf b ⌝ }
+// What the fields of a body mean, in a message of a traffic service or in another. One with a field wider than its bits, or a TYPE or subtype of another layout, is refused.
+pub fn readings_of(b: Body, traffic: bool) -> Readings
+    ensures { λ r. ⌜ r ≡ readingsOf b traffic ⌝ }
 {
     match b {
         Body::Identification(x) => identification_readings(x),
         Body::Surface(x) => surface_readings(x),
         Body::Airborne(x) => airborne_readings(x),
-        Body::Ground(x) => ground_readings(x),
-        Body::Air(x) => air_readings(x),
+        Body::Ground(x) => ground_readings(x, traffic),
+        Body::Air(x) => air_readings(x, traffic),
     }
 }

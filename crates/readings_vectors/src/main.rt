@@ -305,26 +305,26 @@ fn air(q: &[u8]) -> Body {
     })
 }
 
-// What a body means, by the number of its layout.
-fn say_body(layout: u8, q: &[u8]) {
+// What a body means, by the number of its layout, in a traffic service's message or in another.
+fn say_body(layout: u8, traffic: bool, q: &[u8]) {
     match layout {
-        0 => say_readings(readings::readings_of(identification(q))),
-        1 => say_readings(readings::readings_of(surface(q))),
-        2 => say_readings(readings::readings_of(airborne(q))),
-        3 => say_readings(readings::readings_of(ground(q))),
-        4 => say_readings(readings::readings_of(air(q))),
+        0 => say_readings(readings::readings_of(identification(q), traffic)),
+        1 => say_readings(readings::readings_of(surface(q), traffic)),
+        2 => say_readings(readings::readings_of(airborne(q), traffic)),
+        3 => say_readings(readings::readings_of(ground(q), traffic)),
+        4 => say_readings(readings::readings_of(air(q), traffic)),
         _ => write(b"no such layout"),
     }
 }
 
 // Reads the fields of a body.
-fn answer_body(layout: u8) {
+fn answer_body(layout: u8, traffic: bool) {
     let mut q = [0u8; 120];
     if io::read_full(STDIN_FILENO, &mut q) != 120 {
         write(b"too short");
         return;
     }
-    say_body(layout, &q);
+    say_body(layout, traffic, &q);
 }
 
 fn answer(question: u8, a: u8, b: u8, code: u16) {
@@ -339,7 +339,7 @@ fn answer(question: u8, a: u8, b: u8, code: u16) {
         6 => say_heading(readings::surface_heading_of(byte)),
         7 => say_movement(readings::movement_of(byte)),
         8 => say_character(characters::character_of(byte)),
-        9 => answer_body(a),
+        9 => answer_body(a, b == 1),
         _ => write(b"no such question"),
     }
     write(b"\n");

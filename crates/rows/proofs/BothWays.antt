@@ -2,28 +2,28 @@
 -- Assumes nothing.
 use Prim.Native.Nat.{ℕ, _<_, min}
 use mathlib.Core.Path.{_≡_}
-use mathlib.Core.Bool.{true, _&&_}
+use mathlib.Core.Bool.{true}
 use native.Mathlib.Nat.{min-eq-left}
 use native.Mathlib.Omega.{arith}
-use Rattle.fields.specs.Packing.{Fit, fits}
-use Rattle.fields.proofs.Bools.{and-left, and-right}
+use Rattle.fields.specs.Packing.{Fit}
 use Rattle.fields.proofs.Fits.{fits-fit}
 use Rattle.layouts.specs.declared.bodies.Body.{Body}
 use Rattle.layouts.specs.declared.bodies.Body.the-variants as body
-use Rattle.layouts.specs.Bodies.{bodyFields, bodyWidths, bodyFits, typeAgrees}
-use Rattle.readings.specs.Bodies.{readingsOf}
+use Rattle.layouts.specs.Bodies.{bodyFields, bodyWidths}
+use Rattle.layouts.proofs.BothWays.{fitting}
 use Rattle.messages.specs.declared.Message.{Message}
 use Rattle.messages.specs.declared.Decoded.the-variants as decode
-use Rattle.messages.specs.Message.{headWidths, headFields, formatTaken, messageFits}
+use Rattle.messages.specs.Message.{headWidths, headFields, keyOf, messageFits}
+use Rattle.messages.proofs.Fitting.{fits-head, fits-body}
 use Rattle.rows.specs.From.{byteAt, shortAt, wordAt, messageFrom}
-use Rattle.rows.specs.Rows.{rowOf, bodyRow, fourOf, messageRow}
+use Rattle.rows.specs.Rows.{rowOf, bodyRow, messageFour, messageRow}
 use Rattle.rows.specs.declared.message.Four.{Four}
 
 whole : (d m : ℕ) → d < m → min d m ≡ d
 whole d m h = min-eq-left (omega arith)
 
-module _ (m : Message) (four : Four) (h : Fit headWidths (headFields m)) where
-  row-back : (b : Body) → Fit (bodyWidths b) (bodyFields b) → messageFrom (bodyRow m b four) ≡ decode.Message (record { format = m .format; control = m .control; address = m .address; body = b })
+module _ (m : Message) (key : ℕ) (four : Four) (h : Fit headWidths (headFields m)) where
+  row-back : (b : Body) → Fit (bodyWidths b) (bodyFields b) → messageFrom (bodyRow m key b four) ≡ decode.Message (record { format = m .format; control = m .control; address = m .address; body = b })
   unfolding messageFrom rowOf byteAt shortAt wordAt
   row-back (body.Identification b) f =
       rw (
@@ -106,9 +106,4 @@ module _ (m : Message) (four : Four) (h : Fit headWidths (headFields m)) where
 
 -- the row of a message that fits is read as that message
 pub from-row : (m : Message) → messageFits m ≡ true → messageFrom (messageRow m) ≡ decode.Message m
-from-row m e =
-    let a = fits headWidths (headFields m) in
-    let t = formatTaken (m .format) (m .control) in
-    let g = and-right (a && t) (bodyFits (m .body)) e in
-    row-back m (fourOf (readingsOf (m .body))) (fits-fit headWidths (headFields m) (and-left a t (and-left (a && t) (bodyFits (m .body)) e))) (m .body)
-    (fits-fit (bodyWidths (m .body)) (bodyFields (m .body)) (and-left (fits (bodyWidths (m .body)) (bodyFields (m .body))) (typeAgrees (m .body)) g))
+from-row m e = row-back m (keyOf m) (messageFour m) (fits-fit headWidths (headFields m) (fits-head m e)) (m .body) (fitting (m .body) (fits-body m e))

@@ -2,7 +2,7 @@
 -- Assumes nothing.
 use Prim.Native.Nat.{ℕ, _≤_, _<_, min}
 use mathlib.Core.Path.{_≡_, sym, subst}
-use mathlib.Core.Bool.{true, _&&_}
+use mathlib.Core.Bool.{true}
 use mathlib.Core.List.{List}
 use mathlib.Core.Logic.{⊎-elim}
 use native.Mathlib.Nat.{min-eq-left, min-eq-right}
@@ -10,17 +10,19 @@ use native.Mathlib.Omega.{arith}
 use borrow.Author.Tests.{eqb-true}
 use lib.Dec.{eqb}
 use lib.ListN.{getD}
-use Rattle.fields.specs.Packing.{Fit, fits}
-use Rattle.fields.proofs.Bools.{and-left, and-right, by-test}
+use Rattle.fields.specs.Packing.{Fit}
+use Rattle.fields.proofs.Bools.{by-test}
 use Rattle.fields.proofs.Fits.{fits-fit}
 use Rattle.layouts.specs.declared.bodies.Body.{Body}
 use Rattle.layouts.specs.declared.bodies.Body.the-variants as body
-use Rattle.layouts.specs.Bodies.{bodyFields, bodyWidths, bodyFits, typeAgrees}
+use Rattle.layouts.specs.Bodies.{bodyFields, bodyWidths}
+use Rattle.layouts.proofs.BothWays.{fitting}
 use Rattle.positions.proofs.Shift.{order}
 use Rattle.messages.specs.declared.Message.{Message}
 use Rattle.messages.specs.declared.Decoded.{Decoded}
 use Rattle.messages.specs.declared.Decoded.the-variants as decode
-use Rattle.messages.specs.Message.{headWidths, headFields, formatTaken, messageFits}
+use Rattle.messages.specs.Message.{headWidths, headFields, messageFits}
+use Rattle.messages.proofs.Fitting.{fits-head, fits-body}
 use Rattle.rows.specs.From.{byteAt, shortAt, wordAt, identificationFrom, surfaceFrom, airborneFrom, groundFrom, airFrom, messageWith, messageFrom}
 use Rattle.rows.specs.Rows.{rowOf}
 use Rattle.rows.specs.Same.{entries, Same}
@@ -43,17 +45,10 @@ unfolding wordAt
 word-whole l i h = uncut (getD l i 0) 4294967295 h
 
 head-fit : (m : Message) → messageFits m ≡ true → Fit headWidths (headFields m)
-head-fit m e =
-    let a = fits headWidths (headFields m) in
-    let t = formatTaken (m .format) (m .control) in
-    fits-fit headWidths (headFields m) (and-left a t (and-left (a && t) (bodyFits (m .body)) e))
+head-fit m e = fits-fit headWidths (headFields m) (fits-head m e)
 
 body-fit : (m : Message) → messageFits m ≡ true → Fit (bodyWidths (m .body)) (bodyFields (m .body))
-body-fit m e =
-    let a = fits headWidths (headFields m) in
-    let t = formatTaken (m .format) (m .control) in
-    let b = fits (bodyWidths (m .body)) (bodyFields (m .body)) in
-    fits-fit (bodyWidths (m .body)) (bodyFields (m .body)) (and-left b (typeAgrees (m .body)) (and-right (a && t) (bodyFits (m .body)) e))
+body-fit m e = fitting (m .body) (fits-body m e)
 
 module _ (l : List ℕ) where
   heads : (b : Body) → Fit headWidths (headFields (messageWith l b)) → headFields (messageWith l b) ≡ entries 1 3 l

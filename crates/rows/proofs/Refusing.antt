@@ -2,7 +2,7 @@
 -- Assumes nothing.
 use Prim.Native.Nat.{ℕ, _<_}
 use mathlib.Core.Path.{_≡_, refl, sym, subst⁻¹}
-use mathlib.Core.Bool.{true, _&&_}
+use mathlib.Core.Bool.{Bool, true}
 use mathlib.Core.List.{List}
 use native.Mathlib.Omega.{arith}
 use lib.ListN.{getD}
@@ -10,12 +10,10 @@ use contract.Lifetimes.{Lfts}
 use denote.Triple.Clauses.{AtExit}
 use borrow.Fn.Kinds.{Dens, resT, endedOf}
 use Rattle.fields.specs.Bytes.{Bytes}
-use Rattle.fields.specs.Packing.{fits}
-use Rattle.fields.proofs.Bools.{and-right}
 use Rattle.layouts.specs.declared.bodies.Body.{Body}
 use Rattle.layouts.specs.declared.bodies.Body.the-variants as body
 use Rattle.layouts.specs.Bodies.{bodyFits}
-use Rattle.readings.specs.Bodies.{identificationMeans, surfaceMeans, airborneMeans, groundMeans, airMeans, bodyReadings, readingsOf}
+use Rattle.readings.specs.Bodies.{identificationMeans, surfaceMeans, airborneMeans, groundMeans, airMeans, bodyReadings}
 use Rattle.readings.specs.declared.bodies.Readings.{Readings}
 use Rattle.readings.specs.Altitude.{altitudeOf}
 use Rattle.readings.proofs.Promised.{altitude-known, fitting-given}
@@ -23,11 +21,12 @@ use Rattle.readings.proofs.Whole.{read}
 use Rattle.entries.proofs.Refusing.{altitude-given, speed-given, rate-given, difference-given, heading-given, movement-given, set-given, text-given}
 use Rattle.messages.specs.declared.Message.{Message}
 use Rattle.messages.specs.declared.Decoded.the-variants as decode
-use Rattle.messages.specs.Message.{headWidths, headFields, formatTaken, messageFits, decoded}
+use Rattle.messages.specs.Message.{keyOf, decoded}
 use Rattle.messages.proofs.BothWays.{decoded-good}
+use Rattle.messages.proofs.Fitting.{fits-body}
 use Rattle.track.specs.declared.Track.{Track}
 use Rattle.rows.specs.declared.message.Four.{Four}
-use Rattle.rows.specs.Rows.{rowOf, bodyRow, fourOf, messageRow, NoneRefused}
+use Rattle.rows.specs.Rows.{rowOf, bodyRow, fourOf, messageFour, messageRow, NoneRefused}
 use Rattle.rows.specs.Tracks.{trackRow}
 use Rattle.rows.proofs.message.message_values.Kinds as message-values-kinds
 use Rattle.rows.proofs.message.message_values.Reads as message-values
@@ -36,41 +35,40 @@ use Rattle.rows.proofs.message.message_values.Reads as message-values
 abbrev Given4 : Four → Type 0
 Given4 f = (f .first .what < 5) × (f .second .what < 5) × (f .third .what < 5) × (f .fourth .what < 5)
 
-given : (b : Body) → bodyFits b ≡ true → Given4 (fourOf (bodyReadings b))
-given (body.Identification b) e =
-    let g = fitting-given (body.Identification b) e in
+given : (b : Body) (traffic : Bool) → bodyFits b ≡ true → Given4 (fourOf (bodyReadings b traffic))
+given (body.Identification b) traffic e =
+    let g = fitting-given (body.Identification b) traffic e in
     let r = identificationMeans b in
     (set-given (r .set) (g .0), text-given (r .text) (g .1), omega arith, omega arith)
-given (body.Surface b) e =
-    let g = fitting-given (body.Surface b) e in
+given (body.Surface b) traffic e =
+    let g = fitting-given (body.Surface b) traffic e in
     let r = surfaceMeans b in
     (movement-given (r .movement) (g .0), heading-given (r .heading) (g .1), omega arith, omega arith)
-given (body.Airborne b) e =
+given (body.Airborne b) traffic e =
     let r = airborneMeans b in
-    (altitude-given (r .altitude) (fitting-given (body.Airborne b) e), omega arith, omega arith, omega arith)
-given (body.Ground b) e =
-    let g = fitting-given (body.Ground b) e in
-    let r = groundMeans b in
+    (altitude-given (r .altitude) (fitting-given (body.Airborne b) traffic e), omega arith, omega arith, omega arith)
+given (body.Ground b) traffic e =
+    let g = fitting-given (body.Ground b) traffic e in
+    let r = groundMeans b traffic in
     (speed-given (r .east) (g .0), speed-given (r .north) (g .1), rate-given (r .rate) (g .2), difference-given (r .difference) (g .3))
-given (body.Air b) e =
-    let g = fitting-given (body.Air b) e in
-    let r = airMeans b in
+given (body.Air b) traffic e =
+    let g = fitting-given (body.Air b) traffic e in
+    let r = airMeans b traffic in
     (heading-given (r .heading) (g .0), speed-given (r .airspeed) (g .1), rate-given (r .rate) (g .2), difference-given (r .difference) (g .3))
 
 -- where the readings stand in a row
-in-row : (m : Message) (b : Body) (f : Four) → Given4 f → NoneRefused (bodyRow m b f)
+in-row : (m : Message) (key : ℕ) (b : Body) (f : Four) → Given4 f → NoneRefused (bodyRow m key b f)
 unfolding rowOf
-in-row m (body.Identification b) f g = g
-in-row m (body.Surface b) f g = g
-in-row m (body.Airborne b) f g = g
-in-row m (body.Ground b) f g = g
-in-row m (body.Air b) f g = g
+in-row m key (body.Identification b) f g = g
+in-row m key (body.Surface b) f g = g
+in-row m key (body.Airborne b) f g = g
+in-row m key (body.Ground b) f g = g
+in-row m key (body.Air b) f g = g
 
 pub never-refused : (s : List ℕ) (m : Message) → Bytes s → decoded s ≡ decode.Message m → NoneRefused (messageRow m)
 never-refused s m h d =
-    let a = fits headWidths (headFields m) && formatTaken (m .format) (m .control) in
-    let e = and-right a (bodyFits (m .body)) (decoded-good s m h d .0) in
-    in-row m (m .body) (fourOf (readingsOf (m .body))) (subst⁻¹ (λ (r : Readings). Given4 (fourOf r)) (read (m .body) true (sym e) refl) (given (m .body) e))
+    let e = fits-body m (decoded-good s m h d .0) in
+    in-row m (keyOf m) (m .body) (messageFour m) (subst⁻¹ (λ (r : Readings). Given4 (fourOf r)) (read (m .body) _ true (sym e) refl) (given (m .body) _ e))
 
 -- and so of whatever meets the contract of `message_values`
 pub message-values-never-refused : (κs : Lfts 0) (args : Dens κs message-values-kinds.ps) (x : resT message-values-kinds.r κs .Denot)

@@ -16,7 +16,7 @@ use Rattle.readings.specs.declared.bodies.Readings.{Readings}
 use Rattle.readings.specs.declared.bodies.Readings.the-variants as readings
 use Rattle.readings.specs.Bodies.{readingsOf}
 use Rattle.messages.specs.declared.Message.{Message}
-use Rattle.messages.specs.Message.{keyOf}
+use Rattle.messages.specs.Message.{keyOf, traffic}
 use Rattle.rows.specs.declared.message.Four.{Four}
 use Rattle.entries.specs.Means.{reading, bit, altitudeReading, speedReading, rateReading, differenceReading, headingReading, movementReading, setReading, textReading}
 
@@ -91,18 +91,22 @@ fourValues f =
 
 -- ---- the whole row
 
-unfoldable pub rowOf : ℕ → Message → List ℕ → Four → List ℕ
-rowOf layout m fields four = layout ∷ m .format ∷ m .control ∷ m .address ∷ keyOf m ∷ (filled 15 fields ++ fourValues four)
+unfoldable pub rowOf : ℕ → Message → ℕ → List ℕ → Four → List ℕ
+rowOf layout m key fields four = layout ∷ m .format ∷ m .control ∷ m .address ∷ key ∷ (filled 15 fields ++ fourValues four)
 
-abbrev pub bodyRow : Message → Body → Four → List ℕ
-bodyRow m (body.Identification b) four = rowOf 1 m (identificationFields b) four
-bodyRow m (body.Surface b) four = rowOf 2 m (surfaceFields b) four
-bodyRow m (body.Airborne b) four = rowOf 3 m (airborneFields b) four
-bodyRow m (body.Ground b) four = rowOf 4 m (groundFields b) four
-bodyRow m (body.Air b) four = rowOf 5 m (airFields b) four
+abbrev pub bodyRow : Message → ℕ → Body → Four → List ℕ
+bodyRow m key (body.Identification b) four = rowOf 1 m key (identificationFields b) four
+bodyRow m key (body.Surface b) four = rowOf 2 m key (surfaceFields b) four
+bodyRow m key (body.Airborne b) four = rowOf 3 m key (airborneFields b) four
+bodyRow m key (body.Ground b) four = rowOf 4 m key (groundFields b) four
+bodyRow m key (body.Air b) four = rowOf 5 m key (airFields b) four
+
+-- its readings go by whether it is a traffic service's message
+abbrev pub messageFour : Message → Four
+messageFour m = fourOf (readingsOf (m .body) (traffic m))
 
 abbrev pub messageRow : Message → List ℕ
-messageRow m = bodyRow m (m .body) (fourOf (readingsOf (m .body)))
+messageRow m = bodyRow m (keyOf m) (m .body) (messageFour m)
 
 -- of the four readings in a row none was refused
 abbrev pub NoneRefused : List ℕ → Type 0

@@ -119,11 +119,11 @@ fn refused_four() -> Four
     }
 }
 
-// The readings of a body; all are refused where the body is.
-fn four_of(b: Body) -> Four
-    ensures { λ r. ⌜ r ≡ fourOf (readingsOf b) ⌝ }
+// The readings of a body, in a traffic service's message or in another; all are refused where the body is.
+fn four_of(b: Body, traffic: bool) -> Four
+    ensures { λ r. ⌜ r ≡ fourOf (readingsOf b traffic) ⌝ }
 {
-    let m = readings::readings_of(b);
+    let m = readings::readings_of(b, traffic);
     match m {
         Readings::Identification(x) => identification_four(x),
         Readings::Surface(x) => surface_four(x),
@@ -134,16 +134,15 @@ fn four_of(b: Body) -> Four
     }
 }
 
-fn identification_row(m: Message, b: Identification, r: Four) -> [u64; 28]
-    ensures { λ x. ⌜ x ≡ rowOf 1 m (identificationFields b) r ⌝ }
+fn identification_row(m: Message, key: u32, b: Identification, r: Four) -> [u64; 28]
+    ensures { λ x. ⌜ x ≡ rowOf 1 m key (identificationFields b) r ⌝ }
 {
-    let key = messages::key_of(m) as u64;
     [
         1,
         m.format as u64,
         m.control as u64,
         m.address as u64,
-        key,
+        key as u64,
         b.typecode as u64,
         b.category as u64,
         b.characters,
@@ -170,16 +169,15 @@ fn identification_row(m: Message, b: Identification, r: Four) -> [u64; 28]
     ]
 }
 
-fn surface_row(m: Message, b: Surface, r: Four) -> [u64; 28]
-    ensures { λ x. ⌜ x ≡ rowOf 2 m (surfaceFields b) r ⌝ }
+fn surface_row(m: Message, key: u32, b: Surface, r: Four) -> [u64; 28]
+    ensures { λ x. ⌜ x ≡ rowOf 2 m key (surfaceFields b) r ⌝ }
 {
-    let key = messages::key_of(m) as u64;
     [
         2,
         m.format as u64,
         m.control as u64,
         m.address as u64,
-        key,
+        key as u64,
         b.typecode as u64,
         b.movement as u64,
         b.status as u64,
@@ -206,16 +204,15 @@ fn surface_row(m: Message, b: Surface, r: Four) -> [u64; 28]
     ]
 }
 
-fn airborne_row(m: Message, b: Airborne, r: Four) -> [u64; 28]
-    ensures { λ x. ⌜ x ≡ rowOf 3 m (airborneFields b) r ⌝ }
+fn airborne_row(m: Message, key: u32, b: Airborne, r: Four) -> [u64; 28]
+    ensures { λ x. ⌜ x ≡ rowOf 3 m key (airborneFields b) r ⌝ }
 {
-    let key = messages::key_of(m) as u64;
     [
         3,
         m.format as u64,
         m.control as u64,
         m.address as u64,
-        key,
+        key as u64,
         b.typecode as u64,
         b.surveillance as u64,
         b.bit8 as u64,
@@ -242,17 +239,16 @@ fn airborne_row(m: Message, b: Airborne, r: Four) -> [u64; 28]
     ]
 }
 
-fn ground_row(m: Message, b: Ground, r: Four) -> [u64; 28]
-    ensures { λ x. ⌜ x ≡ rowOf 4 m (groundFields b) r ⌝ }
+fn ground_row(m: Message, key: u32, b: Ground, r: Four) -> [u64; 28]
+    ensures { λ x. ⌜ x ≡ rowOf 4 m key (groundFields b) r ⌝ }
 {
-    let key = messages::key_of(m) as u64;
     let v = b.vertical;
     [
         4,
         m.format as u64,
         m.control as u64,
         m.address as u64,
-        key,
+        key as u64,
         b.typecode as u64,
         b.subtype as u64,
         b.bit9 as u64,
@@ -279,17 +275,16 @@ fn ground_row(m: Message, b: Ground, r: Four) -> [u64; 28]
     ]
 }
 
-fn air_row(m: Message, b: Air, r: Four) -> [u64; 28]
-    ensures { λ x. ⌜ x ≡ rowOf 5 m (airFields b) r ⌝ }
+fn air_row(m: Message, key: u32, b: Air, r: Four) -> [u64; 28]
+    ensures { λ x. ⌜ x ≡ rowOf 5 m key (airFields b) r ⌝ }
 {
-    let key = messages::key_of(m) as u64;
     let v = b.vertical;
     [
         5,
         m.format as u64,
         m.control as u64,
         m.address as u64,
-        key,
+        key as u64,
         b.typecode as u64,
         b.subtype as u64,
         b.bit9 as u64,
@@ -321,12 +316,28 @@ pub fn message_values(m: Message) -> [u64; 28]
     ensures { λ r. ⌜ r ≡ messageRow m ⌝ }
 {
     let body = m.body;
-    let r = four_of(body);
+    let r = four_of(body, messages::is_traffic(m));
+    // each layout gives its own flag: `key_of` would take the body apart again
     match body {
-        Body::Identification(b) => identification_row(m, b, r),
-        Body::Surface(b) => surface_row(m, b, r),
-        Body::Airborne(b) => airborne_row(m, b, r),
-        Body::Ground(b) => ground_row(m, b, r),
-        Body::Air(b) => air_row(m, b, r),
+        Body::Identification(b) => {
+            let key = messages::key_by(m.format, m.control, 0, m.address);
+            identification_row(m, key, b, r)
+        }
+        Body::Surface(b) => {
+            let key = messages::key_by(m.format, m.control, b.t, m.address);
+            surface_row(m, key, b, r)
+        }
+        Body::Airborne(b) => {
+            let key = messages::key_by(m.format, m.control, b.bit8, m.address);
+            airborne_row(m, key, b, r)
+        }
+        Body::Ground(b) => {
+            let key = messages::key_by(m.format, m.control, b.bit9, m.address);
+            ground_row(m, key, b, r)
+        }
+        Body::Air(b) => {
+            let key = messages::key_by(m.format, m.control, b.bit9, m.address);
+            air_row(m, key, b, r)
+        }
     }
 }

@@ -16,7 +16,7 @@ use Rattle.messages.specs.declared.Message.{Message}
 use Rattle.messages.specs.declared.Decoded.{Decoded}
 use Rattle.messages.specs.declared.Decoded.the-variants as decode
 use Rattle.messages.specs.Message.{decoded, keyOf, starts}
-use Rattle.messages.specs.Said.{said, earns1, earns3, earns4, earns5, startsIn, valuesIn, table}
+use Rattle.messages.specs.Said.{said, earns1, earns3, earns4, earns5, keyIn, startsIn, valuesIn, table}
 use Rattle.messages.proofs.Exactly as decoder
 use Rattle.messages.proofs.Keys.{decoded-key}
 use Rattle.messages.proofs.Starting.{decoded-starts}
@@ -29,7 +29,7 @@ use Rattle.rules.specs.Form.{Cell, isHeld, holds, Form, Lawful}
 use Rattle.rules.specs.Search.{lowest}
 use Rattle.rules.specs.Rules.{After, after, placeOf, freePlace, turnedAway, delivered, received}
 use Rattle.rules.specs.View.{Unheld, AllTaken}
-use Rattle.rules.specs.Said.{keyIn, keyHeld, placeFree, earns2, earns6, earns7, earns12, receiveTable}
+use Rattle.rules.specs.Said.{keyHeld, placeFree, earns2, earns6, earns7, earns12, receiveTable}
 use Rattle.rules.proofs.Search.{clash, fails, lowest-passes, none-passes}
 use Rattle.rules.proofs.Steps.{as-moved}
 use Rattle.rules.proofs.Ways.{decoded-fits}

@@ -16,7 +16,7 @@ use Rattle.refusals.specs.Numbers.{numberOf}
 use Rattle.fields.specs.Bytes.{number as numeral}
 use Rattle.fields.proofs.Bools.{by-test}
 use Rattle.parity.specs.Parity.{remainder}
-use Rattle.layouts.specs.Bodies.{layoutOf, takenAs, taken, bodyFits}
+use Rattle.layouts.specs.Bodies.{layoutOf, flagIn, takenAs, taken, bodyFits}
 use Rattle.layouts.specs.declared.bodies.Layout.{Layout}
 use Rattle.layouts.specs.declared.bodies.Layout.the-variants as layout
 use Rattle.layouts.specs.declared.bodies.Taken.{Taken}
@@ -25,7 +25,8 @@ use Rattle.layouts.proofs.BothWays.{read-good}
 use Rattle.messages.specs.declared.Message.{Message}
 use Rattle.messages.specs.declared.Decoded.{Decoded}
 use Rattle.messages.specs.declared.Decoded.the-variants as decode
-use Rattle.messages.specs.Message.{bits, formatTaken, withBody, opened, decoded}
+use Rattle.messages.specs.Message.{bits, formatTaken, isReserved, withBody, opened, decoded}
+use Rattle.messages.proofs.Keys.{decoded-from}
 use Rattle.rules.specs.Form.{Form}
 use Rattle.rules.specs.Rules.{After, after, delivered, received}
 use Rattle.rules.specs.View.{Early, Undecoded, Unplaced, Later}
@@ -95,7 +96,8 @@ module _ (message : List ℕ) where
   opened-refuses =
       let n : ℕ = bits 33 88 message in
       by-test ByDecoder (not (formatTaken (bits 1 5 message) (bits 6 8 message))) _ _ (λ _. inr (inl refl))
-      (λ _. with-body (bits 1 5 message) (bits 6 8 message) (bits 9 32 message) (taken n) (body-refuses (layoutOf n) n))
+      (λ _. by-test ByDecoder (isReserved (bits 1 5 message) (bits 6 8 message) (flagIn n)) _ _ (λ _. inr (inr refl))
+      (λ _. with-body (bits 1 5 message) (bits 6 8 message) (bits 9 32 message) (taken n) (body-refuses (layoutOf n) n)))
 
   pub decoder-refuses : (r : Refusal) → length message ≡ 14 → decoded message ≡ decode.Refused r → Undecoded r
   decoder-refuses r l d =
@@ -110,26 +112,9 @@ module _ (message : List ℕ) where
       by-cases true e = eqb-true _ _ e
       by-cases false e = let short : decoded message ≡ decode.Refused Length = rw e in absurd (not-refused (sym d ∙ short))
 
--- what it takes fits: each field is cut from its bits
-abbrev Fitting : Decoded → Type 0
-Fitting (decode.Message m) = bodyFits (m .body) ≡ true
-Fitting (decode.Refused r) = Unit
-
-module _ (message : List ℕ) where
-  body-fitting : (b : Taken) → taken (bits 33 88 message) ≡ b → Fitting (withBody (bits 1 5 message) (bits 6 8 message) (bits 9 32 message) b)
-  body-fitting (read.Body b) e = read-good (bits 33 88 message) b (mod-lt (numeral message / 2 ^ 24) (lit< tt)) e .0
-  body-fitting (read.Refused r) e = tt
-
-  opened-fitting : Fitting (opened (bits 1 5 message) (bits 6 8 message) (bits 9 32 message) (bits 33 88 message))
-  unfolding opened
-  opened-fitting = by-test Fitting (not (formatTaken (bits 1 5 message) (bits 6 8 message))) _ _ (λ _. tt) (λ _. body-fitting (taken (bits 33 88 message)) refl)
-
+  -- what it takes fits: each field is cut from its bits
   pub decoded-fits : (m : Message) → decoded message ≡ decode.Message m → bodyFits (m .body) ≡ true
-  decoded-fits m d =
-      subst Fitting d
-      (by-test Fitting (not (eqb (length message) 14)) _ _ (λ _. tt)
-      (λ _. by-test Fitting (not (eqb (remainder message) 0)) _ _ (λ _. tt)
-      (λ _. opened-fitting)))
+  decoded-fits m d = read-good (bits 33 88 message) (m .body) (mod-lt (numeral message / 2 ^ 24) (lit< tt)) (decoded-from message m d .0) .0
 
 -- ---- a call
 

@@ -6,12 +6,10 @@ use mathlib.Core.Option.{Option, some, none}
 use lib.Dec.{eqb, ltb}
 use Rattle.refusals.specs.Numbers.{numberOf}
 use Rattle.refusals.specs.Said.{Said, number, gives}
-use Rattle.keys.specs.Keys.{keyFor}
 use Rattle.positions.specs.declared.Spot.{Spot}
 use Rattle.positions.specs.Positions.{poleToPole}
 use Rattle.layouts.specs.Said.{Values}
-use Rattle.messages.specs.Message.{bits, kindOf}
-use Rattle.messages.specs.Said.{earns1, earns3, earns4, earns5, startsIn, valuesIn}
+use Rattle.messages.specs.Said.{earns1, earns3, earns4, earns5, keyIn, startsIn, valuesIn}
 use Rattle.whereabouts.specs.declared.Site.{Site}
 use Rattle.track.specs.declared.Track.{Track}
 use Rattle.rules.specs.declared.answers.Heard.{Heard}
@@ -90,10 +88,6 @@ keyAbove F s above = orNone (leastAbove F s above)
 -- 2: time below the clock
 abbrev pub earns2 : {S : Type 0} → Form S → S → ℕ → Bool
 earns2 F s time = ltb time (F .clock s)
-
--- the key of a message: AA with its kind, by DF and CF
-abbrev pub keyIn : List ℕ → ℕ
-keyIn m = keyFor (kindOf (bits 1 5 m) (bits 6 8 m)) (bits 9 32 m)
 
 -- some place holds the key at the time
 abbrev pub keyHeld : {S : Type 0} → Form S → S → ℕ → ℕ → Bool

@@ -12,8 +12,7 @@ use borrow.Author.Tests.{le-leb, lt-leb, eq-eqb, ne-eqb}
 use Rattle.refusals.specs.declared.Refusal.{Refusal}
 use Rattle.refusals.specs.declared.Refusal.the-variants.{Field, Latitude, Zones}
 use Rattle.fields.specs.Bytes.{Bytes}
-use Rattle.fields.specs.Packing.{fits}
-use Rattle.fields.proofs.Bools.{and-right, both, by-test}
+use Rattle.fields.proofs.Bools.{both, by-test}
 use Rattle.positions.specs.declared.Counts.{Counts}
 use Rattle.positions.specs.declared.Spot.{Spot}
 use Rattle.positions.specs.declared.Turn.{Turn}
@@ -30,11 +29,12 @@ use Rattle.layouts.specs.declared.velocity.Air.{Air}
 use Rattle.layouts.specs.declared.bodies.Body.{Body}
 use Rattle.layouts.specs.declared.bodies.Body.the-variants as body
 use Rattle.layouts.specs.Bodies.{bodyMe, bodyFits}
-use Rattle.messages.specs.Message.{headWidths, headFields, formatTaken, decoded}
+use Rattle.messages.specs.Message.{decoded}
 use Rattle.messages.specs.declared.Message.{Message}
 use Rattle.messages.specs.declared.Decoded.{Decoded}
 use Rattle.messages.specs.declared.Decoded.the-variants as decode
 use Rattle.messages.proofs.BothWays.{decoded-good}
+use Rattle.messages.proofs.Fitting.{fits-body}
 use Rattle.whereabouts.specs.declared.Saved.{Saved}
 use Rattle.whereabouts.specs.declared.Placed.the-variants as placed
 use Rattle.whereabouts.specs.declared.Position.{Position}
@@ -75,8 +75,7 @@ pub accepted : (t : Track) (m : Message) (site : Site) (time : ℕ) → bodyFits
 accepted t m site time e = rw e
 
 body-decoded : (s : List ℕ) (m : Message) → Bytes s → decoded s ≡ decode.Message m → bodyFits (m .body) ≡ true
-body-decoded s m h e =
-    and-right (fits headWidths (headFields m) && formatTaken (m .format) (m .control)) (bodyFits (m .body)) (decoded-good s m h e .0)
+body-decoded s m h e = fits-body m (decoded-good s m h e .0)
 
 passed-on : (t : Track) (s : List ℕ) (d : Decoded) (site : Site) (time : ℕ) → Bytes s → decoded s ≡ d → stepped t d site time .answer ≡ d
 passed-on t s (decode.Refused r) site time h e = refl

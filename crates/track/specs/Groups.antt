@@ -37,7 +37,7 @@ onSurface g me = record {
   height = g .height;
 }
 
--- pressure altitude, TYPE 9-18
+-- pressure altitude, of TYPE 9-18 and of a TYPE 0 that reports one
 abbrev pub atPressure : Groups → ℕ → Groups
 atPressure g altitude = record {
   identification = g .identification;

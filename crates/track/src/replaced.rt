@@ -1,4 +1,4 @@
-// The groups of a track: a message replaces its own whole, unknown included.
+// The groups of a track: a message replaces its own whole, unknown included; only the altitude of a TYPE 0 may be left out.
 use crate::Groups;
 ghost use mathlib.Core.Path.{_≡_};
 ghost use Rattle.track.specs.Groups.{noGroups, identified, moving, onSurface, reported, high};

@@ -1,14 +1,14 @@
--- `encoder::head_fits` meets its contract: its last test is that of `format_taken`.
+-- `encoder::head_fits` meets its contract: its last test is that of `head_taken`.
 -- Assumes nothing.
 use borrow.Author.Needs.{needs}
 use Rattle.encoder.proofs.head_fits.Statement.{statement}
 use Rattle.encoder.proofs.head_fits.Tie as tie
 
-format-taken-requires : tie.Need-format-taken-requires
-format-taken-requires c κs = search needs
+head-taken-requires : tie.Need-head-taken-requires
+head-taken-requires c κs = search needs
 
 returns : tie.Need-returns
-returns c = rw (c .before .before .before .format-taken .ensures)
+returns c = rw (c .before .before .before .head-taken .ensures)
 
 pub head-fits-spec : {M : Type 1} → statement M
-head-fits-spec = tie.close (tie.spec format-taken-requires returns)
+head-fits-spec = tie.close (tie.spec head-taken-requires returns)

@@ -1,13 +1,21 @@
 -- `messages::kind_of` meets its contract: its test is that of the definition.
 -- Assumes nothing.
+use borrow.Author.Tests.{eq-eqb, ne-eqb}
+use Rattle.messages.specs.Message.{kindOf}
+use borrow.Author.Needs.{needs}
 use Rattle.messages.proofs.kind_of.Statement.{statement}
 use Rattle.messages.proofs.kind_of.Tie as tie
 
+kind-by-requires : tie.Need-kind-by-requires
+kind-by-requires c κs = search needs
+
 returns : tie.Need-returns
-returns c = rw (c .if1 .taken)
+unfolding kindOf
+returns c = rw (eq-eqb _ 18 (c .before .if1 .taken)) (c .kind-by .ensures)
 
 returns-2 : tie.Need-returns-2
-returns-2 c = rw (c .if1 .left)
+unfolding kindOf
+returns-2 c = rw (ne-eqb _ 18 (c .if1 .left))
 
 pub kind-of-spec : {M : Type 1} → statement M
-kind-of-spec = tie.close (tie.spec returns returns-2)
+kind-of-spec = tie.close (tie.spec kind-by-requires returns returns-2)

@@ -3,6 +3,7 @@
 use mathlib.Core.Path.{ap, _∙_}
 use mathlib.Core.Bool.{_||_}
 use Rattle.messages.proofs.Acceptance.{messageOf, Opens, frame-opens}
+use Rattle.messages.proofs.Keys.{frame-key}
 use Rattle.messages.proofs.Starting.{frame-starts}
 use Rattle.table.specs.Heard.{heard}
 use Rattle.table.proofs.Answers.{deliver-on, deliver-none}
@@ -45,7 +46,7 @@ returns c =
     let a = q .before .before .args in
     let o : Opens (a .f) = frame-opens (a .f) (q .before .before .pre .1) in
     ap heard
-    (deliver-on (a .table .now) (a .time) (o .message) (q .frame-key .ensures) (p .before .before .before .places-in .ensures .0) (p .before .before .frame-starts .ensures ∙ frame-starts (a .f) o) (p .target-of .ensures) (c .before .before .before .before .before .before .if1 .taken) (c .before .before .before .before .start-of .ensures)
+    (deliver-on (a .table .now) (a .time) (o .message) (q .frame-key .ensures ∙ frame-key (a .f) o) (p .before .before .before .places-in .ensures .0) (p .before .before .frame-starts .ensures ∙ frame-starts (a .f) o) (p .target-of .ensures) (c .before .before .before .before .before .before .if1 .taken) (c .before .before .before .before .start-of .ensures)
     (placed-by-me (a .table .now) _ _ _ (a .time) (a .f .me) _ (messageOf (a .f) (o .body)) (o .fits) (o .same) (c .before .before .step-at .ensures)))
 
 same-length-2 : tie.Need-same-length-2
@@ -60,7 +61,7 @@ returns-2 c =
     let q = p .before .before .before .before .before in
     let a = q .before .before .args in
     let o : Opens (a .f) = frame-opens (a .f) (q .before .before .pre .1) in
-    ap heard (deliver-none (a .table .now) (a .time) (o .message) (q .frame-key .ensures) (p .before .before .before .places-in .ensures .0) (p .before .before .frame-starts .ensures ∙ frame-starts (a .f) o) (p .target-of .ensures) (c .before .if1 .left) (c .turned-away .ensures))
+    ap heard (deliver-none (a .table .now) (a .time) (o .message) (q .frame-key .ensures ∙ frame-key (a .f) o) (p .before .before .before .places-in .ensures .0) (p .before .before .frame-starts .ensures ∙ frame-starts (a .f) o) (p .target-of .ensures) (c .before .if1 .left) (c .turned-away .ensures))
 
 pub deliver-spec : {M : Type 1} → statement M
 deliver-spec =

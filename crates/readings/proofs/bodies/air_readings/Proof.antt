@@ -10,7 +10,7 @@ air-fits-requires : tie.Need-air-fits-requires
 air-fits-requires c κs = search needs
 
 returns : tie.Need-returns
-returns c = rw (unread (Air (c .before .before .args .b)) _ (c .before .air-fits .ensures) (c .if1 .taken))
+returns c = rw (unread (Air (c .before .before .args .b)) (c .before .before .args .traffic) _ (c .before .air-fits .ensures) (c .if1 .taken))
 
 heading-of-requires : tie.Need-heading-of-requires
 heading-of-requires c κs = search needs
@@ -21,11 +21,11 @@ speed-of-requires c κs = search needs
 rate-of-requires : tie.Need-rate-of-requires
 rate-of-requires c κs = search needs
 
-difference-of-requires : tie.Need-difference-of-requires
-difference-of-requires c κs = search needs
+height-difference-requires : tie.Need-height-difference-requires
+height-difference-requires c κs = search needs
 
 returns-2 : tie.Need-returns-2
-returns-2 c = rw (read (Air (c .before .before .before .before .before .before .before .args .b)) _ (c .before .before .before .before .before .before .air-fits .ensures) (c .before .before .before .before .before .if1 .left), c .before .before .before .heading-of .ensures, c .before .before .speed-of .ensures, c .before .rate-of .ensures, c .difference-of .ensures)
+returns-2 c = rw (read (Air (c .before .before .before .before .before .before .before .args .b)) (c .before .before .before .before .before .before .before .args .traffic) _ (c .before .before .before .before .before .before .air-fits .ensures) (c .before .before .before .before .before .if1 .left), c .before .before .before .heading-of .ensures, c .before .before .speed-of .ensures, c .before .rate-of .ensures, c .height-difference .ensures)
 
 pub air-readings-spec : {M : Type 1} → statement M
 air-readings-spec =
@@ -36,5 +36,5 @@ air-readings-spec =
     heading-of-requires
     speed-of-requires
     rate-of-requires
-    difference-of-requires
+    height-difference-requires
     returns-2)

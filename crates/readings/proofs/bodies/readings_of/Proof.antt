@@ -37,19 +37,19 @@ air-readings-requires : tie.Need-air-readings-requires
 air-readings-requires c κs = search needs
 
 returns : tie.Need-returns
-returns c = c .identification-readings .ensures ∙ sym (ap readingsOf (c .before .before .b .given .1))
+returns c = c .identification-readings .ensures (c .before .before .before .before .args .traffic) ∙ sym (ap (λ b. readingsOf b (c .before .before .before .before .args .traffic)) (c .before .before .b .given .1))
 
 returns-2 : tie.Need-returns-2
-returns-2 c = c .surface-readings .ensures ∙ sym (ap readingsOf (c .before .before .b2 .given .1))
+returns-2 c = c .surface-readings .ensures (c .before .before .before .before .args .traffic) ∙ sym (ap (λ b. readingsOf b (c .before .before .before .before .args .traffic)) (c .before .before .b2 .given .1))
 
 returns-3 : tie.Need-returns-3
-returns-3 c = c .airborne-readings .ensures ∙ sym (ap readingsOf (c .before .before .b3 .given .1))
+returns-3 c = c .airborne-readings .ensures (c .before .before .before .before .args .traffic) ∙ sym (ap (λ b. readingsOf b (c .before .before .before .before .args .traffic)) (c .before .before .b3 .given .1))
 
 returns-4 : tie.Need-returns-4
-returns-4 c = c .ground-readings .ensures ∙ sym (ap readingsOf (c .before .before .b4 .given .1))
+returns-4 c = c .ground-readings .ensures ∙ sym (ap (λ b. readingsOf b (c .before .before .before .before .args .traffic)) (c .before .before .b4 .given .1))
 
 returns-5 : tie.Need-returns-5
-returns-5 c = c .air-readings .ensures ∙ sym (ap readingsOf (c .before .before .b5 .given .1))
+returns-5 c = c .air-readings .ensures ∙ sym (ap (λ b. readingsOf b (c .before .before .before .before .args .traffic)) (c .before .before .b5 .given .1))
 
 pub readings-of-spec : {M : Type 1} → statement M
 readings-of-spec =

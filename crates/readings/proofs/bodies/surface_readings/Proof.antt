@@ -10,7 +10,7 @@ surface-fits-requires : tie.Need-surface-fits-requires
 surface-fits-requires c κs = search needs
 
 returns : tie.Need-returns
-returns c = rw (unread (Surface (c .before .before .args .b)) _ (c .before .surface-fits .ensures) (c .if1 .taken))
+returns c traffic = rw (unread (Surface (c .before .before .args .b)) traffic _ (c .before .surface-fits .ensures) (c .if1 .taken))
 
 movement-of-requires : tie.Need-movement-of-requires
 movement-of-requires c κs = search needs
@@ -19,7 +19,7 @@ surface-heading-of-requires : tie.Need-surface-heading-of-requires
 surface-heading-of-requires c κs = search needs
 
 returns-2 : tie.Need-returns-2
-returns-2 c = rw (read (Surface (c .before .before .before .before .args .b)) _ (c .before .before .before .surface-fits .ensures) (c .before .before .if1 .left), c .before .movement-of .ensures, c .surface-heading-of .ensures)
+returns-2 c traffic = rw (read (Surface (c .before .before .before .before .args .b)) traffic _ (c .before .before .before .surface-fits .ensures) (c .before .before .if1 .left), c .before .movement-of .ensures, c .surface-heading-of .ensures)
 
 pub surface-readings-spec : {M : Type 1} → statement M
 surface-readings-spec =

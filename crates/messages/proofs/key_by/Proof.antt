@@ -1,11 +1,11 @@
--- `messages::key_from` meets its contract: the key of the kind that DF and CF say.
+-- `messages::key_by` meets its contract: the key of the kind that DF, CF and the flag say.
 -- Assumes nothing.
 use mathlib.Core.Path.{ap, _∙_}
-use borrow.Author.Needs.{needs}
 use Rattle.keys.specs.Keys.{keyFor}
 use Rattle.keys.specs.declared.Kind.{Kind}
-use Rattle.messages.proofs.key_from.Statement.{statement}
-use Rattle.messages.proofs.key_from.Tie as tie
+use borrow.Author.Needs.{needs}
+use Rattle.messages.proofs.key_by.Statement.{statement}
+use Rattle.messages.proofs.key_by.Tie as tie
 
 kind-of-requires : tie.Need-kind-of-requires
 kind-of-requires c κs = search needs
@@ -16,5 +16,5 @@ key-for-requires c κs = search needs
 returns : tie.Need-returns
 returns c = c .key-for .ensures ∙ ap (λ (k : Kind). keyFor k (c .before .before .args .address)) (c .before .kind-of .ensures)
 
-pub key-from-spec : {M : Type 1} → statement M
-key-from-spec = tie.close (tie.spec kind-of-requires key-for-requires returns)
+pub key-by-spec : {M : Type 1} → statement M
+key-by-spec = tie.close (tie.spec kind-of-requires key-for-requires returns)

@@ -1,0 +1,25 @@
+-- `messages::frame_reserved` meets its contract: its first test is the definition's, and the other that of `is_reserved`.
+-- Assumes nothing.
+use mathlib.Core.Path.{ap, _∙_}
+use borrow.Author.Tests.{eq-eqb, ne-eqb}
+use Rattle.messages.specs.Message.{isReserved}
+use borrow.Author.Needs.{needs}
+use Rattle.messages.proofs.frame_reserved.Statement.{statement}
+use Rattle.messages.proofs.frame_reserved.Tie as tie
+
+returns : tie.Need-returns
+returns c = rw (ne-eqb _ 18 (c .if1 .taken))
+
+flag-in-requires : tie.Need-flag-in-requires
+flag-in-requires c κs = search needs
+
+is-reserved-requires : tie.Need-is-reserved-requires
+is-reserved-requires c κs = search needs
+
+returns-2 : tie.Need-returns-2
+returns-2 c =
+    let f = c .before .before .before .before .args .f in
+    c .is-reserved .ensures ∙ ap (isReserved (f .format) (f .control)) (c .before .flag-in .ensures)
+
+pub frame-reserved-spec : {M : Type 1} → statement M
+frame-reserved-spec = tie.close (tie.spec returns flag-in-requires is-reserved-requires returns-2)

@@ -1,0 +1,27 @@
+-- `messages::head_taken` meets its contract: DF and CF are taken, and the flag of its body is not reserved.
+-- Assumes nothing.
+use Prim.Native.Nat.{ℕ}
+use mathlib.Core.Bool.{Bool, not, _&&_}
+use mathlib.Core.Path.{ap, ap₂, _∙_}
+use Rattle.messages.specs.Message.{isReserved}
+use borrow.Author.Needs.{needs}
+use Rattle.messages.proofs.head_taken.Statement.{statement}
+use Rattle.messages.proofs.head_taken.Tie as tie
+
+flag-of-requires : tie.Need-flag-of-requires
+flag-of-requires c κs = search needs
+
+is-reserved-requires : tie.Need-is-reserved-requires
+is-reserved-requires c κs = search needs
+
+format-taken-requires : tie.Need-format-taken-requires
+format-taken-requires c κs = search needs
+
+returns : tie.Need-returns
+returns c =
+    let m = c .before .before .before .args .m in
+    ap₂ (λ (t r : Bool). t && not r) (c .format-taken .ensures)
+    (c .before .is-reserved .ensures ∙ ap (isReserved (m .format) (m .control)) (c .before .before .flag-of .ensures))
+
+pub head-taken-spec : {M : Type 1} → statement M
+head-taken-spec = tie.close (tie.spec flag-of-requires is-reserved-requires format-taken-requires returns)
