@@ -134,8 +134,12 @@ enum {
     ADDERCOIL_TRACK_ODD_TIME,
     ADDERCOIL_TRACK_ALTITUDE_IS,           /* pressure altitude: a reading, in feet, signed */
     ADDERCOIL_TRACK_ALTITUDE,
+    ADDERCOIL_TRACK_ALTITUDE_STEP_IS,      /* how coarse it is: a reading, 25 or 100 feet, known just when it is */
+    ADDERCOIL_TRACK_ALTITUDE_STEP,
     ADDERCOIL_TRACK_GNSS_HEIGHT_IS,        /* GNSS height: a reading, in feet, signed */
     ADDERCOIL_TRACK_GNSS_HEIGHT,
+    ADDERCOIL_TRACK_GNSS_HEIGHT_STEP_IS,   /* how coarse that is, likewise */
+    ADDERCOIL_TRACK_GNSS_HEIGHT_STEP,
     ADDERCOIL_TRACK                        /* how many there are */
 };
 
@@ -151,8 +155,8 @@ uint32_t addercoil_look_up(const uint8_t *table, size_t table_len, uint32_t key,
  * Both calls are told which tracks it shows: all is 0 for those with a known position, whatever its age, and 1 for all.
  */
 
-/* Bytes of a buffer for one line: 96 of text at most, and a zero, so that it is always a C string. */
-#define ADDERCOIL_LINE 97
+/* Bytes of a buffer for one line: room for 128 of text, and a zero, so that it is always a C string. */
+#define ADDERCOIL_LINE 129
 
 /*
  * The listing's first line, "clock C tracks T bad-blocks B" and a newline, then zeros, into out of ADDERCOIL_LINE bytes;
@@ -163,10 +167,10 @@ uint32_t addercoil_header(const uint8_t *table, size_t table_len, uint64_t bad, 
                           size_t out_len);
 
 /*
- * The line of a key, "I ABCDEF 1400 536870912 1073741824 10000" and a newline, then zeros, into out of ADDERCOIL_LINE
- * bytes: kind I, O, T, M or N, AA, last heard, latitude, longitude, pressure altitude, "-" for what is unknown. All zeros,
- * the empty string, if the key is not held or its track is not shown. Or ADDERCOIL_LENGTH, ADDERCOIL_PLACES,
- * ADDERCOIL_FIELD for all above 1.
+ * The line of a key, "I ABCDEF 1400 536870912 1073741824 10000 25" and a newline, then zeros, into out of ADDERCOIL_LINE
+ * bytes: kind I, O, T, M or N, AA, last heard, latitude, longitude, pressure altitude and its step, which is 25 or 100;
+ * "-" for what is unknown. All zeros, the empty string, if the key is not held or its track is not shown. Or
+ * ADDERCOIL_LENGTH, ADDERCOIL_PLACES, ADDERCOIL_FIELD for all above 1.
  */
 uint32_t addercoil_line(const uint8_t *table, size_t table_len, uint32_t key, uint32_t all, uint8_t *out,
                         size_t out_len);
@@ -297,7 +301,9 @@ enum {
     ADDERCOIL_AIRBORNE_ALTITUDE_IS = 20,  /* feet, signed */
     ADDERCOIL_AIRBORNE_ALTITUDE = 21,
     ADDERCOIL_AIRBORNE_GNSS_IS = 22,  /* always known: 1 if the altitude is a GNSS height, 0 if by pressure */
-    ADDERCOIL_AIRBORNE_GNSS = 23
+    ADDERCOIL_AIRBORNE_GNSS = 23,
+    ADDERCOIL_AIRBORNE_STEP_IS = 24,  /* how coarse the altitude is, in feet: 25 or 100, known just when it is */
+    ADDERCOIL_AIRBORNE_STEP = 25
 };
 enum {
     ADDERCOIL_GROUND_SUBTYPE = 6,  /* 3 bits: 1, or 2 for speeds in 4 knots */

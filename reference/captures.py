@@ -98,11 +98,11 @@ def offer(made, string, time):
 
 
 def line(key, track):
-    """Kind, address in six hex digits, last heard, latitude, longitude, pressure altitude."""
+    """Kind, address in six hex digits, last heard, latitude, longitude, pressure altitude and, since R-4, its step."""
     position = track.position
     place = f"{position.latitude} {position.longitude}" if position.known else f"{UNKNOWN} {UNKNOWN}"
-    feet = readings.altitude(track.pressure)
-    altitude = UNKNOWN if feet == readings.UNKNOWN else feet
+    known = readings.altitude(track.pressure) != readings.UNKNOWN
+    altitude = f"{readings.altitude(track.pressure)} {readings.step(track.pressure)}" if known else f"{UNKNOWN} {UNKNOWN}"
     return f"{KINDS[key >> 24]} {key % 2**24:06X} {track.heard} {place} {altitude}"
 
 

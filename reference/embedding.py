@@ -79,8 +79,8 @@ def track_row(track):
     for name, saved in zip(("EVEN", "ODD"), track.saved):
         entries |= {f"TRACK_{name}_KNOWN": saved.known, f"TRACK_{name}_TIME": saved.time}
         entries |= {f"TRACK_{name}_LATITUDE_COUNT": saved.latitude, f"TRACK_{name}_LONGITUDE_COUNT": saved.longitude}
-    entries |= reading("TRACK_ALTITUDE", readings.altitude(track.pressure))
-    entries |= reading("TRACK_GNSS_HEIGHT", readings.altitude(track.height))
+    for name, code in (("TRACK_ALTITUDE", track.pressure), ("TRACK_GNSS_HEIGHT", track.height)):
+        entries |= reading(name, readings.altitude(code)) | reading(f"{name}_STEP", readings.step(code))
     return entries
 
 
@@ -132,7 +132,7 @@ def movement_reading(name, value):
 READINGS = {
     "IDENTIFICATION": ["IDENTIFICATION_SET", "IDENTIFICATION_TEXT"],
     "SURFACE": ["SURFACE_SPEED", "SURFACE_TURN"],
-    "AIRBORNE": ["AIRBORNE_ALTITUDE", "AIRBORNE_GNSS"],
+    "AIRBORNE": ["AIRBORNE_ALTITUDE", "AIRBORNE_GNSS", "AIRBORNE_STEP"],
     "GROUND": ["GROUND_EAST", "GROUND_NORTH", "VERTICAL_RATE", "VERTICAL_DIFFERENCE"],
     "AIR": ["AIR_TURN", "AIR_SPEED", "VERTICAL_RATE", "VERTICAL_DIFFERENCE"],
 }

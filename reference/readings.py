@@ -54,6 +54,14 @@ def altitude(code):
     return 500 * f + 100 * h - 1300
 
 
+def step(code):
+    """R-4 of document 02: how coarse an altitude is, in feet: 25 with Q 1, 100 with Q 0. Unknown has no step, which is unknown too."""
+    if altitude(code) == UNKNOWN:
+        return UNKNOWN
+    q = bits(code, 12)[7]
+    return 25 if q == 1 else 100
+
+
 def category_set(type_code):
     """TYPE 4, 3, 2, 1 is category set A, B, C, D; any other TYPE has none."""
     fits(type_code, 5)
@@ -166,7 +174,8 @@ def body(fields, message, traffic=False):
     if fields is messages.SURFACE:
         return {"movement": movement(message["movement"]), "heading": surface_heading(message["heading"])}
     if fields is messages.AIRBORNE:
-        return {"altitude": altitude(message["altitude"]), "GNSS": message["TYPE"] in (20, 21, 22)}
+        code = message["altitude"]
+        return {"altitude": altitude(code), "GNSS": message["TYPE"] in (20, 21, 22), "step": step(code)}
     subtype = message["subtype"]
     if fields is messages.OVER_GROUND:
         east = speed(subtype, message["east-west direction"], message["east-west speed"])

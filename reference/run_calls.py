@@ -31,6 +31,7 @@ CALLS = 800  # of each function
 RECEIVED = 20  # times as many of receive, so that tracks grow; and twice as many of decode, for the sorts of message
 LISTED = ["header", "next", "line"]  # what a listing calls
 DOUBLED = 150  # of each of these, on tables that hold keys twice
+OLD_LENGTHS = {"header": 97, "line": 97, "look_up": 23}  # of the results before they had a step, which are refused with 1
 LAST = 2**64 - 1
 FIRST_READING = 20  # from this entry on fields are readings
 KEYS = [kind << 24 | aa for kind in KIND_NUMBERS for aa in (0, 1, 0xABCDEF, 2**24 - 1)]  # those of run_captures.message
@@ -256,16 +257,22 @@ def named(chance):
     yield from ((name, random_tracks(chance, 9, 40)) for name in LISTED * DOUBLED)
 
 
+def answered(chance, name, table, length):
+    """A call with a result array of this length, and what the model makes of it. What it leaves stays in the table."""
+    given, numbers = given_for(name, chance, table), numbers_for(name, chance, table)
+    call = call_text(name, table=table, given=given, length=length, numbers=numbers)
+    outcome = outcome_text(call)
+    if FUNCTIONS[name].table == WRITES:
+        table[:] = array_of(outcome.split()[-1], BYTES)
+    return call, outcome
+
+
 def calls(chance):
     """The calls, each with what the model makes of it."""
     for name, table in named(chance):
-        length = about(chance, FUNCTIONS[name].length)
-        given, numbers = given_for(name, chance, table), numbers_for(name, chance, table)
-        call = call_text(name, table=table, given=given, length=length, numbers=numbers)
-        outcome = outcome_text(call)
-        if FUNCTIONS[name].table == WRITES:
-            table[:] = array_of(outcome.split()[-1], BYTES)
-        yield call, outcome
+        yield answered(chance, name, table, about(chance, FUNCTIONS[name].length))
+    for name, length in OLD_LENGTHS.items():
+        yield answered(chance, name, random_tracks(chance), length)
 
 
 def difference(asked, given):
@@ -293,6 +300,7 @@ STEPPED = {"UNKNOWN", "KNOWN", "OVER"}
 KINDS = {
     ("SURFACE", "SURFACE_SPEED_IS"): {"UNKNOWN", "KNOWN", "OVER", "NONE", "STOPPED"},
     ("AIRBORNE", "AIRBORNE_ALTITUDE_IS"): {"UNKNOWN", "KNOWN"},
+    ("AIRBORNE", "AIRBORNE_STEP_IS"): {"UNKNOWN", "KNOWN"},
     ("GROUND", "GROUND_EAST_IS"): STEPPED,
     ("GROUND", "GROUND_NORTH_IS"): STEPPED,
     ("AIR", "AIR_SPEED_IS"): STEPPED,
@@ -388,6 +396,25 @@ def traffic_missing(asked):
     return due - seen
 
 
+def steps_missing(asked):
+    """The steps that were never seen, of a message or a track with a pressure altitude or a GNSS height; old lengths never refused."""
+    seen = set()
+    for call, outcome in asked:
+        name, (_, number, *arrays) = call.split()[0], outcome.split()
+        if name in OLD_LENGTHS and number == "1":
+            seen.add((name, len(arrays[0]) // 2 // (WORDS if name == "look_up" else BYTES)))
+        elif name == "look_up" and number == "0":
+            entries = array_of(arrays[0], WORDS)
+            held = entries[AT["TRACK_HELD"]]
+            seen |= {(name, sort, entries[AT[f"TRACK_{sort}_STEP"]]) for sort in ("ALTITUDE", "GNSS_HEIGHT") if held}
+        elif name == "decode" and number == "0":
+            entries = array_of(arrays[0], WORDS)
+            if entries[AT["LAYOUT"]] == AT["AIRBORNE"]:
+                seen.add((name, ("ALTITUDE", "GNSS_HEIGHT")[entries[AT["AIRBORNE_GNSS"]]], entries[AT["AIRBORNE_STEP"]]))
+    due = {(name, sort, step) for name in ("look_up", "decode") for sort in ("ALTITUDE", "GNSS_HEIGHT") for step in (0, 25, 100)}
+    return (due | set(OLD_LENGTHS.items())) - seen
+
+
 def full_missing(asked):
     """Whether a table of 1,024 places was never full for a stranger."""
     length = 2 * tables.length_of(1024)
@@ -415,7 +442,7 @@ def main():
         print(f"status {done.returncode} {done.stderr.decode()}\n{found}")
         return 1
     untried = [header_faults(), numbers_missing(asked), kinds_missing(asked), lost_missing(asked), traffic_missing(asked)]
-    untried += [full_missing(asked), doubled_missing(asked)]
+    untried += [steps_missing(asked), full_missing(asked), doubled_missing(asked)]
     if any(untried):
         print(f"the header has other numbers than the paper, or these were never tried: {untried}")
         return 1

@@ -128,7 +128,7 @@ def coding_rows():
 
 
 def altitudes():
-    """The examples, Gillham rows, and what is known of all 2,048 codes with Q 0."""
+    """The examples, Gillham rows, and what is known of all 2,048 codes with Q 0; the step of each code."""
     for code, due in published.ALTITUDE_EXAMPLES:
         equal(f"altitude {code}", readings.altitude(code), due)
     for front, back, code, feet in published.GILLHAM_ROWS:
@@ -147,6 +147,11 @@ def altitudes():
     equal("25-foot altitudes", q_1, list(range(-1000, 50176, 25)))
     equal("altitude 3128", readings.altitude(3128), 38000)
     equal("altitude 255", readings.altitude(255), 2175)
+    equal("steps of the examples", [readings.step(code) for code, _ in published.ALTITUDE_EXAMPLES], [100, 100, 25, 25, "unknown"])
+    for code in range(4096):
+        due = "unknown" if readings.altitude(code) == "unknown" else 25 if code & 16 else 100
+        equal(f"step {code}", readings.step(code), due)
+    equal("a step divides its altitude", {readings.altitude(code) % readings.step(code) for code in range(4096) if readings.step(code) != "unknown"}, {0})
 
 
 def wide_codes():
@@ -177,7 +182,8 @@ def whole_bodies():
     equal("TYPEs with GNSS height", heights, published.GNSS_HEIGHTS)
     for code in range(4096):
         meant = readings.body(messages.AIRBORNE, blank | {"altitude": code})
-        equal(f"TYPE 0, altitude {code}", meant, {"altitude": readings.altitude(code), "GNSS": False})
+        due = {"altitude": readings.altitude(code), "GNSS": False, "step": readings.step(code)}
+        equal(f"TYPE 0, altitude {code}", meant, due)
 
 
 # Messages
@@ -614,7 +620,8 @@ def lost_positions():
             equal("last heard and the altitude, nothing else", after, FULL._replace(heard=9, pressure=code or 888))
     first, second = from_air(EVEN), from_air(ODD)
     lost, none = traffic.no_position(TRANSPONDER, ONE, 2688), traffic.no_position(TRANSPONDER, ONE, 0)
-    for string, listed in ((lost, "-"), (none, "10000"), (traffic.no_position(TRANSPONDER, ONE, 16), "-1000")):
+    fine, coarse = (traffic.no_position(TRANSPONDER, ONE, code) for code in (16, 128))
+    for string, listed in ((lost, "- -"), (none, "10000 25"), (fine, "-1000 25"), (coarse, "-1200 100")):
         made = heard(new_table(1), (first, 1_000), (string, 1_200), (second, 1_400), (string, 1_500))
         line = f"I ABCDEF 1500 536870912 1073741824 {listed}"
         equal("paired across it, and listed", captures.line(KEY, lent_table.look_up(made, KEY)), line)
@@ -802,7 +809,7 @@ def swept_tables():
 # Captures and the listing
 
 
-LISTED = "clock 1400 tracks 1 bad-blocks 0\nI ABCDEF 1400 536870912 1073741824 10000\n"
+LISTED = "clock 1400 tracks 1 bad-blocks 0\nI ABCDEF 1400 536870912 1073741824 10000 25\n"
 
 
 def listings():
@@ -815,8 +822,8 @@ def listings():
         equal("a part block", part, LISTED.replace("blocks 0", "blocks 1"))
     rows = [(5, from_air(EVEN, aa=7, head=OTHER)), (6, from_air(EVEN)), (7, from_air(EVEN, aa=7))]
     rows += [(8, traffic.airborne(TRANSPONDER, 0xA, EVEN, HERE, 20)), (7, from_air(ODD)), (9, bytes(14))]
-    due = ["clock 9 tracks 4 bad-blocks 0", "I 000007 7 - - 10000", "I 00000A 8 - - -"]
-    due += ["I ABCDEF 6 - - 10000", "O 000007 5 - - 10000"]
+    due = ["clock 9 tracks 4 bad-blocks 0", "I 000007 7 - - 10000 25", "I 00000A 8 - - - -"]
+    due += ["I ABCDEF 6 - - 10000 25", "O 000007 5 - - 10000 25"]
     equal("order and unknown", captures.listing(captures.capture(rows), True).splitlines(), due)
     equal("none has a position", captures.listing(captures.capture(rows), False), "clock 9 tracks 0 bad-blocks 0\n")
     last = 2**64 - 1, message_vectors.flipped(from_air(EVEN), 60)
@@ -825,7 +832,7 @@ def listings():
     south = -(2**29), 2**32 - 2**29
     low = [(time, traffic.airborne(TRANSPONDER, 1, i, south, 11, 16)) for time, i in ((1, ODD), (2, EVEN))]
     lines = captures.listing(captures.capture(low), False).splitlines()
-    equal("below zero", lines[1], "I 000001 2 -536870912 3758096384 -1000")
+    equal("below zero", lines[1], "I 000001 2 -536870912 3758096384 -1000 25")
     for feet in range(-1000, 50176, 25):
         equal("the code of an altitude", readings.altitude(traffic.altitude_code(feet)), feet)
 
@@ -837,7 +844,7 @@ def positioned():
     for age in (120_000, 120_001, 10**6):
         times = [*range(1_400, 1_400 + age, 60_000), 1_400 + age]
         calls = [(time, traffic.identification(TRANSPONDER, 0xABCDEF, "ADDER1")) for time in times]
-        due = f"clock {times[-1]} tracks 1 bad-blocks 0\nI ABCDEF {times[-1]} 536870912 1073741824 10000\n"
+        due = f"clock {times[-1]} tracks 1 bad-blocks 0\nI ABCDEF {times[-1]} 536870912 1073741824 10000 25\n"
         equal(f"a position {age} old", captures.listing(captures.capture([*pair, *calls]), False), due)
     for silent, due in ((124_999, 1), (125_000, 0)):
         clock = 1_400 + silent
@@ -845,7 +852,7 @@ def positioned():
         equal(f"silent for {silent}", (lines[0], len(lines)), (f"clock {clock} tracks {due} bad-blocks 0", 1 + due))
     both = [captures.listing(captures.capture([*pair, stranger]), every).splitlines() for every in (False, True)]
     equal("the lines shown are counted", [len(lines) - int(lines[0].split()[3]) for lines in both], [1, 1])
-    equal("all asked for", both[1][1:], ["I 000007 1400 - - -", *both[0][1:]])
+    equal("all asked for", both[1][1:], ["I 000007 1400 - - - -", *both[0][1:]])
 
 
 def random_captures():

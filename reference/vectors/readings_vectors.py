@@ -15,9 +15,16 @@ import readings
 from refusals import answer
 from vectors.message_vectors import altitude_codes
 
+
+def altitude(code):
+    """An altitude with its step."""
+    feet = readings.altitude(code)
+    return feet if feet == readings.UNKNOWN else f"{feet} step {readings.step(code)}"
+
+
 # question: its name, the code's bits, the bits that a record can carry, the reading of (a, b, code)
 QUESTIONS = [
-    ("altitude", 12, 16, lambda a, b, code: readings.altitude(code)),
+    ("altitude", 12, 16, lambda a, b, code: altitude(code)),
     ("category set", 5, 8, lambda a, b, code: readings.category_set(code)),
     ("speed", 10, 16, readings.speed),
     ("rate", 9, 16, lambda a, b, code: readings.rate(b, code)),
@@ -164,8 +171,8 @@ def body_reading(number, message, traffic):
     meant = readings.body(fields, message, traffic)
     if "text" in meant:
         meant["text"] = int.from_bytes(meant["text"].encode("ascii"), "big")
-    if "GNSS" in meant:
-        meant["GNSS"] = "GNSS" if meant["GNSS"] else "pressure"
+    if fields is messages.AIRBORNE:
+        meant = {"altitude": altitude(message["altitude"]), "GNSS": "GNSS" if meant["GNSS"] else "pressure"}
     return f"{name} {', '.join(str(value) for value in meant.values())}"
 
 

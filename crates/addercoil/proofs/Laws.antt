@@ -29,7 +29,7 @@ use Rattle.messages.proofs.BothWays as messages
 use Rattle.encoder.proofs.BothWays as encoder
 use Rattle.track.specs.declared.Track.{Track}
 use Rattle.text.specs.declared.Row.{Row}
-use Rattle.text.specs.Lines.{rowText}
+use Rattle.text.specs.Lines.{rowText, lineRoom}
 use Rattle.text.proofs.Fits.{header-most, row-most}
 use Rattle.table_bytes.specs.Layout.{clockOf}
 use Rattle.report.specs.Listing.{rowFor, rowsIn, lineText, lineFor, headerFor}
@@ -40,6 +40,7 @@ use Rattle.rows.specs.Same.{Same}
 use Rattle.rows.proofs.BothWays.{from-row}
 use Rattle.rows.proofs.ReadBack.{from-same}
 use Rattle.addercoil.specs.Sent.{Sent, sent, into}
+use Rattle.addercoil.specs.Lines.{lineBuffer}
 use Rattle.addercoil.specs.Messages.{messageSaid, encodedNumber, encodedAs, encodedFrom}
 use Rattle.addercoil.proofs.Encoding.{encode-right}
 
@@ -119,16 +120,16 @@ module _ (fields out other : List ℕ) (h : length other ≡ 28) where
 
 -- ---- the last byte of a line's buffer is 0
 
-ends : (text : List ℕ) → length text ≤ 96 → getD (filled 97 text) 96 0 ≡ 0
-ends text h = filled-at 97 text 96 (omega arith) ∙ List·getD-eq-default text 0 h
+ends : (text : List ℕ) → length text ≤ lineRoom → getD (filled lineBuffer text) lineRoom 0 ≡ 0
+ends text h = filled-at lineBuffer text lineRoom (omega arith) ∙ List·getD-eq-default text 0 h
 
-pub header-ends : (all : Bool) (s : List ℕ) (bad : ℕ) → getD (filled 97 (headerFor all s bad)) 96 0 ≡ 0
+pub header-ends : (all : Bool) (s : List ℕ) (bad : ℕ) → getD (filled lineBuffer (headerFor all s bad)) lineRoom 0 ≡ 0
 unfolding headerFor
 header-ends all s bad = ends (headerFor all s bad) (omega (arith, header-most (clockOf s) (length (rowsIn all s)) bad))
 
-row-ends : (v : Option Row) → getD (filled 97 (lineText v)) 96 0 ≡ 0
+row-ends : (v : Option Row) → getD (filled lineBuffer (lineText v)) lineRoom 0 ≡ 0
 row-ends none = ends [] (omega arith)
-row-ends (some r) = ends (rowText r) (row-most r)
+row-ends (some r) = ends (rowText r) (omega (arith, row-most r))
 
-pub line-ends : (all : Bool) (key : ℕ) (v : Option Track) → getD (filled 97 (lineFor all key v)) 96 0 ≡ 0
+pub line-ends : (all : Bool) (key : ℕ) (v : Option Track) → getD (filled lineBuffer (lineFor all key v)) lineRoom 0 ≡ 0
 line-ends all key v = row-ends (rowFor all key v)

@@ -1,4 +1,4 @@
--- A report's line of 96 bytes in a longer buffer is its text, then zeros: zeros behind the values change nothing. A choice that is neither 0 nor 1. A block, with what it leaves.
+-- A report's line in a longer buffer is its text, then zeros: zeros behind the values change nothing. A choice that is neither 0 nor 1. A block, with what it leaves.
 -- Assumes nothing.
 use Prim.Native.Nat.{ℕ, _-_}
 use mathlib.Core.Path.{_≡_, refl, ap, _∙_}
@@ -12,7 +12,7 @@ use Rattle.refusals.specs.declared.Refusal.the-variants.{Places}
 use Rattle.refusals.specs.Said.{number, gives}
 use Rattle.entries.proofs.Filling.{filled-zeros}
 use Rattle.text.specs.declared.Row.{Row}
-use Rattle.text.specs.Lines.{rowText, lineOf}
+use Rattle.text.specs.Lines.{rowText, lineRoom, lineOf}
 use Rattle.memory.specs.Offsets.{wholePlaces}
 use Rattle.table.specs.Table.{After, after}
 use Rattle.table.specs.View.{view}
@@ -26,11 +26,11 @@ use Rattle.addercoil.specs.Lines.{chosen, noChoice, linesSaid, headerSai
 module _ (out : List ℕ) where
   with-text : (text : List ℕ) → given out (reportSaid (with text)) ≡ given out (gives text)
   unfolding lineOf
-  with-text text = ap (sent 0) (filled-zeros (length out) text (96 - length text))
+  with-text text = ap (sent 0) (filled-zeros (length out) text (lineRoom - length text))
 
   row-said : (v : Option Row) → given out (reportSaid (reported v)) ≡ given out (gives (lineText v))
   unfolding lineOf
-  row-said none = ap (sent 0) (filled-zeros (length out) [] 96)
+  row-said none = ap (sent 0) (filled-zeros (length out) [] lineRoom)
   row-said (some r) = with-text (rowText r)
 
   module _ (all : ℕ) (s : List ℕ) where

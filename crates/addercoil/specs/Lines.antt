@@ -1,5 +1,5 @@
 -- The listing's lines and a capture's blocks for another language.
-use Prim.Native.Nat.{ℕ}
+use Prim.Native.Nat.{ℕ, _+_}
 use mathlib.Core.Bool.{Bool, cond, not}
 use mathlib.Core.List.{List, [], _∷_}
 use lib.Dec.{eqb, ltb}
@@ -9,6 +9,7 @@ use Rattle.refusals.specs.Said.{Said, number, gives}
 use Rattle.memory.specs.Offsets.{wholePlaces}
 use Rattle.table.specs.Table.{After}
 use Rattle.table.specs.View.{view}
+use Rattle.text.specs.Lines.{lineRoom}
 use Rattle.report.specs.declared.Printed.{Printed}
 use Rattle.report.specs.declared.Printed.the-variants.{Text, Nothing, Refused}
 use Rattle.report.specs.declared.Report.{Report}
@@ -18,6 +19,10 @@ use Rattle.feed.specs.declared.Fed.the-variants as feed
 use Rattle.addercoil.specs.Sent.{Sent, given}
 
 -- ---- lines: a buffer holds the text, then zeros
+
+-- one byte more than a line has room for, so that it always ends in a zero
+abbrev pub lineBuffer : ℕ
+lineBuffer = lineRoom + 1
 
 -- all tracks are asked for by 1, those with a position by 0
 abbrev pub chosen : ℕ → Bool
@@ -39,7 +44,7 @@ headerSaid all s bad = linesSaid all s (headerFor (chosen all) s bad)
 unfoldable pub lineSaid : ℕ → List ℕ → ℕ → Said (List ℕ)
 lineSaid all s key = linesSaid all s (lineFor (chosen all) key (view s key))
 
--- what a report says, by its line of 96 bytes
+-- what a report says, by the bytes of its line
 abbrev pub printedSaid : Printed → List ℕ → Said (List ℕ)
 printedSaid Text bytes = gives bytes
 printedSaid Nothing bytes = gives bytes

@@ -11,7 +11,10 @@ ghost use lib.ListN.{length};
 ghost use Rattle.refusals.specs.Said.{gives};
 ghost use Rattle.feed.specs.Feed.{fedBlock};
 ghost use Rattle.addercoil.specs.Sent.{sent, given, into};
-ghost use Rattle.addercoil.specs.Lines.{noChoice, headerSaid, lineSaid, reportSaid, both, fedSaid, fedInto};
+ghost use Rattle.addercoil.specs.Lines.{lineBuffer, noChoice, headerSaid, lineSaid, reportSaid, both, fedSaid, fedInto};
+
+// A line's buffer: one byte more than a line has room for, so that it always ends in a zero.
+const BUFFER: usize = text::LINE + 1;
 
 fn give_line(out: &mut [u8], line: Line) -> u32
     ensures { λ r. ⌜ sent r (now (out .exit)) ≡ given (now (out .entry)) (gives (line .bytes)) ⌝ }
@@ -44,12 +47,12 @@ fn no_choice(table: &[u8]) -> u32
     }
 }
 
-// The listing's first line, of the table as it stands and a number of bad blocks, into 97 bytes: all 0 counts the tracks with a position, 1 all. Or 1, then 7, 8.
+// The listing's first line, of the table as it stands and a number of bad blocks, into 129 bytes: all 0 counts the tracks with a position, 1 all. Or 1, then 7, 8.
 #[no_mangle]
 pub extern "C" fn addercoil_header(table: &[u8], bad: u64, all: u32, out: &mut [u8]) -> u32
-    ensures { λ r. ⌜ sent r (now (out .exit)) ≡ into 97 (now (out .entry)) (headerSaid all (now (table .entry)) bad) ⌝ }
+    ensures { λ r. ⌜ sent r (now (out .exit)) ≡ into lineBuffer (now (out .entry)) (headerSaid all (now (table .entry)) bad) ⌝ }
 {
-    if out.len() != 97 {
+    if out.len() != BUFFER {
         return 1;
     }
     if 1 < all {
@@ -58,12 +61,12 @@ pub extern "C" fn addercoil_header(table: &[u8], bad: u64, all: u32, out: &mut [
     give_report(out, report::header_of(table, bad, all == 1))
 }
 
-// The line of a key, none if it is not held or not shown, into 97 bytes: all 0 shows the tracks with a position, 1 all. Or 1, then 7, 8.
+// The line of a key, none if it is not held or not shown, into 129 bytes: all 0 shows the tracks with a position, 1 all. Or 1, then 7, 8.
 #[no_mangle]
 pub extern "C" fn addercoil_line(table: &[u8], key: u32, all: u32, out: &mut [u8]) -> u32
-    ensures { λ r. ⌜ sent r (now (out .exit)) ≡ into 97 (now (out .entry)) (lineSaid all (now (table .entry)) key) ⌝ }
+    ensures { λ r. ⌜ sent r (now (out .exit)) ≡ into lineBuffer (now (out .entry)) (lineSaid all (now (table .entry)) key) ⌝ }
 {
-    if out.len() != 97 {
+    if out.len() != BUFFER {
         return 1;
     }
     if 1 < all {

@@ -23,12 +23,12 @@ fn give_held(out: &mut [u64], t: Track, answer: Holding) -> u32
     }
 }
 
-// The track of a key, zeros if it is not held, into 23 entries. Or 1, then 7.
+// The track of a key, zeros if it is not held, into 27 entries. Or 1, then 7.
 #[no_mangle]
 pub extern "C" fn addercoil_look_up(table: &[u8], key: u32, out: &mut [u64]) -> u32
-    ensures { λ r. ⌜ sent r (now (out .exit)) ≡ into 23 (now (out .entry)) (lookedSaid (lookedUp (now (table .entry)) key)) ⌝ }
+    ensures { λ r. ⌜ sent r (now (out .exit)) ≡ into 27 (now (out .entry)) (lookedSaid (lookedUp (now (table .entry)) key)) ⌝ }
 {
-    if out.len() != 23 {
+    if out.len() != 27 {
         return 1;
     }
     let looked = table::look_up(table, key);

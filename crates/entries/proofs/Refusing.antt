@@ -1,10 +1,11 @@
--- What was refused has a number of its own, 5: a reading that gives something, a reserved movement too, has one below. By the cases.
+-- What was refused has a number of its own, 5: a reading that gives something, a reserved movement too, has one below. A step is known, unknown or refused as its altitude is. By the cases.
 -- Assumes nothing.
 use Prim.Native.Nat.{_<_}
+use mathlib.Core.Path.{_≡_, refl}
 use native.Mathlib.Omega.{arith}
 use Rattle.characters.specs.Said.{categorySetSaid, textSaid}
 use Rattle.readings.specs.Said.{Given, altitudeSaid, speedSaid, rateSaid, differenceSaid, headingSaid, movementSaid}
-use Rattle.entries.specs.Means.{altitudeReading, speedReading, rateReading, differenceReading, headingReading, movementReading, setReading, textReading}
+use Rattle.entries.specs.Means.{altitudeReading, stepReading, speedReading, rateReading, differenceReading, headingReading, movementReading, setReading, textReading}
 use Rattle.readings.specs.declared.altitude.Altitude.{Altitude}
 use Rattle.readings.specs.declared.altitude.Altitude.the-variants as altitude
 use Rattle.readings.specs.declared.amounts.Speed.{Speed}
@@ -24,8 +25,14 @@ use Rattle.characters.specs.declared.Text.the-variants as text
 
 pub altitude-given : (x : Altitude) → Given (altitudeSaid x) → altitudeReading x .what < 5
 altitude-given altitude.Unknown g = omega arith
-altitude-given (altitude.Feet z) g = omega arith
+altitude-given (altitude.Feet z step) g = omega arith
 altitude-given (altitude.Refused r) g = absurd g
+
+-- an altitude and its step are known together, and where they are not there is no step
+pub unknown-no-step : (x : Altitude) → (stepReading x .what ≡ altitudeReading x .what) × ((altitudeReading x .what ≡ 1 → ⊥) → stepReading x .value ≡ 0)
+unknown-no-step altitude.Unknown = (refl, λ e. refl)
+unknown-no-step (altitude.Feet z step) = (refl, λ e. absurd (e refl))
+unknown-no-step (altitude.Refused r) = (refl, λ e. refl)
 
 pub speed-given : (x : Speed) → Given (speedSaid x) → speedReading x .what < 5
 speed-given speed.Unknown g = omega arith

@@ -8,6 +8,8 @@ use Rattle.entries.proofs.bit.Kinds as bit-kinds
 use Rattle.entries.proofs.bit.Reads as bit
 use Rattle.entries.proofs.altitude_reading.Kinds as altitude-reading-kinds
 use Rattle.entries.proofs.altitude_reading.Reads as altitude-reading
+use Rattle.entries.proofs.step_reading.Kinds as step-reading-kinds
+use Rattle.entries.proofs.step_reading.Reads as step-reading
 use Rattle.entries.proofs.speed_reading.Kinds as speed-reading-kinds
 use Rattle.entries.proofs.speed_reading.Reads as speed-reading
 use Rattle.entries.proofs.rate_reading.Kinds as rate-reading-kinds
@@ -41,6 +43,9 @@ bit-once κs args x y left left′ p q = p ∙ sym q
 
 pub altitude-reading-once : OneAnswer 0 altitude-reading-kinds.ps altitude-reading-kinds.r altitude-reading.Post
 altitude-reading-once κs args x y left left′ p q = p ∙ sym q
+
+pub step-reading-once : OneAnswer 0 step-reading-kinds.ps step-reading-kinds.r step-reading.Post
+step-reading-once κs args x y left left′ p q = p ∙ sym q
 
 pub speed-reading-once : OneAnswer 0 speed-reading-kinds.ps speed-reading-kinds.r speed-reading.Post
 speed-reading-once κs args x y left left′ p q = p ∙ sym q

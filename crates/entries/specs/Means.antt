@@ -29,8 +29,14 @@ bit b = cond b 1 0
 -- feet
 abbrev pub altitudeReading : Altitude → Reading
 altitudeReading altitude.Unknown = reading 0 0
-altitudeReading (altitude.Feet z) = reading 1 (twos z)
+altitudeReading (altitude.Feet z step) = reading 1 (twos z)
 altitudeReading (altitude.Refused r) = reading 5 0
+
+-- its step, in feet
+abbrev pub stepReading : Altitude → Reading
+stepReading altitude.Unknown = reading 0 0
+stepReading (altitude.Feet z step) = reading 1 step
+stepReading (altitude.Refused r) = reading 5 0
 
 -- knots; west and south are below zero
 abbrev pub speedReading : Speed → Reading

@@ -14,7 +14,7 @@ use readings::Movement;
 use readings::Rate;
 use readings::Speed;
 ghost use mathlib.Core.Path.{_≡_};
-ghost use Rattle.entries.specs.Means.{reading, altitudeReading, speedReading, rateReading, differenceReading, headingReading, movementReading, setReading, textReading};
+ghost use Rattle.entries.specs.Means.{reading, altitudeReading, stepReading, speedReading, rateReading, differenceReading, headingReading, movementReading, setReading, textReading};
 ghost use Rattle.entries.specs.Means.{bit as bitOf};
 
 pub struct Reading {
@@ -52,7 +52,18 @@ pub fn altitude_reading(a: Altitude) -> Reading
 {
     match a {
         Altitude::Unknown => only(0),
-        Altitude::Feet(z) => known(crate::arrays::twos_of(z)),
+        Altitude::Feet { feet, step: _ } => known(crate::arrays::twos_of(feet)),
+        Altitude::Refused(_) => only(5),
+    }
+}
+
+// How coarse an altitude is.
+pub fn step_reading(a: Altitude) -> Reading
+    ensures { λ r. ⌜ r ≡ stepReading a ⌝ }
+{
+    match a {
+        Altitude::Unknown => only(0),
+        Altitude::Feet { feet: _, step } => known(step as u64),
         Altitude::Refused(_) => only(5),
     }
 }

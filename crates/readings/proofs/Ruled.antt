@@ -76,8 +76,8 @@ pub published-surface : readingsOf (body.Surface (surfaceOf 0x3AAB238733C8CD)) f
 unfolding readingsOf movementOf lowerEdge
 published-surface = refl
 
--- 8D40621D58C382D690C8AC2863A7: 38,000 feet of pressure altitude; TYPE 18 has that too, and TYPE 20 a GNSS height
-pub published-airborne : (readingsOf (body.Airborne (airborneOf 0x58C382D690C8AC)) false ≡ readings.Airborne (record { altitude = altitude.Feet (pos 38000); gnss = false }))
+-- 8D40621D58C382D690C8AC2863A7: 38,000 feet of pressure altitude, in steps of 25; TYPE 18 has that too, and TYPE 20 a GNSS height
+pub published-airborne : (readingsOf (body.Airborne (airborneOf 0x58C382D690C8AC)) false ≡ readings.Airborne (record { altitude = altitude.Feet (pos 38000) 25; gnss = false }))
     × (readingsOf (body.Airborne (airborneOf (18 * 2 ^ 51))) false ≡ readings.Airborne (record { altitude = altitude.Unknown; gnss = false }))
     × (readingsOf (body.Airborne (airborneOf (20 * 2 ^ 51))) false ≡ readings.Airborne (record { altitude = altitude.Unknown; gnss = true }))
 unfolding readingsOf altitudeOf

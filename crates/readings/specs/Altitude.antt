@@ -1,4 +1,4 @@
--- Altitude, as document 01 has it under that name. The bits are C1 A1 C2 A2 C4 A4 B1 Q B2 D2 B4 D4.
+-- Altitude, as document 01 has it under that name, and its step, as R-4 of document 02 has it. The bits are C1 A1 C2 A2 C4 A4 B1 Q B2 D2 B4 D4.
 use Prim.Native.Nat.{ℕ, _+_, _-_, _*_, _%_, _^_}
 use mathlib.Core.List.{List, [], _∷_}
 use mathlib.Core.Bool.{cond, _||_}
@@ -41,18 +41,18 @@ straight h = cond (eqb h 7) 5 h
 unfoldable pub sixLess : ℕ → ℕ → ℕ
 sixLess f h = cond (eqb (f % 2) 1) (6 - h) h
 
--- H of 0, 5 or 6 is unknown; else the altitude is 500 F + 100 H - 1,300
-abbrev pub hundredsBy : {A : Type 0} → (unknown : A) (feet : ℤ → A) (f h : ℕ) → A
-hundredsBy unknown feet f h = cond (eqb h 0 || eqb h 5 || eqb h 6) unknown (feet (pos (500 * f + 100 * sixLess f (straight h)) -ℤ pos 1300))
+-- H of 0, 5 or 6 is unknown; else the altitude is 500 F + 100 H - 1,300, and its step 100
+abbrev pub hundredsBy : {A : Type 0} → (unknown : A) (feet : ℤ → (step : ℕ) → A) (f h : ℕ) → A
+hundredsBy unknown feet f h = cond (eqb h 0 || eqb h 5 || eqb h 6) unknown (feet (pos (500 * f + 100 * sixLess f (straight h)) -ℤ pos 1300) 100)
 
 unfoldable pub byHundreds : ℕ → ℕ → Altitude
 byHundreds f h = hundredsBy Unknown Feet f h
 
--- all zeros is unknown; with Q 1 the altitude is 25 N - 1,000 feet; with Q 0 it goes by hundreds
-abbrev pub altitudeBy : {A : Type 0} → (unknown : A) (feet : ℤ → A) (code : ℕ) → A
+-- all zeros is unknown; with Q 1 the altitude is 25 N - 1,000 feet, and its step 25; with Q 0 it goes by hundreds
+abbrev pub altitudeBy : {A : Type 0} → (unknown : A) (feet : ℤ → (step : ℕ) → A) (code : ℕ) → A
 altitudeBy unknown feet code =
     cond (eqb code 0) unknown
-    (cond (eqb (bit 8 code) 1) (feet (pos (25 * eleven code) -ℤ pos 1000))
+    (cond (eqb (bit 8 code) 1) (feet (pos (25 * eleven code) -ℤ pos 1000) 25)
     (hundredsBy unknown feet (fiveHundreds code) (hundreds code)))
 
 unfoldable pub altitudeOf : ℕ → Altitude

@@ -32,8 +32,10 @@ use Rattle.readings.specs.declared.bodies.Readings.the-variants as readi
 -- what a code can mean
 pub data Amount : Type 0 where
   unknown over stopped reserved : Amount
-  -- feet, knots, feet per minute, 2^-32 of a turn
+  -- knots, feet per minute, feet of a difference, 2^-32 of a turn
   figure : ℤ → Amount
+  -- feet of an altitude, and its step
+  inSteps : ℤ → (step : ℕ) → Amount
   -- 48ths of a knot: a lower edge, and one with no edge above it
   edge andUp : ℕ → Amount
 
@@ -41,7 +43,7 @@ pub data Amount : Type 0 where
 
 abbrev pub altitudeSaid : Altitude → Said Amount
 altitudeSaid altitude.Unknown = gives unknown
-altitudeSaid (altitude.Feet z) = gives (figure z)
+altitudeSaid (altitude.Feet z step) = gives (inSteps z step)
 altitudeSaid (altitude.Refused r) = number (numberOf r)
 
 abbrev pub speedSaid : Speed → Said Amount
@@ -96,7 +98,7 @@ readingsSaid (readings.Refused r) = number (numberOf r)
 -- ---- what is due of a code that fits its bits
 
 abbrev pub altitudeMeans : ℕ → Amount
-altitudeMeans code = altitudeBy unknown figure code
+altitudeMeans code = altitudeBy unknown inSteps code
 
 abbrev pub speedMeans : ℕ → ℕ → ℕ → Amount
 speedMeans subtype direction code = stepped unknown figure over (speeds subtype) direction code

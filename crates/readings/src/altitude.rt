@@ -1,4 +1,4 @@
-// The altitude that 12 bits say: pressure altitude, or GNSS height.
+// The altitude that 12 bits say, with its step: pressure altitude, or GNSS height.
 use crate::signed::less;
 use refusals::Refusal;
 ghost use mathlib.Core.Path.{_≡_};
@@ -8,7 +8,8 @@ ghost use Rattle.readings.specs.Altitude.{fiveHundreds, hundreds as Alti
 
 pub enum Altitude {
     Unknown,
-    Feet(i32),
+    // the step says how coarse it is: 25 or 100 feet
+    Feet { feet: i32, step: u8 },
     Refused(Refusal),
 }
 
@@ -64,7 +65,10 @@ fn by_hundreds(f: u32, h: u32) -> Altitude
         return Altitude::Unknown;
     }
     let n = 500 * f + 100 * turned(f, h);
-    Altitude::Feet(less(n, 1300))
+    Altitude::Feet {
+        feet: less(n, 1300),
+        step: 100,
+    }
 }
 
 // The altitude of a code of 12 bits.
@@ -79,7 +83,10 @@ pub fn altitude_of(code: u16) -> Altitude
         return Altitude::Unknown;
     }
     if c / 16 % 2 == 1 {
-        return Altitude::Feet(less(25 * (c / 32 % 128 * 16 + c / 1 % 16), 1000));
+        return Altitude::Feet {
+            feet: less(25 * (c / 32 % 128 * 16 + c / 1 % 16), 1000),
+            step: 25,
+        };
     }
     by_hundreds(five_hundreds(c), hundreds(c))
 }

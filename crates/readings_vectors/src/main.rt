@@ -51,7 +51,11 @@ fn say_refused(r: Refusal) {
 fn say_altitude(a: Altitude) {
     match a {
         Altitude::Unknown => write(b"unknown"),
-        Altitude::Feet(z) => say_signed(z),
+        Altitude::Feet { feet, step } => {
+            say_signed(feet);
+            write(b" step ");
+            say(step as u32);
+        }
         Altitude::Refused(r) => say_refused(r),
     }
 }

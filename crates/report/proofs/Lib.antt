@@ -1,3 +1,4 @@
+pub mod Altitudes
 pub mod Counted
 pub mod Held
 pub mod Keys

@@ -34,11 +34,17 @@ longitudeIn p = cond (p .known) (Known (pos (p .spot .longitude))) Unknown
 
 -- in feet; a code wider than 12 bits, which no body of a table has, is unknown
 unfoldable pub feet : Altitude → Figure
-feet (altitude.Feet z) = Known z
+feet (altitude.Feet z step) = Known z
 feet altitude.Unknown = Unknown
 feet (altitude.Refused r) = Unknown
 
--- last heard, latitude, longitude, pressure altitude
+-- how coarse it is, in feet; unknown has no step
+unfoldable pub stepIn : Altitude → Figure
+stepIn (altitude.Feet z step) = Known (pos step)
+stepIn altitude.Unknown = Unknown
+stepIn (altitude.Refused r) = Unknown
+
+-- last heard, latitude, longitude, pressure altitude and its step
 unfoldable pub rowOf : ℕ → Track → Row
 rowOf key t =
     record {
@@ -47,6 +53,7 @@ rowOf key t =
       latitude = latitudeIn (t .position);
       longitude = longitudeIn (t .position);
       altitude = feet (altitudeOf (t .groups .pressure));
+      step = stepIn (altitudeOf (t .groups .pressure));
     }
 
 -- ---- the whole listing, over all keys, whose order is by kind and then by address

@@ -36,7 +36,7 @@ fn no_line() -> Line
     ensures { λ r. ⌜ r ≡ lineOf [] ⌝ }
 {
     Line {
-        bytes: [0u8; 96],
+        bytes: [0u8; text::LINE],
         len: 0,
     }
 }

@@ -6,7 +6,7 @@ use track::Track;
 use whereabouts::Position;
 ghost use mathlib.Core.Path.{_≡_};
 ghost use Rattle.report.specs.Listing.{latitudeIn, longitudeIn, rowOf};
-ghost use Rattle.report.specs.Listing.{feet as feetOf};
+ghost use Rattle.report.specs.Listing.{feet as feetOf, stepIn};
 
 fn latitude_in(p: Position) -> Figure
     ensures { λ r. ⌜ r ≡ latitudeIn p ⌝ }
@@ -32,7 +32,17 @@ fn feet(a: Altitude) -> Figure
     ensures { λ r. ⌜ r ≡ feetOf a ⌝ }
 {
     match a {
-        Altitude::Feet(z) => Figure::Known(z as i64),
+        Altitude::Feet { feet, step: _ } => Figure::Known(feet as i64),
+        Altitude::Unknown => Figure::Unknown,
+        Altitude::Refused(_) => Figure::Unknown,
+    }
+}
+
+fn step_in(a: Altitude) -> Figure
+    ensures { λ r. ⌜ r ≡ stepIn a ⌝ }
+{
+    match a {
+        Altitude::Feet { feet: _, step } => Figure::Known(step as i64),
         Altitude::Unknown => Figure::Unknown,
         Altitude::Refused(_) => Figure::Unknown,
     }
@@ -43,11 +53,13 @@ pub(crate) fn row_of(key: u32, t: Track) -> Row
 {
     let p = t.position;
     let g = t.groups;
+    let altitude = readings::altitude_of(g.pressure);
     Row {
         key: key,
         heard: t.heard,
         latitude: latitude_in(p),
         longitude: longitude_in(p),
-        altitude: feet(readings::altitude_of(g.pressure)),
+        altitude: feet(altitude),
+        step: step_in(altitude),
     }
 }

@@ -16,9 +16,11 @@ use Rattle.layouts.specs.Bodies.{bodyFits}
 use Rattle.readings.specs.Bodies.{identificationMeans, surfaceMeans, airborneMeans, groundMeans, airMeans, bodyReadings}
 use Rattle.readings.specs.declared.bodies.Readings.{Readings}
 use Rattle.readings.specs.Altitude.{altitudeOf}
+use Rattle.readings.specs.declared.altitude.Altitude.{Altitude}
+use Rattle.entries.specs.Means.{altitudeReading, stepReading}
 use Rattle.readings.proofs.Promised.{altitude-known, fitting-given}
 use Rattle.readings.proofs.Whole.{read}
-use Rattle.entries.proofs.Refusing.{altitude-given, speed-given, rate-given, difference-given, heading-given, movement-given, set-given, text-given}
+use Rattle.entries.proofs.Refusing.{altitude-given, unknown-no-step, speed-given, rate-given, difference-given, heading-given, movement-given, set-given, text-given}
 use Rattle.messages.specs.declared.Message.{Message}
 use Rattle.messages.specs.declared.Decoded.the-variants as decode
 use Rattle.messages.specs.Message.{keyOf, decoded}
@@ -35,6 +37,10 @@ use Rattle.rows.proofs.message.message_values.Reads as message-values
 abbrev Given4 : Four → Type 0
 Given4 f = (f .first .what < 5) × (f .second .what < 5) × (f .third .what < 5) × (f .fourth .what < 5)
 
+-- a step is refused just when its altitude is
+step-given : (a : Altitude) → altitudeReading a .what < 5 → stepReading a .what < 5
+step-given a g = subst⁻¹ (λ (n : ℕ). n < 5) (unknown-no-step a .0) g
+
 given : (b : Body) (traffic : Bool) → bodyFits b ≡ true → Given4 (fourOf (bodyReadings b traffic))
 given (body.Identification b) traffic e =
     let g = fitting-given (body.Identification b) traffic e in
@@ -45,8 +51,9 @@ given (body.Surface b) traffic e =
     let r = surfaceMeans b in
     (movement-given (r .movement) (g .0), heading-given (r .heading) (g .1), omega arith, omega arith)
 given (body.Airborne b) traffic e =
-    let r = airborneMeans b in
-    (altitude-given (r .altitude) (fitting-given (body.Airborne b) traffic e), omega arith, omega arith, omega arith)
+    let a = airborneMeans b .altitude in
+    let g = altitude-given a (fitting-given (body.Airborne b) traffic e) in
+    (g, omega arith, step-given a g, omega arith)
 given (body.Ground b) traffic e =
     let g = fitting-given (body.Ground b) traffic e in
     let r = groundMeans b traffic in
@@ -76,9 +83,11 @@ pub message-values-never-refused : (κs : Lfts 0) (args : Dens κs message-value
     → (s : List ℕ) → Bytes s → decoded s ≡ decode.Message (args .0) → NoneRefused x
 message-values-never-refused κs args x left p s h d = subst⁻¹ NoneRefused p (never-refused s (args .0) h d)
 
-pub track-never-refused : (t : Track) → t .groups .pressure < 4096 → t .groups .height < 4096 → (getD (trackRow t) 19 0 < 5) × (getD (trackRow t) 21 0 < 5)
+pub track-never-refused : (t : Track) → t .groups .pressure < 4096 → t .groups .height < 4096 → (getD (trackRow t) 19 0 < 5) × (getD (trackRow t) 21 0 < 5) × (getD (trackRow t) 23 0 < 5) × (getD (trackRow t) 25 0 < 5)
 unfolding trackRow
 track-never-refused t p h =
-    let pressure = t .groups .pressure in
-    let height = t .groups .height in
-    (altitude-given (altitudeOf pressure) (altitude-known pressure p), altitude-given (altitudeOf height) (altitude-known height h))
+    let pressure = altitudeOf (t .groups .pressure) in
+    let height = altitudeOf (t .groups .height) in
+    let g = altitude-given pressure (altitude-known (t .groups .pressure) p) in
+    let k = altitude-given height (altitude-known (t .groups .height) h) in
+    (g, step-given pressure g, k, step-given height k)

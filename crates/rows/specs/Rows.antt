@@ -18,7 +18,7 @@ use Rattle.readings.specs.Bodies.{readingsOf}
 use Rattle.messages.specs.declared.Message.{Message}
 use Rattle.messages.specs.Message.{keyOf, traffic}
 use Rattle.rows.specs.declared.message.Four.{Four}
-use Rattle.entries.specs.Means.{reading, bit, altitudeReading, speedReading, rateReading, differenceReading, headingReading, movementReading, setReading, textReading}
+use Rattle.entries.specs.Means.{reading, bit, altitudeReading, stepReading, speedReading, rateReading, differenceReading, headingReading, movementReading, setReading, textReading}
 
 -- ---- the readings of each layout
 
@@ -42,13 +42,13 @@ surfaceFour m =
       fourth = reading 0 0;
     }
 
--- altitude, and whether that is a GNSS height
+-- altitude, whether that is a GNSS height, and the altitude's step
 abbrev pub airborneFour : AirborneReadings → Four
 airborneFour m =
     record {
       first = altitudeReading (m .altitude);
       second = reading 1 (bit (m .gnss));
-      third = reading 0 0;
+      third = stepReading (m .altitude);
       fourth = reading 0 0;
     }
 

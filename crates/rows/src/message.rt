@@ -9,6 +9,7 @@ use entries::only;
 use entries::rate_reading;
 use entries::set_reading;
 use entries::speed_reading;
+use entries::step_reading;
 use entries::text_reading;
 use layouts::Air;
 use layouts::Airborne;
@@ -73,7 +74,7 @@ fn airborne_four(m: AirborneReadings) -> Four
             what: 1,
             value: bit(m.gnss),
         },
-        third: only(0),
+        third: step_reading(altitude),
         fourth: only(0),
     }
 }

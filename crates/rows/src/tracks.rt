@@ -1,12 +1,13 @@
-// A track as 23 numbers.
+// A track as 27 numbers.
 use entries::altitude_reading;
 use entries::bit;
+use entries::step_reading;
 use track::Track;
 ghost use mathlib.Core.Path.{_≡_};
 ghost use Rattle.rows.specs.Tracks.{trackRow};
 
-// A track as 23 numbers.
-pub fn track_values(t: Track) -> [u64; 23]
+// A track as 27 numbers.
+pub fn track_values(t: Track) -> [u64; 27]
     ensures { λ r. ⌜ r ≡ trackRow t ⌝ }
 {
     let both = t.saved;
@@ -14,8 +15,12 @@ pub fn track_values(t: Track) -> [u64; 23]
     let odd = both[1];
     let g = t.groups;
     let p = t.position;
-    let pressure = altitude_reading(readings::altitude_of(g.pressure));
-    let height = altitude_reading(readings::altitude_of(g.height));
+    let pressure = readings::altitude_of(g.pressure);
+    let height = readings::altitude_of(g.height);
+    let altitude = altitude_reading(pressure);
+    let step = step_reading(pressure);
+    let gnss = altitude_reading(height);
+    let gnss_step = step_reading(height);
     [
         1,
         t.heard,
@@ -36,9 +41,13 @@ pub fn track_values(t: Track) -> [u64; 23]
         odd.counts.latitude.0 as u64,
         odd.counts.longitude.0 as u64,
         odd.time,
-        pressure.what,
-        pressure.value,
-        height.what,
-        height.value,
+        altitude.what,
+        altitude.value,
+        step.what,
+        step.value,
+        gnss.what,
+        gnss.value,
+        gnss_step.what,
+        gnss_step.value,
     ]
 }

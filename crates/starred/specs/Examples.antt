@@ -6,7 +6,7 @@ use Rattle.refusals.specs.Said.{Said}
 use Rattle.refusals.specs.Said as said
 use Rattle.readings.specs.Altitude.{altitudeOf}
 use Rattle.readings.specs.Amounts.{speedOf, rateOf}
-use Rattle.readings.specs.Said.{Amount, unknown, figure, altitudeSaid, speedSaid, rateSaid}
+use Rattle.readings.specs.Said.{Amount, unknown, figure, inSteps, altitudeSaid, speedSaid, rateSaid}
 use Rattle.positions.specs.declared.Counts.{Counts}
 use Rattle.positions.specs.declared.Spot.{Spot}
 use Rattle.positions.specs.declared.Turn.the-variants.{Airborne, Surface}
@@ -22,7 +22,7 @@ use Rattle.messages.specs.Said as table
 -- ---- what is asked, and how it is answered
 
 pub data Question : Type 0 where
-  -- the altitude of a code
+  -- the altitude of a code, with its step
   altitude? : ℕ → Question
   -- the spot of an even and an odd pair of counts, by the one of this format
   pair? : (even odd : Counts) → Format → Question
@@ -110,11 +110,11 @@ up = 0
 
 unfoldable pub examples : List Example
 examples =
-    -- Altitude 128 is -1,200; 2050 is -700; 16 is -1,000; 888 is 10,000; 2688 is unknown.
-    altitude? 128 is amount (figure (minus 1200))
-    ∷ altitude? 2050 is amount (figure (minus 700))
-    ∷ altitude? 16 is amount (figure (minus 1000))
-    ∷ altitude? 888 is amount (figure (pos 10000))
+    -- Altitude 128 is -1,200; 2050 is -700; 16 is -1,000; 888 is 10,000; 2688 is unknown. The steps are R-4's of document 02.
+    altitude? 128 is amount (inSteps (minus 1200) 100)
+    ∷ altitude? 2050 is amount (inSteps (minus 700) 100)
+    ∷ altitude? 16 is amount (inSteps (minus 1000) 25)
+    ∷ altitude? 888 is amount (inSteps (pos 10000) 25)
     ∷ altitude? 2688 is amount unknown
     -- Counts 65536 even, 49152 odd, longitudes 65536, 32768: 45 N, 90 E.
     ∷ pair? (at 65536 65536) (at 49152 32768) Even is located (spot (pos (degrees 45)) (degrees 90))

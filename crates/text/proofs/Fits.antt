@@ -1,4 +1,4 @@
--- Every line fits into its 96 bytes, and its first bytes are its text: each number has at most 20 digits, and the lengths are added.
+-- Every line fits into its 128 bytes, and its first bytes are its text: each number has at most 20 digits, and the lengths are added.
 -- Assumes nothing.
 use Prim.Native.Nat.{ℕ, _+_, _-_, _≤_}
 use mathlib.Core.Path.{_≡_, sym, ap, ap₂, _∙_}
@@ -11,7 +11,7 @@ use lib.ListN.{length, drop, replicate, length-append, length-replicate, replica
 use lib.Seq.{take-append-seam, drop-at}
 use Rattle.keys.specs.Keys.{addressIn}
 use Rattle.text.specs.Numbers.{decimal, minus, signed}
-use Rattle.text.specs.Lines.{space, newline, field, figure, clockLabel, tracksLabel, badLabel, headerText, keyText, rowText, lineOf, textIn}
+use Rattle.text.specs.Lines.{space, newline, field, figure, clockLabel, tracksLabel, badLabel, headerText, keyText, rowText, lineRoom, lineOf, textIn}
 use Rattle.text.specs.Wrote.{Wrote}
 use Rattle.text.specs.declared.Figure.{Figure}
 use Rattle.text.specs.declared.Figure.the-variants.{Unknown, Known}
@@ -58,8 +58,8 @@ header-most clock tracks bad =
       field-most badLabel bad,
     )
 
--- a track's line has at most 96
-pub row-most : (r : Row) → length (rowText r) ≤ 96
+-- a track's line has at most 118
+pub row-most : (r : Row) → length (rowText r) ≤ 118
 unfolding rowText
 row-most r =
     let k : List ℕ = keyText (r .key) in
@@ -67,9 +67,11 @@ row-most r =
     let y : List ℕ = figure (r .latitude) in
     let x : List ℕ = figure (r .longitude) in
     let a : List ℕ = figure (r .altitude) in
+    let s : List ℕ = figure (r .step) in
     omega (
       arith,
-      length-append (k ++ h ++ y ++ x ++ a) newline,
+      length-append (k ++ h ++ y ++ x ++ a ++ s) newline,
+      length-append (k ++ h ++ y ++ x ++ a) s,
       length-append (k ++ h ++ y ++ x) a,
       length-append (k ++ h ++ y) x,
       length-append (k ++ h) y,
@@ -79,6 +81,7 @@ row-most r =
       figure-most (r .latitude),
       figure-most (r .longitude),
       figure-most (r .altitude),
+      figure-most (r .step),
     )
 
 drop-zeros : (n m : ℕ) → n ≤ m → drop {A = ℕ} n (replicate m 0) ≡ replicate (m - n) 0
@@ -88,15 +91,15 @@ drop-zeros n m h =
     ∙ ap (drop n) (sym (replicate-append-replicate {A = ℕ} n (m - n) 0))
     ∙ drop-at (replicate n 0) (replicate (m - n) 0) n (length-replicate n 0)
 
--- what is written from the start of 96 zeros is the line
-pub line-made : {text : List ℕ} {n : ℕ} {l : List ℕ} → length text ≤ 96 → Wrote (replicate 96 0) 0 text n l → _≡_ {A = Line} (record { bytes = l; len = n }) (lineOf text)
+-- what is written from the start of zeros is the line
+pub line-made : {text : List ℕ} {n : ℕ} {l : List ℕ} → length text ≤ lineRoom → Wrote (replicate lineRoom 0) 0 text n l → _≡_ {A = Line} (record { bytes = l; len = n }) (lineOf text)
 unfolding lineOf
 line-made {text} {n} {l} h w =
     ap₂ (λ (b : List ℕ) (k : ℕ). record { bytes = b; len = k })
-    (w .text ∙ text-first (replicate 96 0) text (omega (arith, length-replicate {A = ℕ} 96 0)) ∙ ap (λ (r : List ℕ). text ++ r) (drop-zeros (length text) 96 h))
+    (w .text ∙ text-first (replicate lineRoom 0) text (omega (arith, length-replicate {A = ℕ} lineRoom 0)) ∙ ap (λ (r : List ℕ). text ++ r) (drop-zeros (length text) lineRoom h))
     (let e : n ≡ length text = omega (arith, w .next) in e)
 
 -- no text is cut off
 pub line-text : (text : List ℕ) → textIn (lineOf text) ≡ text
 unfolding lineOf
-line-text text = take-append-seam text (replicate (96 - length text) 0)
+line-text text = take-append-seam text (replicate (lineRoom - length text) 0)

@@ -1,4 +1,4 @@
--- A line of the listing as text, in ASCII, as document 01 has it under 'Captures and the listing'.
+-- A line of the listing as text, in ASCII, as document 01 has it under 'Captures and the listing', with the step of R-4 of document 02.
 use Prim.Native.Nat.{ℕ, _-_}
 use mathlib.Core.List.{List, [], _∷_, _++_}
 use lib.ListN.{length, take, replicate}
@@ -44,13 +44,17 @@ headerText clock tracks bad = field clockLabel clock ++ field tracksLabel tracks
 unfoldable pub keyText : ℕ → List ℕ
 keyText key = (letterIn key ∷ []) ++ space ++ hex 6 (addressIn key)
 
--- kind, address, last heard, latitude, longitude, pressure altitude
+-- kind, address, last heard, latitude, longitude, pressure altitude, its step
 unfoldable pub rowText : Row → List ℕ
-rowText r = keyText (r .key) ++ field space (r .heard) ++ figure (r .latitude) ++ figure (r .longitude) ++ figure (r .altitude) ++ newline
+rowText r = keyText (r .key) ++ field space (r .heard) ++ figure (r .latitude) ++ figure (r .longitude) ++ figure (r .altitude) ++ figure (r .step) ++ newline
+
+-- how many bytes a line has room for
+abbrev pub lineRoom : ℕ
+lineRoom = 128
 
 -- a text as a line: the text, then zeros
 unfoldable pub lineOf : List ℕ → Line
-lineOf text = record { bytes = text ++ replicate (96 - length text) 0; len = length text }
+lineOf text = record { bytes = text ++ replicate (lineRoom - length text) 0; len = length text }
 
 -- .. and back
 abbrev pub textIn : Line → List ℕ

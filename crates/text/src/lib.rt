@@ -8,9 +8,12 @@ ghost use lib.ListN.{length};
 ghost use Rattle.text.specs.Wrote.{Wrote};
 ghost use Rattle.text.specs.Lines.{field, figure, keyText, headerText, rowText, lineOf};
 
+// How many bytes a line has room for: every line fits.
+pub const LINE: usize = 128;
+
 // A line in ASCII, the newline its last byte, then zeros.
 pub struct Line {
-    pub bytes: [u8; 96],
+    pub bytes: [u8; LINE],
     pub len: usize,
 }
 
@@ -26,6 +29,8 @@ pub struct Row {
     pub latitude: Figure,
     pub longitude: Figure,
     pub altitude: Figure,
+    // of the altitude: `report` makes both unknown together
+    pub step: Figure,
 }
 
 fn put_figure(out: &mut [u8], at: usize, f: Figure) -> usize
@@ -65,11 +70,13 @@ fn put_row(out: &mut [u8], row: Row) -> usize
     let latitude = row.latitude;
     let longitude = row.longitude;
     let altitude = row.altitude;
+    let step = row.step;
     let a = put_key(out, 0, row.key);
     let a = put_field(out, a, b" ", row.heard);
     let a = put_figure(out, a, latitude);
     let a = put_figure(out, a, longitude);
     let a = put_figure(out, a, altitude);
+    let a = put_figure(out, a, step);
     write::put_byte(out, a, b'\n')
 }
 
@@ -86,7 +93,7 @@ fn put_header(out: &mut [u8], clock: u64, tracks: u64, bad: u64) -> usize
 pub fn header_line(clock: u64, tracks: u64, bad: u64) -> Line
     ensures { λ r. ⌜ r ≡ lineOf (headerText clock tracks bad) ⌝ }
 {
-    let mut out = [0u8; 96];
+    let mut out = [0u8; LINE];
     let n = put_header(&mut out, clock, tracks, bad);
     Line { bytes: out, len: n }
 }
@@ -95,7 +102,7 @@ pub fn header_line(clock: u64, tracks: u64, bad: u64) -> Line
 pub fn row_line(row: Row) -> Line
     ensures { λ r. ⌜ r ≡ lineOf (rowText row) ⌝ }
 {
-    let mut out = [0u8; 96];
+    let mut out = [0u8; LINE];
     let n = put_row(&mut out, row);
     Line { bytes: out, len: n }
 }

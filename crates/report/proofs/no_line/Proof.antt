@@ -1,4 +1,4 @@
--- `report::no_line` meets its contract: a line of no text is 96 zeros.
+-- `report::no_line` meets its contract: a line of no text is zeros.
 -- Assumes nothing.
 use mathlib.Core.Path.{refl}
 use Rattle.text.specs.Lines.{lineOf}

@@ -1,4 +1,4 @@
--- `text::header_line` meets its contract: what is written into 96 zeros is the line, since its text fits.
+-- `text::header_line` meets its contract: what is written into zeros is the line, since its text fits.
 -- Assumes nothing.
 use native.Mathlib.Omega.{arith}
 use Rattle.text.proofs.Fits.{header-most, line-made}

@@ -1,4 +1,4 @@
--- `text::put_row` meets its contract: six texts, one after the other.
+-- `text::put_row` meets its contract: seven texts, one after the other.
 -- Assumes nothing.
 use Rattle.text.specs.Lines.{rowText}
 use Rattle.text.proofs.Buffer.{wrote-then}
@@ -24,6 +24,9 @@ put-figure-requires-2 c κs = search needs
 put-figure-requires-3 : tie.Need-put-figure-requires-3
 put-figure-requires-3 c κs = search needs
 
+put-figure-requires-4 : tie.Need-put-figure-requires-4
+put-figure-requires-4 c κs = search needs
+
 put-byte-requires : tie.Need-put-byte-requires
 put-byte-requires c κs = search needs
 
@@ -33,12 +36,13 @@ same-length c = search needs
 returns : tie.Need-returns
 unfolding rowText
 returns c =
-    wrote-then (wrote-then (wrote-then (wrote-then (wrote-then
-    (c .before .before .before .before .before .before .before .before .before .before .before .before .before .before .before .before .before .before .before .before .before .before .before .put-key .ensures .0)
-    (c .before .before .before .before .before .before .before .before .before .before .before .before .before .before .before .before .before .before .put-field .ensures .0))
-    (c .before .before .before .before .before .before .before .before .before .before .before .before .before .before .put-figure .ensures .0))
-    (c .before .before .before .before .before .before .before .before .before .before .put-figure2 .ensures .0))
-    (c .before .before .before .before .before .before .put-figure3 .ensures .0))
+    wrote-then (wrote-then (wrote-then (wrote-then (wrote-then (wrote-then
+    (c .before .before .before .before .before .before .before .before .before .before .before .before .before .before .before .before .before .before .before .before .before .before .before .before .before .before .before .put-key .ensures .0)
+    (c .before .before .before .before .before .before .before .before .before .before .before .before .before .before .before .before .before .before .before .before .before .before .put-field .ensures .0))
+    (c .before .before .before .before .before .before .before .before .before .before .before .before .before .before .before .before .before .before .put-figure .ensures .0))
+    (c .before .before .before .before .before .before .before .before .before .before .before .before .before .before .put-figure2 .ensures .0))
+    (c .before .before .before .before .before .before .before .before .before .before .put-figure3 .ensures .0))
+    (c .before .before .before .before .before .before .put-figure4 .ensures .0))
     (c .before .before .put-byte .ensures)
 
 pub put-row-spec : {M : Type 1} → statement M
@@ -51,6 +55,7 @@ put-row-spec =
     put-figure-requires
     put-figure-requires-2
     put-figure-requires-3
+    put-figure-requires-4
     put-byte-requires
     same-length
     returns)

@@ -4,6 +4,7 @@ use Prim.Native.Nat.{_*_}
 use mathlib.Core.Path.{ap, ap₂, _∙_}
 use native.Mathlib.Omega.{arith}
 use borrow.Author.Tests.{le-leb, lt-leb, eq-eqb, ne-eqb}
+use lib.IntN.{ℤ}
 use mir.Facts.{toZ-ofZ}
 use borrow.Author.Needs.{needs}
 use Rattle.readings.specs.declared.altitude.Altitude.the-variants.{Feet}
@@ -37,7 +38,7 @@ unfolding altitudeOf
 returns-3 c =
     let n = c .before .before .before .before .args .code in
     rw (lt-leb _ _ (c .before .before .before .if1 .left), ne-eqb _ _ (c .before .before .if2 .left), eq-eqb _ _ (c .before .if3 .taken), c .less .ensures)
-    (ap Feet (toZ-ofZ (less-fits (25 * eleven n) 1000 (omega arith) (omega arith))))
+    (ap (λ (z : ℤ). Feet z 25) (toZ-ofZ (less-fits (25 * eleven n) 1000 (omega arith) (omega arith))))
 
 five-hundreds-requires : tie.Need-five-hundreds-requires
 five-hundreds-requires c κs = search needs

@@ -3,7 +3,7 @@
 use Prim.Native.Nat.{ℕ, _+_, _*_}
 use mathlib.Core.Path.{ap, _∙_}
 use native.Mathlib.Omega.{arith}
-use lib.IntN.{pos, _-ℤ_}
+use lib.IntN.{ℤ, pos, _-ℤ_}
 use mir.Facts.{toZ-ofZ}
 use borrow.Author.Needs.{needs}
 use Rattle.readings.specs.declared.altitude.Altitude.the-variants.{Feet}
@@ -37,7 +37,7 @@ returns-2 c =
     let f = c .before .before .before .args .f in
     let t = c .before .turned .result in
     rw (c .before .before .if1 .left, c .less .ensures)
-    (ap Feet (toZ-ofZ (less-fits (500 * f + 100 * t) 1300 (omega arith) (omega arith)) ∙ ap (λ (k : ℕ). pos (500 * f + 100 * k) -ℤ pos 1300) (c .before .turned .ensures .0)))
+    (ap (λ (z : ℤ). Feet z 100) (toZ-ofZ (less-fits (500 * f + 100 * t) 1300 (omega arith) (omega arith)) ∙ ap (λ (k : ℕ). pos (500 * f + 100 * k) -ℤ pos 1300) (c .before .turned .ensures .0)))
 
 pub by-hundreds-spec : {M : Type 1} → statement M
 by-hundreds-spec =

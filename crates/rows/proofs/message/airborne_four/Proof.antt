@@ -10,14 +10,14 @@ altitude-reading-requires c κs = search needs
 bit-requires : tie.Need-bit-requires
 bit-requires c κs = search needs
 
+step-reading-requires : tie.Need-step-reading-requires
+step-reading-requires c κs = search needs
+
 only-requires : tie.Need-only-requires
 only-requires c κs = search needs
 
-only-requires-2 : tie.Need-only-requires-2
-only-requires-2 c κs = search needs
-
 returns : tie.Need-returns
-returns c = rw (c .only2 .ensures, c .before .only .ensures, c .before .before .bit .ensures, c .before .before .before .altitude-reading .ensures)
+returns c = rw (c .only .ensures, c .before .step-reading .ensures, c .before .before .bit .ensures, c .before .before .before .altitude-reading .ensures)
 
 pub airborne-four-spec : {M : Type 1} → statement M
 airborne-four-spec =
@@ -25,6 +25,6 @@ airborne-four-spec =
     (tie.spec
     altitude-reading-requires
     bit-requires
+    step-reading-requires
     only-requires
-    only-requires-2
     returns)

@@ -17,20 +17,26 @@ array-copy-out-odd c = search needs
 altitude-of-requires : tie.Need-altitude-of-requires
 altitude-of-requires c κs = search needs
 
+altitude-of-requires-2 : tie.Need-altitude-of-requires-2
+altitude-of-requires-2 c κs = search needs
+
 altitude-reading-requires : tie.Need-altitude-reading-requires
 altitude-reading-requires c κs = search needs
 
-altitude-of-requires-2 : tie.Need-altitude-of-requires-2
-altitude-of-requires-2 c κs = search needs
+step-reading-requires : tie.Need-step-reading-requires
+step-reading-requires c κs = search needs
 
 altitude-reading-requires-2 : tie.Need-altitude-reading-requires-2
 altitude-reading-requires-2 c κs = search needs
 
-cast-t15 : tie.Need-cast-t15
-cast-t15 c = search needs
+step-reading-requires-2 : tie.Need-step-reading-requires-2
+step-reading-requires-2 c κs = search needs
 
-cast-t16 : tie.Need-cast-t16
-cast-t16 c = search needs
+cast-t18 : tie.Need-cast-t18
+cast-t18 c = search needs
+
+cast-t19 : tie.Need-cast-t19
+cast-t19 c = search needs
 
 bit-requires : tie.Need-bit-requires
 bit-requires c κs = search needs
@@ -38,26 +44,26 @@ bit-requires c κs = search needs
 twos-of-requires : tie.Need-twos-of-requires
 twos-of-requires c κs = search needs
 
-cast-t19 : tie.Need-cast-t19
-cast-t19 c = search needs
-
-bit-requires-2 : tie.Need-bit-requires-2
-bit-requires-2 c κs = search needs
-
-cast-t21 : tie.Need-cast-t21
-cast-t21 c = search needs
-
 cast-t22 : tie.Need-cast-t22
 cast-t22 c = search needs
 
-bit-requires-3 : tie.Need-bit-requires-3
-bit-requires-3 c κs = search needs
+bit-requires-2 : tie.Need-bit-requires-2
+bit-requires-2 c κs = search needs
 
 cast-t24 : tie.Need-cast-t24
 cast-t24 c = search needs
 
 cast-t25 : tie.Need-cast-t25
 cast-t25 c = search needs
+
+bit-requires-3 : tie.Need-bit-requires-3
+bit-requires-3 c κs = search needs
+
+cast-t27 : tie.Need-cast-t27
+cast-t27 c = search needs
+
+cast-t28 : tie.Need-cast-t28
+cast-t28 c = search needs
 
 returns : tie.Need-returns
 unfolding trackRow
@@ -66,12 +72,14 @@ returns c =
       c .before .before .bit3 .ensures,
       c .before .before .before .before .before .bit2 .ensures,
       c .before .before .before .before .before .before .before .twos-of .ensures,
-      toZ-ofZ {w = w32} {z = c .before .before .before .before .before .before .before .before .before .before .before .before .before .before .before .before .before .before .before .before .before .args .t .position .spot .latitude} (record { sfits = omega (arith, c .before .before .before .before .before .before .before .before .struct-told .given) }),
+      toZ-ofZ {w = w32} {z = c .before .before .before .before .before .before .before .before .before .before .before .before .before .before .before .before .before .before .before .before .before .before .before .args .t .position .spot .latitude} (record { sfits = omega (arith, c .before .before .before .before .before .before .before .before .struct-told .given) }),
       c .before .before .before .before .before .before .before .before .before .bit .ensures,
-      c .before .before .before .before .before .before .before .before .before .before .before .before .altitude-reading2 .ensures,
-      c .before .before .before .before .before .before .before .before .before .before .before .before .before .altitude-of2 .ensures,
-      c .before .before .before .before .before .before .before .before .before .before .before .before .before .before .altitude-reading .ensures,
-      c .before .before .before .before .before .before .before .before .before .before .before .before .before .before .before .altitude-of .ensures,
+      c .before .before .before .before .before .before .before .before .before .before .before .before .step-reading2 .ensures,
+      c .before .before .before .before .before .before .before .before .before .before .before .before .before .altitude-reading2 .ensures,
+      c .before .before .before .before .before .before .before .before .before .before .before .before .before .before .step-reading .ensures,
+      c .before .before .before .before .before .before .before .before .before .before .before .before .before .before .before .altitude-reading .ensures,
+      c .before .before .before .before .before .before .before .before .before .before .before .before .before .before .before .before .altitude-of2 .ensures,
+      c .before .before .before .before .before .before .before .before .before .before .before .before .before .before .before .before .before .altitude-of .ensures,
     )
 
 pub track-values-spec : {M : Type 1} → statement M
@@ -81,18 +89,20 @@ track-values-spec =
     array-copy-out-even
     array-copy-out-odd
     altitude-of-requires
-    altitude-reading-requires
     altitude-of-requires-2
+    altitude-reading-requires
+    step-reading-requires
     altitude-reading-requires-2
-    cast-t15
-    cast-t16
+    step-reading-requires-2
+    cast-t18
+    cast-t19
     bit-requires
     twos-of-requires
-    cast-t19
-    bit-requires-2
-    cast-t21
     cast-t22
-    bit-requires-3
+    bit-requires-2
     cast-t24
     cast-t25
+    bit-requires-3
+    cast-t27
+    cast-t28
     returns)
