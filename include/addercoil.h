@@ -27,13 +27,17 @@
  *     I: an ICAO address, and 2, O: another one. Of what a ground station's traffic service sends (DF 18 with CF 2 or 5)
  *     they are 3, T: an ICAO address; 4, M: a Mode A code of 12 bits, then a track number of 12; 5, N: another address.
  *
- * Link with libaddercoil.a, which `rt staticlib addercoil` writes to target/staticlib/.
+ * Link with libaddercoil.a, which `tools/staticlib` writes to target/staticlib/, for x86-64 or for 64-bit ARM.
  */
 #ifndef ADDERCOIL_H
 #define ADDERCOIL_H
 
 #include <stddef.h>
 #include <stdint.h>
+
+#if SIZE_MAX != 0xFFFFFFFFFFFFFFFFu
+#error "Addercoil needs a 64-bit system: its archives take lengths of 64 bits"
+#endif
 
 #ifdef __cplusplus
 extern "C" {

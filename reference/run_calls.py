@@ -2,7 +2,7 @@
 
     python3 reference/run_calls.py
 
-tools/build-c must have built target/c/calls. Among the arguments are wrong lengths, damaged messages, tables of random
+tools/build-c must have built target/c/PROCESSOR/calls. Among the arguments are wrong lengths, damaged messages, tables of random
 bytes, and tables whose values are just out of their ranges. The first difference is named, and the status is 1.
 """
 
@@ -16,7 +16,7 @@ from captures import BLOCK, MOST_RECORDS, block
 from embedding import AT, BYTES, FUNCTIONS, WORDS, WRITES, array_of, call_text, message_from, message_row, outcome_text, row
 from positions import AIRBORNE, EVEN, ODD
 from positions import encode as counts_of
-from programs import ran
+from programs import C, ran
 from readings import UNKNOWN, altitude
 from refusals import Refused
 from run_captures import damaged, message
@@ -436,7 +436,7 @@ def doubled_missing(asked):
 
 def main():
     asked = list(calls(Random(12)))
-    done = ran("c/calls", given="".join(f"{call}\n" for call, _ in asked).encode("ascii"))
+    done = ran(f"{C}/calls", given="".join(f"{call}\n" for call, _ in asked).encode("ascii"))
     found = difference(asked, done.stdout.decode("ascii").splitlines())
     if done.returncode != 0 or found:
         print(f"status {done.returncode} {done.stderr.decode()}\n{found}")

@@ -3,14 +3,14 @@ with and without being asked, and of those with a position. A choice that is nei
 
     python3 reference/run_example.py
 
-tools/build-c must have built target/c/listing.
+tools/build-c must have built target/c/PROCESSOR/listing.
 """
 
 import sys
 from itertools import product
 
 from make_samples import STEP, hex_lines, hex_listing, minute
-from programs import ran
+from programs import C, ran
 
 GOOD = "8DABCDEF58378200010000300279"
 
@@ -45,13 +45,13 @@ def cases():
 
 def main():
     for (given, strings, step), (words, every) in product(cases(), CHOICES.items()):
-        done = ran("c/listing", step, *words, given=given)
+        done = ran(f"{C}/listing", step, *words, given=given)
         listing, refused = hex_listing(strings, step, every)
         if (done.returncode, done.stdout, done.stderr) != (0, listing, f"{refused} refused\n".encode("ascii")):
             print(f"status {done.returncode}; the model says {refused} refused and\n{listing.decode()}and the example")
             print((done.stderr + done.stdout).decode())
             return 1
-    done = ran("c/listing", 1, 2, given=b"")
+    done = ran(f"{C}/listing", 1, 2, given=b"")
     if (done.returncode, done.stdout) != (2, b"") or b"usage" not in done.stderr:
         print(f"a choice that is neither: status {done.returncode}, {done.stdout}, {done.stderr}")
         return 1

@@ -2,7 +2,7 @@
 
     python3 reference/run_live.py
 
-tools/build-c must have built target/c/live. Its clock is the machine's, so that two things of a listing differ from run to
+tools/build-c must have built target/c/PROCESSOR/live. Its clock is the machine's, so that two things of a listing differ from run to
 run: the clock, and when each track was last heard. All else must be what the model says, which hears line k at k ms: times
 decide on a track only by 10, 120 and 125 seconds, and here as there all lines come within 10. When a track was last heard is
 held to the order of the lines, and to the clock.
@@ -25,13 +25,13 @@ import table
 import traffic
 from captures import listing_of
 from make_samples import STEP, hex_lines, minute
-from programs import ROOT, ran
+from programs import C, ROOT, ran
 from positions import EVEN, ODD
 from refusals import Refused
 from traffic import OTHER, TRANSPONDER
 from vectors.message_vectors import flipped, sealed_message
 
-PROGRAM = "c/live"
+PROGRAM = f"{C}/live"
 FORM = re.compile(rb"\s*(?:\*|@[0-9A-Fa-f]{12})((?:[0-9A-Fa-f]{2})+);\s*")
 LONGEST = 63  # bytes of a line that can have a message
 HEADER = re.compile(r"clock (\d+) tracks (\d+) bad-blocks 0")

@@ -1,9 +1,9 @@
 """Runs the stress, hostile calls of every kind through C, and answers a sample of them by the model.
 
-    python3 reference/run_stress.py [SEED [CALLS]]
+    python3 reference/run_stress.py [SEED [CALLS [EVERY]]]
 
-tools/build-c must have built target/c/stress. It looks at guard bytes around all that is lent after each call, and ends
-at the first that changed. Of its calls one in 100 is compared here. The first difference is named, and the status is 1.
+tools/build-c must have built target/c/PROCESSOR/stress. It looks at guard bytes around all that is lent after each call, and ends
+at the first that changed. Of its calls one in EVERY, or 100, is compared here. The first difference is named, and the status is 1.
 """
 
 import sys
@@ -12,11 +12,11 @@ from collections import Counter
 import messages
 from captures import KINDS
 from embedding import FUNCTIONS, outcome_text
-from programs import ran
+from programs import C, ran
 from tracks import kind_of
 
 SEED, CALLS, EVERY = 16, 600_000, 100
-MOST_SECONDS = 120
+MOST_SECONDS = 120  # for so many calls
 NUMBERS = {*map(str, (*range(11), 12))}  # the paper's, and 12; 11 is answered by no C function, a bad block is counted
 
 
@@ -27,8 +27,8 @@ def kind(call, outcome):
 
 
 def main():
-    seed, calls = [*map(int, sys.argv[1:]), *(SEED, CALLS)[len(sys.argv) - 1 :]]
-    done = ran("c/stress", seed, calls, EVERY, seconds=MOST_SECONDS)
+    seed, calls, every = [*map(int, sys.argv[1:]), *(SEED, CALLS, EVERY)[len(sys.argv) - 1 :]]
+    done = ran(f"{C}/stress", seed, calls, every, seconds=MOST_SECONDS * max(1, calls // CALLS))
     sample = done.stdout.decode("ascii").splitlines()
     if done.returncode != 0:
         print(f"status {done.returncode} {done.stderr.decode()}\n{sample[-1] if sample else ''}")
@@ -43,7 +43,7 @@ def main():
         answers[outcome.split()[0]] += call.split()[0] != "table_bytes"
         kinds.add(kind(call, outcome))
     missing = {*FUNCTIONS} - {*names} | NUMBERS - {*answers} | {*KINDS.values()} - kinds
-    if missing and (seed, calls) == (SEED, CALLS):
+    if missing and (seed, calls, every) == (SEED, CALLS, EVERY):
         print(f"the sample has none of {missing}")
         return 1
     print(f"{calls} hostile calls: no guard was touched; of a sample of {len(sample)} each is as the model says")

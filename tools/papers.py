@@ -1,14 +1,12 @@
 """The commands that a paper shows, taken from its text and run as a user types them, for tools/try-readme and tools/try-guide."""
-import platform
 import re
 import subprocess
 import sys
 from pathlib import Path
 
 ROOT = Path(__file__).resolve().parent.parent
-COMMAND = re.compile(r'(\./|tools/|gcc |rt |export |nc )')
+COMMAND = re.compile(r'(\./|tools/|gcc |rt |export |DESTDIR=|nc )')
 PROGRESS = re.compile(r'^(proving |crate \d+ of |the last crate).*\n', flags=re.M)
-BUILT = re.compile(r'(?<!\S)(gcc|\./(?:c-listing|live|my))(?!\S)')  # a compiler, and what the papers build with it
 
 
 def blocks(section):
@@ -21,13 +19,6 @@ def blocks(section):
             found[-1].append(line[4:])
         last = line
     return found
-
-
-def as_typed_here(command):
-    """The command as the papers say to type it on this machine: where it is not x86-64, tools/cc for gcc, and tools/run before what was built."""
-    if platform.machine() == 'x86_64':
-        return command
-    return BUILT.sub(lambda found: f'{ROOT}/tools/cc' if found[1] == 'gcc' else f'{ROOT}/tools/run {found[1]}', command)
 
 
 def ran(commands, folder=ROOT, **environment):

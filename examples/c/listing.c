@@ -3,9 +3,7 @@
  * listing at the end: listing [STEP [ALL]]. Message k, from 0, arrives at k times STEP milliseconds, or k. The listing
  * has all tracks, or with 0 for ALL those whose position is known.
  *
- * tools/archive && gcc -std=c99 -Iinclude examples/c/listing.c target/staticlib/libaddercoil.a -o c-listing
- *
- * On a machine that is not x86-64, say tools/cc for gcc, and run it with tools/run.
+ * tools/staticlib && gcc -std=c99 -Iinclude examples/c/listing.c target/staticlib/$(uname -m)/libaddercoil.a -o c-listing
  */
 #include <addercoil.h>
 #include <ctype.h>

@@ -7,10 +7,8 @@
  * many lines had no message. With the receiver's latitude and longitude in degrees, north and east above zero,
  * positions on the ground are read against them.
  *
- * tools/archive && gcc -std=c99 -Iinclude examples/c/live.c target/staticlib/libaddercoil.a -o live
+ * tools/staticlib && gcc -std=c99 -Iinclude examples/c/live.c target/staticlib/$(uname -m)/libaddercoil.a -o live
  * nc localhost 30002 | ./live
- *
- * On a machine that is not x86-64, say tools/cc for gcc, and run it with tools/run.
  */
 #define _POSIX_C_SOURCE 200112L
 #include <addercoil.h>

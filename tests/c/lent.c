@@ -5,10 +5,11 @@
 #include <string.h>
 #include <sys/mman.h>
 
-enum { GUARDS = 64, GUARD = 0x5C, PAGE = 4096 };
+/* Pages have 4, 16 or 64 KiB, by the processor and its system: this is whole ones of each */
+enum { GUARDS = 64, GUARD = 0x5C, PAGE = 65536 };
 
 void lent_open(struct lent *lent) {
-    const size_t size = LENT_MOST + PAGE; /* room for the guards too */
+    const size_t size = (LENT_MOST / PAGE + 2) * PAGE; /* room for the guards too */
     uint8_t *memory = mmap(NULL, PAGE + size + PAGE, PROT_NONE, MAP_PRIVATE | MAP_ANONYMOUS, -1, 0);
     if (memory == MAP_FAILED || mprotect(memory + PAGE, size, PROT_READ | PROT_WRITE) != 0) {
         perror("lent_open");

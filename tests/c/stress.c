@@ -12,7 +12,7 @@
 #include <string.h>
 #include <unistd.h>
 
-/* ---- Chance ---- */
+/* ---- Chance, drawn one by one: never twice where the compiler chooses the order, so that all draw alike ---- */
 
 static uint64_t state;
 
@@ -51,8 +51,15 @@ static uint64_t number(void) {
     case 2:
         return 0 - below(3);
     default:
-        return any() >> below(64);
+        edge = any();
+        return edge >> below(64);
     }
+}
+
+/* Changes a byte. */
+static void damage(uint8_t *bytes, size_t size) {
+    size_t at = below(size);
+    bytes[at] ^= (uint8_t)any();
 }
 
 /* ---- Messages and blocks ---- */
@@ -80,7 +87,8 @@ static void seal(uint8_t *bytes, size_t size) {
 
 /* 14 bytes: often a message of one of a few aircraft, so that tracks grow; else of anybody, damaged, or noise. */
 static void make_message(uint8_t *message) {
-    uint64_t kind = below(16), type = ONE_OF(19, below(23), below(23), below(16) == 0 ? below(32) : 11);
+    uint64_t kind = below(16), one = below(23), other = below(23), rare = below(16) == 0 ? below(32) : 11;
+    uint64_t type = ONE_OF(19, one, other, rare);
     fill(message, ADDERCOIL_MESSAGE);
     if (kind == 0) {
         return;
@@ -98,7 +106,8 @@ static void make_message(uint8_t *message) {
     }
     seal(message, ADDERCOIL_MESSAGE);
     if (kind == 3) {
-        message[below(ADDERCOIL_MESSAGE)] ^= (uint8_t)(1 << below(8));
+        size_t at = below(ADDERCOIL_MESSAGE);
+        message[at] ^= (uint8_t)(1 << below(8));
     }
 }
 
@@ -120,11 +129,11 @@ static void make_block(uint8_t *block, uint64_t time) {
         make_message(block + 3 + 22 * i + 8);
     }
     if (below(8) == 0) {
-        block[below(ADDERCOIL_BLOCK)] ^= (uint8_t)any();
+        damage(block, ADDERCOIL_BLOCK);
     }
     seal(block, ADDERCOIL_BLOCK);
     if (below(16) == 0) {
-        block[below(ADDERCOIL_BLOCK)] ^= (uint8_t)any();
+        damage(block, ADDERCOIL_BLOCK);
     }
 }
 
@@ -200,7 +209,7 @@ static enum function choose_function(void) {
     if (n < 32) {
         return FEED_BLOCK;
     }
-    return n < 34 ? PAIR : (enum function)below(FUNCTIONS);
+    return n < 38 ? PAIR : (enum function)below(FUNCTIONS);
 }
 
 /* A length that is right, or often one that is near it. */
@@ -241,7 +250,8 @@ static size_t make_fields(void) {
             fields[i] = number();
         }
     } else if (below(2) == 0) {
-        fields[below(ADDERCOIL_FIELDS)] = number();
+        i = below(ADDERCOIL_FIELDS);
+        fields[i] = number();
     }
     fill(given, sizeof given);
     memcpy(given, fields, sizeof fields);
@@ -271,7 +281,7 @@ static uint64_t make_time(uint64_t clock) {
 }
 
 static uint64_t make_number(enum function function, int i, uint64_t time) {
-    uint64_t key = (1 + below(5)) << 24 | below(4) * 0x010101;
+    uint64_t kind = 1 + below(5), key = kind << 24 | below(4) * 0x010101;
     switch (function) {
     case RECEIVE:
         return time;
@@ -303,10 +313,12 @@ static uint64_t make_number(enum function function, int i, uint64_t time) {
 }
 
 static struct call make_call(void) {
-    struct call call = {.function = choose_function(), .given = given, .below = 8 * below(9), .null = (int)below(2)};
+    struct call call = {.function = choose_function(), .given = given};
     const struct shape *shape = &shapes[call.function];
     uint64_t time = 0;
     int i;
+    call.below = 8 * below(9);
+    call.null = (int)below(2);
     if (shape->table != NO_TABLE) {
         choose_table(&call);
         time = make_time(call.table_size < 8 ? 0 : clock_of(call.table));
