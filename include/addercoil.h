@@ -113,8 +113,9 @@ uint32_t addercoil_next(const uint8_t *table, size_t table_len, uint32_t key, ui
 
 /*
  * The entries of addercoil_look_up. A reading is two entries: what it is (see ADDERCOIL_KNOWN below), and its value.
- * An ME is the 56 bits of bytes 4 to 10 of a message as one number, byte 4 the highest. No function reads an ME alone:
- * who wants the fields of each message calls addercoil_decode when it is received.
+ * An ME is the 56 bits of bytes 4 to 10 of a message as one number, byte 4 the highest; addercoil_me reads it. From
+ * ADDERCOIL_TRACK_CALLSIGN_IS on stand the readings that are most often shown, each as addercoil_me gives it of the ME
+ * that last gave its group, and unknown if none did.
  */
 enum {
     ADDERCOIL_TRACK_HELD,                  /* 0 or 1 */
@@ -144,6 +145,36 @@ enum {
     ADDERCOIL_TRACK_GNSS_HEIGHT,
     ADDERCOIL_TRACK_GNSS_HEIGHT_STEP_IS,   /* how coarse that is, likewise */
     ADDERCOIL_TRACK_GNSS_HEIGHT_STEP,
+    ADDERCOIL_TRACK_CALLSIGN_IS,           /* eight bytes of ASCII as one number, the first the highest */
+    ADDERCOIL_TRACK_CALLSIGN,
+    ADDERCOIL_TRACK_CATEGORY_SET_IS,       /* 'A' to 'D' */
+    ADDERCOIL_TRACK_CATEGORY_SET,
+    ADDERCOIL_TRACK_CATEGORY_IS,           /* 0 to 7 in its set */
+    ADDERCOIL_TRACK_CATEGORY,
+    ADDERCOIL_TRACK_EAST_IS,               /* velocity over ground, in knots, signed; unknown of one through air */
+    ADDERCOIL_TRACK_EAST,
+    ADDERCOIL_TRACK_NORTH_IS,
+    ADDERCOIL_TRACK_NORTH,
+    ADDERCOIL_TRACK_HEADING_IS,            /* velocity through air, in 2^-32 of a turn, whatever the status says */
+    ADDERCOIL_TRACK_HEADING,
+    ADDERCOIL_TRACK_HEADING_STATUS_IS,     /* unknown of a velocity over ground, as the heading */
+    ADDERCOIL_TRACK_HEADING_STATUS,        /* 1 if the heading is valid */
+    ADDERCOIL_TRACK_AIRSPEED_IS,           /* in knots */
+    ADDERCOIL_TRACK_AIRSPEED,
+    ADDERCOIL_TRACK_AIRSPEED_KIND_IS,
+    ADDERCOIL_TRACK_AIRSPEED_KIND,         /* 0 indicated, 1 true */
+    ADDERCOIL_TRACK_RATE_IS,               /* of either velocity, in feet per minute, signed */
+    ADDERCOIL_TRACK_RATE,
+    ADDERCOIL_TRACK_RATE_SOURCE_IS,        /* unknown of kinds T, M and N, which do not send it */
+    ADDERCOIL_TRACK_RATE_SOURCE,           /* 0 geometric, 1 barometric */
+    ADDERCOIL_TRACK_ON_GROUND_IS,          /* known once there was a position message */
+    ADDERCOIL_TRACK_ON_GROUND,             /* 1 if the last one was a surface position, 0 if an airborne one */
+    ADDERCOIL_TRACK_MOVEMENT_IS,           /* of the last surface position, in 48ths of a knot, the lower edge */
+    ADDERCOIL_TRACK_MOVEMENT,
+    ADDERCOIL_TRACK_SURFACE_HEADING_IS,    /* in 2^-32 of a turn, whatever the status says */
+    ADDERCOIL_TRACK_SURFACE_HEADING,
+    ADDERCOIL_TRACK_SURFACE_STATUS_IS,
+    ADDERCOIL_TRACK_SURFACE_STATUS,        /* 1 if that heading is valid */
     ADDERCOIL_TRACK                        /* how many there are */
 };
 
@@ -356,6 +387,15 @@ enum {
  * ADDERCOIL_PARITY, ADDERCOIL_FORMAT, ADDERCOIL_TYPE.
  */
 uint32_t addercoil_decode(const uint8_t *message, size_t message_len, uint64_t *fields, size_t fields_len);
+
+/*
+ * What an ME says, as ADDERCOIL_TRACK_IDENTIFICATION, _VELOCITY and _SURFACE have it, into fields of ADDERCOIL_FIELDS
+ * entries, as addercoil_decode gives them; what stands before ME, which are entries 1 to 4, is 0. key is that of the
+ * track: its kind tells what the height difference means, and no more of it is asked. An ME of 0, which a track has where
+ * it heard none, reads as TYPE 0: look at the ME first, or at ADDERCOIL_LAYOUT. Or ADDERCOIL_LENGTH, ADDERCOIL_FIELD for
+ * an ME of more than 56 bits or what is no key, ADDERCOIL_TYPE.
+ */
+uint32_t addercoil_me(uint64_t me, uint32_t key, uint64_t *fields, size_t fields_len);
 
 /*
  * The message that says the fields, its parity included, into message of ADDERCOIL_MESSAGE bytes. It reads the layout,

@@ -15,11 +15,12 @@ import positions
 import readings
 import table as tables
 from refusals import Refused, fits
-from tracks import key_of
+from tracks import KINDS, M, N, T, key_of
 
 HEADER = Path(__file__).resolve().parent.parent / "include/addercoil.h"
 FRESH = 0xA5  # what each byte of a result array holds before the call
 BYTES, WORDS = 1, 8  # the size of an element
+GROUND_KINDS = T, M, N  # what a ground station's traffic service sends
 
 
 def header_numbers():
@@ -69,8 +70,8 @@ def reading(name, value):
 # Tracks
 
 
-def track_row(track):
-    """The entries of a track that is held."""
+def track_row(track, traffic):
+    """The entries of a track that is held, of a ground station's traffic or not."""
     entries = {"TRACK_HELD": 1, "TRACK_HEARD": track.heard, "TRACK_IDENTIFICATION": track.identification}
     entries |= {"TRACK_VELOCITY": track.velocity, "TRACK_SURFACE": track.surface}
     entries |= {"TRACK_PRESSURE_CODE": track.pressure, "TRACK_HEIGHT_CODE": track.height}
@@ -81,7 +82,33 @@ def track_row(track):
         entries |= {f"TRACK_{name}_LATITUDE_COUNT": saved.latitude, f"TRACK_{name}_LONGITUDE_COUNT": saved.longitude}
     for name, code in (("TRACK_ALTITUDE", track.pressure), ("TRACK_GNSS_HEIGHT", track.height)):
         entries |= reading(name, readings.altitude(code)) | reading(f"{name}_STEP", readings.step(code))
-    return entries
+    return entries | shown(track, traffic)
+
+
+# What people are shown of a track, by the header's names: of a layout its readings, and fields as readings that are known
+RATE = {"RATE": "VERTICAL_RATE", "RATE_SOURCE": "VERTICAL_SOURCE"}
+SHOWN = {
+    "IDENTIFICATION": {"CALLSIGN": "IDENTIFICATION_TEXT", "CATEGORY_SET": "IDENTIFICATION_SET", "CATEGORY": "IDENTIFICATION_CATEGORY"},
+    "GROUND": {"EAST": "GROUND_EAST", "NORTH": "GROUND_NORTH", **RATE},
+    "AIR": {"HEADING": "AIR_TURN", "HEADING_STATUS": "AIR_STATUS", "AIRSPEED": "AIR_SPEED", "AIRSPEED_KIND": "AIR_AIRSPEED_KIND", **RATE},
+    "SURFACE": {"MOVEMENT": "SURFACE_SPEED", "SURFACE_HEADING": "SURFACE_TURN", "SURFACE_STATUS": "SURFACE_STATUS"},
+}
+
+
+def shown(track, traffic):
+    """What people are shown: of the last ME of each group, and whether the last position came from the ground."""
+    entries = {}
+    for number in filter(None, (track.identification, track.velocity, track.surface)):
+        said = me_row(number, traffic)
+        layout = next(name for name in LAYOUTS if AT[name] == said["LAYOUT"])
+        for name, of in SHOWN[layout].items():
+            if traffic and name == "RATE_SOURCE":
+                continue  # not sent
+            entries[f"TRACK_{name}_IS"] = said.get(f"{of}_IS", AT["KNOWN"])
+            entries[f"TRACK_{name}"] = said.get(of, 0)
+    if any(saved.known for saved in track.saved):  # an airborne position is saved, and a surface position clears both
+        return entries | reading("TRACK_ON_GROUND", 0)
+    return entries | (reading("TRACK_ON_GROUND", 1) if track.surface else {})
 
 
 # Messages
@@ -138,9 +165,9 @@ READINGS = {
 }
 
 
-def message_readings(layout, message):
-    """What the codes of a message mean."""
-    meant = readings.body(LAYOUTS[layout][0], message, messages.is_traffic(message))
+def layout_readings(layout, message, traffic):
+    """What the codes of a message mean, in a ground station's traffic or elsewhere."""
+    meant = readings.body(LAYOUTS[layout][0], message, traffic)
     if layout == "IDENTIFICATION":
         meant |= {"set": ord(meant["set"]), "text": number_of_text(meant["text"])}
     entries = {}
@@ -158,7 +185,20 @@ def message_row(message):
     entries = {"LAYOUT": AT[layout], "KEY": key_of(message)}
     entries |= {ours: message[name] for name, ours in HEAD.items()}
     entries |= {ours: message[name] for name, ours in entry_names(layout)}
-    return entries | message_readings(layout, message)
+    return entries | layout_readings(layout, message, messages.is_traffic(message))
+
+
+def me_row(number, traffic):
+    """The entries of an ME by itself, of a ground station's traffic or not; 5 for a TYPE or subtype that is not taken."""
+    string = number.to_bytes(7, "big")
+    type_code = messages.field(string, 1, 5)
+    fields = messages.layout(type_code, messages.field(string, 6, 8))
+    if fields is None:
+        raise Refused(5)
+    said = {"TYPE": type_code} | {name: messages.field(string, first, last) for name, first, last in fields}
+    layout = layout_of(said)
+    entries = {"LAYOUT": AT[layout], "TYPECODE": type_code} | {ours: said[name] for name, ours in entry_names(layout)}
+    return entries | layout_readings(layout, said, traffic)
 
 
 def message_from(fields):
@@ -213,8 +253,9 @@ def next_key(table, key):
 
 def look_up(table, key):
     """The track of a key, all 0 if it is not held."""
-    track = tables.look_up(table, key % 2**32)
-    return row(AT["TRACK"], {} if track is None else track_row(track))
+    key %= 2**32
+    track = tables.look_up(table, key)
+    return row(AT["TRACK"], {} if track is None else track_row(track, key >> 24 in GROUND_KINDS))
 
 
 def text_bytes(text):
@@ -295,6 +336,15 @@ def decode(message):
     return row(AT["FIELDS"], message_row(messages.decode(message)))
 
 
+def me(number, key):
+    """What an ME of a key says; 8 for more than 56 bits or what is no key, then 5."""
+    fits(number, 56)
+    kind = key % 2**32 >> 24
+    if kind not in KINDS:
+        raise Refused(8)
+    return row(AT["FIELDS"], me_row(number, kind in GROUND_KINDS))
+
+
 def encode(fields):
     """The message that says the fields."""
     if len(fields) != AT["FIELDS"]:
@@ -332,6 +382,7 @@ FUNCTIONS = {
     "single": Function(single, None, None, AT["SPOT"], WORDS),
     "decode": Function(decode, None, BYTES, AT["FIELDS"], WORDS),
     "encode": Function(encode, None, WORDS, AT["MESSAGE"], BYTES),
+    "me": Function(me, None, None, AT["FIELDS"], WORDS),
 }
 
 

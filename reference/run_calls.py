@@ -31,7 +31,7 @@ CALLS = 800  # of each function
 RECEIVED = 20  # times as many of receive, so that tracks grow; and twice as many of decode, for the sorts of message
 LISTED = ["header", "next", "line"]  # what a listing calls
 DOUBLED = 150  # of each of these, on tables that hold keys twice
-OLD_LENGTHS = {"header": 97, "line": 97, "look_up": 23}  # of the results before they had a step, which are refused with 1
+OLD_LENGTHS = [("header", 97), ("line", 97), ("look_up", 23), ("look_up", 27)]  # of results in older headers, which are refused with 1
 LAST = 2**64 - 1
 FIRST_READING = 20  # from this entry on fields are readings
 KEYS = [kind << 24 | aa for kind in KIND_NUMBERS for aa in (0, 1, 0xABCDEF, 2**24 - 1)]  # those of run_captures.message
@@ -170,6 +170,12 @@ def some_message(chance):
     return made.ljust(length, b"\0")[:length]
 
 
+def some_me(chance):
+    """The ME of a message, or any number of 56 bits, rarely of more."""
+    of_message = int.from_bytes(edge_message(chance)[4:11], "big")
+    return chance.choice((*[of_message] * 8, chance.getrandbits(56), 2**56 + of_message, number(chance)))
+
+
 FLAG = {AT["SURFACE"]: AT["SURFACE_T"], AT["AIRBORNE"]: AT["AIRBORNE_BIT8"]}  # the entry of the flag by the layout
 FLAG |= {AT["GROUND"]: AT["GROUND_BIT9"], AT["AIR"]: AT["AIR_BIT9"]}
 
@@ -228,6 +234,8 @@ def numbers_for(name, chance, table):
         return [latitude(chance), random_longitude(chance)]
     if name == "encode_position":
         return [latitude(chance), random_longitude(chance), bit(chance), bit(chance)]
+    if name == "me":
+        return [some_me(chance), key(chance, table)]
     if name == "pair":
         return [*pair_counts(chance), bit(chance)]
     if name == "single":
@@ -271,7 +279,7 @@ def calls(chance):
     """The calls, each with what the model makes of it."""
     for name, table in named(chance):
         yield answered(chance, name, table, about(chance, FUNCTIONS[name].length))
-    for name, length in OLD_LENGTHS.items():
+    for name, length in OLD_LENGTHS:
         yield answered(chance, name, random_tracks(chance), length)
 
 
@@ -294,7 +302,7 @@ NUMBERS = {
     **{name: {*READS, 8} for name in ("header", "line")},
     **{"set_up": {0, 7}, "set_up_at": {0, 7, 8}, "receive": {0, 1, 2, 3, 4, 5, 6, 7, 12}},
     **{"encode_position": {0, 1, 8}, "pair": {0, 1, 8, 9, 10}, "single": {0, 1, 8, 9}},
-    **{"decode": {0, 1, 3, 4, 5}, "encode": {0, 1, 8}},
+    **{"decode": {0, 1, 3, 4, 5}, "encode": {0, 1, 8}, "me": {0, 1, 5, 8}},
 }
 STEPPED = {"UNKNOWN", "KNOWN", "OVER"}
 KINDS = {
@@ -401,7 +409,7 @@ def steps_missing(asked):
     seen = set()
     for call, outcome in asked:
         name, (_, number, *arrays) = call.split()[0], outcome.split()
-        if name in OLD_LENGTHS and number == "1":
+        if name in dict(OLD_LENGTHS) and number == "1":
             seen.add((name, len(arrays[0]) // 2 // (WORDS if name == "look_up" else BYTES)))
         elif name == "look_up" and number == "0":
             entries = array_of(arrays[0], WORDS)
@@ -412,7 +420,43 @@ def steps_missing(asked):
             if entries[AT["LAYOUT"]] == AT["AIRBORNE"]:
                 seen.add((name, ("ALTITUDE", "GNSS_HEIGHT")[entries[AT["AIRBORNE_GNSS"]]], entries[AT["AIRBORNE_STEP"]]))
     due = {(name, sort, step) for name in ("look_up", "decode") for sort in ("ALTITUDE", "GNSS_HEIGHT") for step in (0, 25, 100)}
-    return (due | set(OLD_LENGTHS.items())) - seen
+    return (due | set(OLD_LENGTHS)) - seen
+
+
+# What people are shown of a track, and what each reading can be besides known and unknown
+SHOWN = dict.fromkeys("CALLSIGN CATEGORY_SET CATEGORY HEADING HEADING_STATUS AIRSPEED_KIND".split(), set())
+SHOWN |= dict.fromkeys("RATE_SOURCE ON_GROUND SURFACE_HEADING SURFACE_STATUS".split(), set())
+SHOWN |= dict.fromkeys("EAST NORTH AIRSPEED RATE".split(), {"OVER"}) | {"MOVEMENT": {"OVER", "NONE", "STOPPED"}}
+
+
+def shown_missing(asked):
+    """What was never seen of it: each reading as all that it can be, in the air and on the ground, a rate of traffic without its source."""
+    seen = set()
+    for call, outcome in asked:
+        words = outcome.split()
+        entries = array_of(words[2], WORDS) if call.startswith("look_up ") and words[1] == "0" else [0]
+        if entries[AT["TRACK_HELD"]]:
+            seen |= {(name, entries[AT[f"TRACK_{name}_IS"]]) for name in SHOWN} | {("ground", entries[AT["TRACK_ON_GROUND"]])}
+            traffic = int(call.split()[-1]) >> 24 > 2
+            seen.add(("rate", traffic, entries[AT["TRACK_RATE_IS"]], entries[AT["TRACK_RATE_SOURCE_IS"]]))
+    due = {(name, AT[kind]) for name, kinds in SHOWN.items() for kind in {"KNOWN", "UNKNOWN", *kinds}} | {("ground", 0), ("ground", 1)}
+    return (due | {("rate", traffic, AT["KNOWN"], AT["UNKNOWN" if traffic else "KNOWN"]) for traffic in (False, True)}) - seen
+
+
+def me_missing(asked):
+    """Which layouts were never read of an ME by itself; and the height difference, with ME bit 36 set and not, of traffic and of others."""
+    seen = set()
+    for call, outcome in asked:
+        words = outcome.split()
+        if call.startswith("me ") and words[1] == "0":
+            entries = array_of(words[2], WORDS)
+            seen.add(entries[AT["LAYOUT"]])
+            if entries[AT["LAYOUT"]] in (AT["GROUND"], AT["AIR"]):
+                traffic = int(call.split()[-1]) >> 24 > 2
+                seen.add((traffic, entries[AT["VERTICAL_SOURCE"]], entries[AT["VERTICAL_DIFFERENCE_IS"]]))
+    due = {AT[name] for name in ("IDENTIFICATION", "SURFACE", "AIRBORNE", "GROUND", "AIR")}
+    due |= {(traffic, 1, AT[kind]) for traffic in (False, True) for kind in STEPPED}
+    return (due | {(True, 0, AT["UNKNOWN"])} | {(False, 0, AT[kind]) for kind in STEPPED}) - seen
 
 
 def full_missing(asked):
@@ -442,7 +486,7 @@ def main():
         print(f"status {done.returncode} {done.stderr.decode()}\n{found}")
         return 1
     untried = [header_faults(), numbers_missing(asked), kinds_missing(asked), lost_missing(asked), traffic_missing(asked)]
-    untried += [steps_missing(asked), full_missing(asked), doubled_missing(asked)]
+    untried += [steps_missing(asked), shown_missing(asked), me_missing(asked), full_missing(asked), doubled_missing(asked)]
     if any(untried):
         print(f"the header has other numbers than the paper, or these were never tried: {untried}")
         return 1

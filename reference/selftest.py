@@ -12,6 +12,7 @@ from pathlib import Path
 from random import Random
 
 import captures
+import embedding
 import make_samples
 import messages
 import positions
@@ -701,6 +702,21 @@ def differences():
         equal("CF", (message["CA or CF"], messages.is_traffic(message)), (cf, cf != 1))
 
 
+def on_the_ground():
+    """What C is told of it: the last position message was a surface position, an airborne one, or there was none; no other counts."""
+    chance, sorts = Random(25), {None: {}, "air": {"IS": 1, "": 0}, "surface": {"IS": 1, "": 1}}
+    for _ in range(400):
+        track, last = Track(), None
+        for time in range(1, 12):
+            string = message_vectors.random_acceptable(chance)
+            type_code = string[4] >> 3
+            track = tracks.step(track, string, HERE, time)
+            last = "surface" if 5 <= type_code <= 8 else "air" if 9 <= type_code <= 22 and type_code != 19 else last
+            told = embedding.shown(track, False)
+            due = {f"TRACK_ON_GROUND{'_' if name else ''}{name}": value for name, value in sorts[last].items()}
+            equal("on the ground", {name: told[name] for name in told if "ON_GROUND" in name}, due)
+
+
 def bytes_of_tracks():
     """A body of a track, read again; the layout's offsets; a table that no set-up made."""
     chance = Random(16)
@@ -957,6 +973,7 @@ TESTS = [
     kinds,
     begun,
     differences,
+    on_the_ground,
     bytes_of_tracks,
     swept_tables,
     listings,

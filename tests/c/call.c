@@ -21,6 +21,7 @@ const struct shape shapes[FUNCTIONS] = {
     {"single", NO_TABLE, NOTHING, 6, WORDS},
     {"decode", NO_TABLE, BYTES, 0, WORDS},
     {"encode", NO_TABLE, WORDS, 0, BYTES},
+    {"me", NO_TABLE, NOTHING, 2, WORDS},
 };
 
 static struct lent table, given, result;
@@ -84,6 +85,8 @@ static uint64_t without_table(const struct call *call) {
                                 (uint32_t)n[5], words, length);
     case DECODE:
         return addercoil_decode(given.at, call->given_size, words, length);
+    case ME:
+        return addercoil_me(n[0], (uint32_t)n[1], words, length);
     default:
         return addercoil_encode((const uint64_t *)given.at, call->given_size / WORDS, result.at, length);
     }

@@ -31,6 +31,7 @@ enum function {
     SINGLE,
     DECODE,
     ENCODE,
+    ME,
     FUNCTIONS
 };
 

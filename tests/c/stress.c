@@ -231,6 +231,7 @@ static size_t result_length(enum function function) {
     case SINGLE:
         return about(ADDERCOIL_SPOT);
     case DECODE:
+    case ME:
         return about(ADDERCOIL_FIELDS);
     case ENCODE:
         return about(ADDERCOIL_MESSAGE);
@@ -294,6 +295,11 @@ static uint64_t make_number(enum function function, int i, uint64_t time) {
             return below(16) == 0 ? number() : below(2);
         }
         return function == HEADER || below(8) == 0 ? number() : key;
+    case ME:
+        if (i == 0) {
+            return below(8) == 0 ? number() : any() >> 8;
+        }
+        return below(8) == 0 ? number() : key;
     case PAIR:
         return below(32) == 0 ? number() : below(i == 4 ? 2 : 131072);
     case ENCODE_POSITION:

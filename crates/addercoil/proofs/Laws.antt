@@ -17,8 +17,7 @@ use Rattle.entries.specs.Arrays.{filled}
 use Rattle.entries.proofs.Filling.{filled-at}
 use Rattle.fields.specs.Bytes.{Bytes}
 use Rattle.fields.proofs.Bools.{by-test}
-use Rattle.layouts.specs.declared.bodies.Body.{Body}
-use Rattle.layouts.specs.declared.bodies.Body.the-variants as body
+use Rattle.layouts.specs.Bodies.{bodyLayout, bodyFields}
 use Rattle.messages.specs.declared.Message.{Message}
 use Rattle.messages.specs.declared.Decoded.{Decoded}
 use Rattle.messages.specs.declared.Decoded.the-variants as decode
@@ -34,10 +33,11 @@ use Rattle.text.proofs.Fits.{header-most, row-most}
 use Rattle.table_bytes.specs.Layout.{clockOf}
 use Rattle.report.specs.Listing.{rowFor, rowsIn, lineText, lineFor, headerFor}
 use Rattle.rows.specs.From.{messageFrom}
-use Rattle.rows.specs.declared.message.Four.{Four}
-use Rattle.rows.specs.Rows.{rowOf, bodyRow, messageFour, messageRow}
+use Rattle.rows.specs.Rows.{messageFour, messageRow}
 use Rattle.rows.specs.Same.{Same}
 use Rattle.rows.proofs.BothWays.{from-row}
+use Rattle.rows.proofs.Cutting.{filled-all}
+use Rattle.rows.proofs.Laid.{row-length}
 use Rattle.rows.proofs.ReadBack.{from-same}
 use Rattle.addercoil.specs.Sent.{Sent, sent, into}
 use Rattle.addercoil.specs.Lines.{lineBuffer}
@@ -46,25 +46,12 @@ use Rattle.addercoil.proofs.Encoding.{encode-right}
 
 -- ---- a row fills its array
 
-row-length : (m : Message) (key : ℕ) (b : Body) (four : Four) → length (bodyRow m key b four) ≡ 28
-unfolding rowOf
-row-length m key (body.Identification b) four = refl
-row-length m key (body.Surface b) four = refl
-row-length m key (body.Airborne b) four = refl
-row-length m key (body.Ground b) four = refl
-row-length m key (body.Air b) four = refl
-
-row-filled : (m : Message) (key : ℕ) (b : Body) (four : Four) → filled 28 (bodyRow m key b four) ≡ bodyRow m key b four
-unfolding rowOf
-row-filled m key (body.Identification b) four = refl
-row-filled m key (body.Surface b) four = refl
-row-filled m key (body.Airborne b) four = refl
-row-filled m key (body.Ground b) four = refl
-row-filled m key (body.Air b) four = refl
+message-length : (m : Message) → length (messageRow m) ≡ 28
+message-length m = row-length (bodyLayout (m .body)) (m .format) (m .control) (m .address) (keyOf m) (bodyFields (m .body)) (messageFour m)
 
 row-into : (out : List ℕ) (m : Message) → length out ≡ 28 → into 28 out (gives (messageRow m)) ≡ sent 0 (messageRow m)
 unfolding into
-row-into out m h = rw (eq-eqb _ _ h) (ap (sent 0) (ap (λ (n : ℕ). filled n (messageRow m)) h ∙ row-filled m (keyOf m) (m .body) (messageFour m)))
+row-into out m h = rw (eq-eqb _ _ h) (ap (sent 0) (ap (λ (n : ℕ). filled n (messageRow m)) (h ∙ sym (message-length m)) ∙ filled-all (messageRow m)))
 
 decoded-into : (s out : List ℕ) (m : Message) → length out ≡ 28 → decoded s ≡ decode.Message m → into 28 out (messageSaid (decoded s)) ≡ sent 0 (messageRow m)
 decoded-into s out m h d = ap (λ (x : Decoded). into 28 out (messageSaid x)) d ∙ row-into out m h
@@ -77,7 +64,7 @@ decoded-encoded s fields out m h f l d =
     let g = encoder.decoded-encoded s out m h l d in
     let fit = messages.decoded-good s m h d .0 in
     ap (λ (x : Sent). encodedFrom (x .array) out) (decoded-into s fields m f d)
-    ∙ sym (encode-right out (messageRow m) (rw (eq-eqb _ _ (row-length m (keyOf m) (m .body) (messageFour m)), eq-eqb _ _ l)) (sym (from-row m fit)) (sym (ap₂ sent (ap encodedNumber (g .0)) (g .1))))
+    ∙ sym (encode-right out (messageRow m) (rw (eq-eqb _ _ (message-length m), eq-eqb _ _ l)) (sym (from-row m fit)) (sym (ap₂ sent (ap encodedNumber (g .0)) (g .1))))
 
 -- ---- fields that are accepted, encoded and decoded, come back equal
 
@@ -108,7 +95,7 @@ module _ (fields out other : List ℕ) (h : length other ≡ 28) where
   back (decode.Message m) e n =
       let g = if-written (eqb (length out) 14) (messageFits m) n in
       let d : decoded (encodedBytes m out) ≡ decode.Message m = rw (g .0, g .1) (messages.encoded-decoded m (g .1)) in
-      (m, decoded-into (encodedBytes m out) other m h d, from-same fields m e (g .1))
+      (m, decoded-into (encodedBytes m out) other m h d, from-same fields m e)
   back (decode.Refused r) e n = absurd (some-number r n)
 
   pub encoded-decoded : Back (encodedFrom fields out)

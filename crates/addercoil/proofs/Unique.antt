@@ -34,6 +34,8 @@ use Rattle.addercoil.proofs.numbers.addercoil_look_up.Kinds as look-up-
 use Rattle.addercoil.proofs.numbers.addercoil_look_up.Reads as look-up
 use Rattle.addercoil.proofs.numbers.addercoil_decode.Kinds as decode-kinds
 use Rattle.addercoil.proofs.numbers.addercoil_decode.Reads as decode
+use Rattle.addercoil.proofs.me.addercoil_me.Kinds as me-kinds
+use Rattle.addercoil.proofs.me.addercoil_me.Reads as me
 use Rattle.addercoil.proofs.numbers.addercoil_encode.Kinds as encode-kinds
 use Rattle.addercoil.proofs.numbers.addercoil_encode.Reads as encode
 
@@ -81,6 +83,9 @@ look-up-once κs args x y left left′ p q = p ∙ sym q
 
 pub decode-once : OneOutcome 2 decode-kinds.ps decode-kinds.r Sent (λ κs x left. sent x (left .1 .0 .now)) decode.Post
 decode-once κs args x y left left′ p q = p ∙ sym q
+
+pub me-once : OneOutcome 1 me-kinds.ps me-kinds.r Sent (λ κs x left. sent x (left .1 .1 .0 .now)) me.Post
+me-once κs args x y left left′ p q = p ∙ sym q
 
 pub encode-once : OneOutcome 2 encode-kinds.ps encode-kinds.r Sent (λ κs x left. sent x (left .1 .0 .now)) encode.Post
 encode-once κs args x y left left′ p q = p ∙ sym q

@@ -1,4 +1,5 @@
 pub mod Lines
+pub mod Me
 pub mod Messages
 pub mod Sent
 pub mod Spots

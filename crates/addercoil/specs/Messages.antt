@@ -6,6 +6,7 @@ use lib.Dec.{eqb}
 use lib.ListN.{length}
 use Rattle.refusals.specs.Numbers.{numberOf}
 use Rattle.refusals.specs.Said.{Said, number, gives}
+use Rattle.keys.specs.Keys.{trafficIn}
 use Rattle.messages.specs.declared.Decoded.{Decoded}
 use Rattle.messages.specs.declared.Decoded.the-variants as decode
 use Rattle.encoder.specs.declared.Encoded.{Encoded}
@@ -21,13 +22,13 @@ use Rattle.rows.specs.Tracks.{trackRow}
 use Rattle.addercoil.specs.Sent.{Sent, sent}
 
 -- the track of a key that is held; zeros for one that is not
-abbrev pub heldSaid : Track → Holding → Said (List ℕ)
-heldSaid t holding.Held = gives (trackRow t)
-heldSaid t holding.Unheld = gives (0 ∷ [])
-heldSaid t (holding.Refused r) = number (numberOf r)
+abbrev pub heldSaid : ℕ → Track → Holding → Said (List ℕ)
+heldSaid key t holding.Held = gives (trackRow (trafficIn key) t)
+heldSaid key t holding.Unheld = gives (0 ∷ [])
+heldSaid key t (holding.Refused r) = number (numberOf r)
 
-abbrev pub lookedSaid : Looked → Said (List ℕ)
-lookedSaid l = heldSaid (l .track) (l .answer)
+abbrev pub lookedSaid : ℕ → Looked → Said (List ℕ)
+lookedSaid key l = heldSaid key (l .track) (l .answer)
 
 -- a decoded message
 abbrev pub messageSaid : Decoded → Said (List ℕ)

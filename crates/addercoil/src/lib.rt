@@ -1,6 +1,7 @@
 // Addercoil for C: functions on numbers and lent arrays alone, each a call of the crate that does the work. The header is include/addercoil.h.
 mod give;
 mod lines;
+mod me;
 mod numbers;
 mod spots;
 mod tables;

@@ -1,21 +1,25 @@
 // A track and a message as rows of numbers, and a message back from its row.
 use crate::give::give;
 use encoder::Encoded;
+use messages::Accepted;
 use messages::Decoded;
+use messages::Frame;
 use rules::Holding;
 use track::Track;
 ghost use mathlib.Core.Path.{_≡_};
+ghost use lib.ListN.{length};
 ghost use Rattle.messages.specs.Message.{decoded};
+ghost use Rattle.messages.specs.Accepted.{frameSays, decodedBy};
 ghost use Rattle.table.specs.Table.{lookedUp};
 ghost use Rattle.addercoil.specs.Sent.{sent, given, into};
 ghost use Rattle.addercoil.specs.Messages.{heldSaid, lookedSaid, messageSaid, encodedNumber, encodedAs, encodedFrom};
 
-fn give_held(out: &mut [u64], t: Track, answer: Holding) -> u32
-    ensures { λ r. ⌜ sent r (now (out .exit)) ≡ given (now (out .entry)) (heldSaid t answer) ⌝ }
+fn give_held(out: &mut [u64], key: u32, t: Track, answer: Holding) -> u32
+    ensures { λ r. ⌜ sent r (now (out .exit)) ≡ given (now (out .entry)) (heldSaid key t answer) ⌝ }
 {
     match answer {
         Holding::Held => {
-            let row = rows::track_values(t);
+            let row = rows::track_values(t, keys::traffic_in(key));
             give(out, &row)
         }
         Holding::Unheld => give(out, &[0]),
@@ -23,29 +27,43 @@ fn give_held(out: &mut [u64], t: Track, answer: Holding) -> u32
     }
 }
 
-// The track of a key, zeros if it is not held, into 27 entries. Or 1, then 7.
+// The track of a key, zeros if it is not held, into 57 entries. Or 1, then 7.
 #[no_mangle]
 pub extern "C" fn addercoil_look_up(table: &[u8], key: u32, out: &mut [u64]) -> u32
-    ensures { λ r. ⌜ sent r (now (out .exit)) ≡ into 27 (now (out .entry)) (lookedSaid (lookedUp (now (table .entry)) key)) ⌝ }
+    ensures { λ r. ⌜ sent r (now (out .exit)) ≡ into 57 (now (out .entry)) (lookedSaid key (lookedUp (now (table .entry)) key)) ⌝ }
 {
-    if out.len() != 27 {
+    if out.len() != 57 {
         return 1;
     }
     let looked = table::look_up(table, key);
     let answer = looked.answer;
     let track = looked.track;
-    give_held(out, track, answer)
+    give_held(out, key, track, answer)
 }
 
-fn give_message(out: &mut [u64], answer: Decoded) -> u32
-    ensures { λ r. ⌜ sent r (now (out .exit)) ≡ given (now (out .entry)) (messageSaid answer) ⌝ }
+fn give_frame(out: &mut [u64], f: Frame) -> u32
+    requires { ⌜ length (now out) ≡ 28 ⌝ }
+    ensures { λ r. ⌜ sent r (now (out .exit)) ≡ given (now (out .entry)) (messageSaid (frameSays f)) ⌝ }
+{
+    let layout = layouts::layout_of(f.me);
+    if !layouts::is_layout(layout) {
+        return 5;
+    }
+    rows::put_me(out, layout, f.me, messages::traffic_by(f.format, f.control));
+    out[1] = f.format as u64;
+    out[2] = f.control as u64;
+    out[3] = f.address as u64;
+    out[4] = messages::frame_key(f) as u64;
+    0
+}
+
+fn give_message(out: &mut [u64], answer: Accepted) -> u32
+    requires { ⌜ length (now out) ≡ 28 ⌝ }
+    ensures { λ r. ⌜ sent r (now (out .exit)) ≡ given (now (out .entry)) (messageSaid (decodedBy answer)) ⌝ }
 {
     match answer {
-        Decoded::Message(m) => {
-            let row = rows::message_values(m);
-            give(out, &row)
-        }
-        Decoded::Refused(r) => refusals::number(r),
+        Accepted::Frame(f) => give_frame(out, f),
+        Accepted::Refused(r) => refusals::number(r),
     }
 }
 
@@ -57,7 +75,7 @@ pub extern "C" fn addercoil_decode(message: &[u8], fields: &mut [u64]) -> u32
     if fields.len() != 28 {
         return 1;
     }
-    give_message(fields, messages::decode(message))
+    give_message(fields, messages::frame_in(message))
 }
 
 fn encoded_number(answer: Encoded) -> u32

@@ -4,6 +4,8 @@ use mathlib.Core.Path.{sym, _∙_}
 use Rattle.refusals.specs.Answers.{OneAnswer}
 use Rattle.keys.proofs.letter_in.Kinds as letter-in-kinds
 use Rattle.keys.proofs.letter_in.Reads as letter-in
+use Rattle.keys.proofs.traffic_in.Kinds as traffic-in-kinds
+use Rattle.keys.proofs.traffic_in.Reads as traffic-in
 use Rattle.keys.proofs.key_for.Kinds as key-for-kinds
 use Rattle.keys.proofs.key_for.Reads as key-for
 use Rattle.keys.proofs.address_in.Kinds as address-in-kinds
@@ -13,6 +15,9 @@ use Rattle.keys.proofs.is_key.Reads as is-key
 
 pub letter-in-once : OneAnswer 0 letter-in-kinds.ps letter-in-kinds.r letter-in.Post
 letter-in-once κs args x y left left′ p q = p ∙ sym q
+
+pub traffic-in-once : OneAnswer 0 traffic-in-kinds.ps traffic-in-kinds.r traffic-in.Post
+traffic-in-once κs args x y left left′ p q = p ∙ sym q
 
 pub key-for-once : OneAnswer 0 key-for-kinds.ps key-for-kinds.r key-for.Post
 key-for-once κs args x y left left′ p q = p ∙ sym q

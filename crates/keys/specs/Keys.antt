@@ -59,6 +59,10 @@ kindIn key = getD kinds (key / 2 ^ 24 - 1) N
 abbrev pub letterIn : ℕ → ℕ
 letterIn key = letterOf (kindIn key)
 
+-- whether a ground station's traffic service sends its messages
+abbrev pub trafficIn : ℕ → Bool
+trafficIn key = isTraffic (kindIn key)
+
 -- a key's address
 abbrev pub addressIn : ℕ → ℕ
 addressIn key = low24 key

@@ -1,6 +1,6 @@
 // A track's key: AA with its kind, in one number, the kind above the 24 bits of the address. The order of the numbers is the listing's: by kind, then by address.
 ghost use mathlib.Core.Path.{_≡_};
-ghost use Rattle.keys.specs.Keys.{numberOf, letterOf, keyFor, kindIn, letterIn, addressIn, isKey};
+ghost use Rattle.keys.specs.Keys.{numberOf, letterOf, keyFor, kindIn, letterIn, isTraffic, trafficIn, addressIn, isKey};
 
 // The kinds in the order of their keys.
 pub enum Kind {
@@ -39,6 +39,19 @@ fn letter_of(kind: Kind) -> u8
     }
 }
 
+// Whether a ground station's traffic service sends a kind.
+fn is_traffic(kind: Kind) -> bool
+    ensures { λ r. ⌜ r ≡ isTraffic kind ⌝ }
+{
+    match kind {
+        Kind::I => false,
+        Kind::O => false,
+        Kind::T => true,
+        Kind::M => true,
+        Kind::N => true,
+    }
+}
+
 // The key of a kind and an address, which counts by its low 24 bits.
 pub fn key_for(kind: Kind, address: u32) -> u32
     ensures { λ r. ⌜ r ≡ keyFor kind address ⌝ }
@@ -70,6 +83,13 @@ pub fn letter_in(key: u32) -> u8
     ensures { λ r. ⌜ r ≡ letterIn key ⌝ }
 {
     letter_of(kind_in(key))
+}
+
+// Whether a ground station's traffic service sends the messages of a key.
+pub fn traffic_in(key: u32) -> bool
+    ensures { λ r. ⌜ r ≡ trafficIn key ⌝ }
+{
+    is_traffic(kind_in(key))
 }
 
 // The 24 bits of a key's address.

@@ -17,7 +17,7 @@ use Rattle.fields.proofs.Fits.{fits-fit, unpack-fits}
 use Rattle.fields.proofs.Packing.{pack-unpack, pack-lt}
 use Rattle.layouts.specs.Layouts.{isIdentification, isSurface, isAirborne, identificationWidths, surfaceWidths, airborneWidths}
 use Rattle.layouts.specs.Velocity.{isGround, isAir, velocityWidths}
-use Rattle.layouts.specs.Bodies.{layoutAt, typeIn, layoutOf, flagBy, flagIn, takenAs, taken, bodyType, flagOf, bodyFields, bodyWidths, typeAgrees, bodyMe, bodyFits, written}
+use Rattle.layouts.specs.Bodies.{layoutAt, typeIn, layoutOf, flagBy, flagIn, layoutWidths, takenAs, taken, bodyLayout, bodyType, flagOf, bodyFields, bodyWidths, typeAgrees, bodyMe, bodyFits, written}
 use Rattle.layouts.specs.declared.bodies.Body.{Body}
 use Rattle.layouts.specs.declared.bodies.Body.the-variants as body
 use Rattle.layouts.specs.declared.bodies.Layout.{Layout}
@@ -111,6 +111,25 @@ read-back (body.Air b) e =
     ap (λ (l : List ℕ). takenAs (layoutAt (getD l 0 0) (getD l 1 0)) n) (unpacked air b f)
     ∙ ap (λ (t : ℕ). takenAs (layoutAt t (b .subtype)) n) h
     ∙ simp (above 1 2 (b .subtype) (from-low 3 4 (b .subtype) r), r) (ap (λ x. read.Body (body.Air x)) (back air b f))
+
+-- ---- the layout and the fields, by the bits
+
+-- of what the bits n were read as, in a layout
+abbrev Cut : Layout → ℕ → Taken → Type 0
+Cut l n (read.Body b) = (bodyLayout b ≡ l) × (bodyFields b ≡ unpack (layoutWidths l) n)
+Cut l n (read.Refused r) = Unit
+
+cut-as : (l : Layout) (n : ℕ) → Cut l n (takenAs l n)
+cut-as layout.Identification n = (refl, refl)
+cut-as layout.Surface n = (refl, refl)
+cut-as layout.Airborne n = (refl, refl)
+cut-as layout.Ground n = (refl, refl)
+cut-as layout.Air n = (refl, refl)
+cut-as layout.NotTaken n = tt
+
+-- a body has the layout of its bits, and its fields are the bits by the layout's widths
+pub fields-read : (n : ℕ) (b : Body) → taken n ≡ read.Body b → (bodyLayout b ≡ layoutOf n) × (bodyFields b ≡ unpack (layoutWidths (layoutOf n)) n)
+fields-read n b e = subst (Cut (layoutOf n) n) e (cut-as (layoutOf n) n)
 
 -- ---- TYPE and the flag, by the bits
 

@@ -4,8 +4,12 @@ use mathlib.Core.Path.{sym, _∙_}
 use Rattle.refusals.specs.Answers.{OneAnswer}
 use Rattle.layouts.proofs.airborne.airborne_of.Kinds as airborne-of-kinds
 use Rattle.layouts.proofs.airborne.airborne_of.Reads as airborne-of
+use Rattle.layouts.proofs.bodies.body_as.Kinds as body-as-kinds
+use Rattle.layouts.proofs.bodies.body_as.Reads as body-as
 use Rattle.layouts.proofs.bodies.body_of.Kinds as body-of-kinds
 use Rattle.layouts.proofs.bodies.body_of.Reads as body-of
+use Rattle.layouts.proofs.bodies.is_layout.Kinds as is-layout-kinds
+use Rattle.layouts.proofs.bodies.is_layout.Reads as is-layout
 use Rattle.layouts.proofs.bodies.is_taken.Kinds as is-taken-kinds
 use Rattle.layouts.proofs.bodies.is_taken.Reads as is-taken
 use Rattle.layouts.proofs.bodies.layout_of.Kinds as layout-of-kinds
@@ -82,3 +86,9 @@ ground-fits-once κs args x y left left′ p q = p ∙ sym q
 
 pub air-fits-once : OneAnswer 0 air-fits-kinds.ps air-fits-kinds.r air-fits.Post
 air-fits-once κs args x y left left′ p q = p ∙ sym q
+
+pub body-as-once : OneAnswer 0 body-as-kinds.ps body-as-kinds.r body-as.Post
+body-as-once κs args x y left left′ p q = p ∙ sym q
+
+pub is-layout-once : OneAnswer 0 is-layout-kinds.ps is-layout-kinds.r is-layout.Post
+is-layout-once κs args x y left left′ p q = p ∙ sym q

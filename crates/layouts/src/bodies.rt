@@ -22,7 +22,7 @@ use crate::velocity::ground_of;
 use refusals::Refusal;
 ghost use mathlib.Core.Path.{_≡_};
 ghost use mathlib.Core.Bool.{true};
-ghost use Rattle.layouts.specs.Bodies.{typeIn, layoutOf, isTaken, flagIn, taken, written, bodyType, flagOf, bodyMe, bodyFits};
+ghost use Rattle.layouts.specs.Bodies.{typeIn, layoutOf, isTaken, flagIn, takenAs, taken, written, bodyType, flagOf, bodyMe, bodyFits};
 ghost use Rattle.layouts.specs.Layouts.{isPosition};
 
 pub enum Body {
@@ -79,11 +79,10 @@ pub fn layout_of(me: u64) -> Layout
     Layout::NotTaken
 }
 
-// Whether ME has a layout, so that it does not earn 5.
-pub fn is_taken(me: u64) -> bool
-    ensures { λ r. ⌜ r ≡ isTaken (layoutOf me) ⌝ }
+// Whether a layout is one.
+pub fn is_layout(layout: Layout) -> bool
+    ensures { λ r. ⌜ r ≡ isTaken layout ⌝ }
 {
-    let layout = layout_of(me);
     match layout {
         Layout::Identification => true,
         Layout::Surface => true,
@@ -92,6 +91,13 @@ pub fn is_taken(me: u64) -> bool
         Layout::Air => true,
         Layout::NotTaken => false,
     }
+}
+
+// Whether ME has a layout, so that it does not earn 5.
+pub fn is_taken(me: u64) -> bool
+    ensures { λ r. ⌜ r ≡ isTaken (layoutOf me) ⌝ }
+{
+    is_layout(layout_of(me))
 }
 
 // TYPE of ME.
@@ -129,6 +135,20 @@ pub fn body_of(me: u64) -> Taken
     ensures { λ r. ⌜ r ≡ taken me ⌝ }
 {
     let layout = layout_of(me);
+    match layout {
+        Layout::Identification => Taken::Body(Body::Identification(identification_of(me))),
+        Layout::Surface => Taken::Body(Body::Surface(surface_of(me))),
+        Layout::Airborne => Taken::Body(Body::Airborne(airborne_of(me))),
+        Layout::Ground => Taken::Body(Body::Ground(ground_of(me))),
+        Layout::Air => Taken::Body(Body::Air(air_of(me))),
+        Layout::NotTaken => Taken::Refused(Refusal::TypeCode),
+    }
+}
+
+// The same, for who has the layout already. It is not called above: what has one caller costs less there, and a message pays for it.
+pub fn body_as(layout: Layout, me: u64) -> Taken
+    ensures { λ r. ⌜ r ≡ takenAs layout me ⌝ }
+{
     match layout {
         Layout::Identification => Taken::Body(Body::Identification(identification_of(me))),
         Layout::Surface => Taken::Body(Body::Surface(surface_of(me))),

@@ -21,7 +21,7 @@ use Rattle.layouts.specs.declared.bodies.Taken.{Taken}
 use Rattle.layouts.specs.declared.bodies.Taken.the-variants as read
 use Rattle.layouts.proofs.BothWays.{read-good}
 use Rattle.messages.specs.Message.{bits, formatTaken, isReserved, opened, decoded}
-use Rattle.messages.specs.Accepted.{frameOf, frameReserved, framed, accepted, openedAs, IsAccepted}
+use Rattle.messages.specs.Accepted.{frameOf, frameReserved, framed, accepted, headed, frameIn, frameSays, decodedBy, openedAs, IsAccepted}
 use Rattle.messages.specs.Said.{acceptedSaid, earns1, earns3, earns4, acceptTable}
 use Rattle.messages.specs.declared.Frame.{Frame}
 use Rattle.messages.specs.declared.Message.{Message}
@@ -75,6 +75,23 @@ accepted-opened s = by-cases (eqb (length s) 14) (eqb (remainder s) 0)
     by-cases false p = refl
     by-cases true false = refl
     by-cases true true = opens (frameOf s)
+
+-- .. and what was opened, by TYPE and subtype
+
+pub frame-says : (s : List ℕ) → decoded s ≡ decodedBy (frameIn s)
+unfolding opened headed
+frame-says s =
+    let f : Frame = frameOf s in
+    by-cases (eqb (length s) 14) (eqb (remainder s) 0) (formatTaken (f .format) (f .control)) (frameReserved f)
+  where
+    by-cases : (l p t r : Bool)
+        → cond (not l) (decode.Refused Length) (cond (not p) (decode.Refused Parity) (cond (not t) (decode.Refused Format) (cond r (decode.Refused TypeCode) (frameSays (frameOf s)))))
+        ≡ decodedBy (cond (not l) (accept.Refused Length) (cond (not p) (accept.Refused Parity) (cond (not t) (accept.Refused Format) (cond r (accept.Refused TypeCode) (accept.Frame (frameOf s))))))
+    by-cases false p t r = refl
+    by-cases true false t r = refl
+    by-cases true true false r = refl
+    by-cases true true true true = refl
+    by-cases true true true false = refl
 
 -- ---- the message of a frame
 

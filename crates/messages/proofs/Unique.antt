@@ -18,6 +18,10 @@ use Rattle.messages.proofs.key_by.Kinds as key-by-kinds
 use Rattle.messages.proofs.key_by.Reads as key-by
 use Rattle.messages.proofs.key_of.Kinds as key-of-kinds
 use Rattle.messages.proofs.key_of.Reads as key-of
+use Rattle.messages.proofs.frame_in.Kinds as frame-in-kinds
+use Rattle.messages.proofs.frame_in.Reads as frame-in
+use Rattle.messages.proofs.traffic_by.Kinds as traffic-by-kinds
+use Rattle.messages.proofs.traffic_by.Reads as traffic-by
 use Rattle.messages.proofs.starts.Kinds as starts-kinds
 use Rattle.messages.proofs.starts.Reads as starts
 
@@ -47,3 +51,9 @@ starts-once κs args x y left left′ p q = p ∙ sym q
 
 pub frame-starts-once : OneAnswer 0 frame-starts-kinds.ps frame-starts-kinds.r frame-starts.Post
 frame-starts-once κs args x y left left′ p q = p ∙ sym q
+
+pub frame-in-once : OneAnswer 1 frame-in-kinds.ps frame-in-kinds.r frame-in.Post
+frame-in-once κs args x y left left′ p q = p ∙ sym q
+
+pub traffic-by-once : OneAnswer 0 traffic-by-kinds.ps traffic-by-kinds.r traffic-by.Post
+traffic-by-once κs args x y left left′ p q = p ∙ sym q

@@ -8,14 +8,14 @@ use lib.ListN.{length}
 use Rattle.refusals.specs.declared.Refusal.the-variants.{Length, Parity, Format, TypeCode}
 use Rattle.keys.specs.Keys.{isTraffic}
 use Rattle.parity.specs.Parity.{remainder}
-use Rattle.layouts.specs.Bodies.{typeIn, layoutOf, isTaken, flagIn}
+use Rattle.layouts.specs.Bodies.{typeIn, layoutOf, isTaken, flagIn, taken}
 use Rattle.messages.specs.declared.Frame.{Frame}
 use Rattle.messages.specs.declared.Message.{Message}
 use Rattle.messages.specs.declared.Accepted.{Accepted}
 use Rattle.messages.specs.declared.Accepted.the-variants as accept
 use Rattle.messages.specs.declared.Decoded.{Decoded}
 use Rattle.messages.specs.declared.Decoded.the-variants as decode
-use Rattle.messages.specs.Message.{bits, formatTaken, isReserved, opened, decoded, kindOf, keyBy, startsBy}
+use Rattle.messages.specs.Message.{bits, formatTaken, isReserved, withBody, opened, decoded, kindOf, keyBy, startsBy}
 
 -- DF, CA or CF, AA and ME
 abbrev pub frameOf : List ℕ → Frame
@@ -38,6 +38,28 @@ accepted s =
     cond (not (eqb (length s) 14)) (accept.Refused Length)
     (cond (not (eqb (remainder s) 0)) (accept.Refused Parity)
     (framed (frameOf s)))
+
+-- what is refused whatever TYPE and subtype are: 4, then 5 for a flag that is reserved
+unfoldable pub headed : Frame → Accepted
+headed f =
+    cond (not (formatTaken (f .format) (f .control))) (accept.Refused Format)
+    (cond (frameReserved f) (accept.Refused TypeCode)
+    (accept.Frame f))
+
+-- 1, then 3, then those
+abbrev pub frameIn : List ℕ → Accepted
+frameIn s =
+    cond (not (eqb (length s) 14)) (accept.Refused Length)
+    (cond (not (eqb (remainder s) 0)) (accept.Refused Parity)
+    (headed (frameOf s)))
+
+-- what a frame says by its TYPE and subtype: its fields, or 5
+abbrev pub frameSays : Frame → Decoded
+frameSays f = withBody (f .format) (f .control) (f .address) (taken (f .me))
+
+abbrev pub decodedBy : Accepted → Decoded
+decodedBy (accept.Frame f) = frameSays f
+decodedBy (accept.Refused r) = decode.Refused r
 
 -- what an accepted message says
 abbrev pub openedAs : Accepted → Decoded

@@ -9,8 +9,8 @@ ghost use lib.Dec.{eqb};
 ghost use lib.ListN.{length};
 ghost use Rattle.parity.specs.Parity.{remainder};
 ghost use Rattle.layouts.specs.Bodies.{flagIn};
-ghost use Rattle.messages.specs.Message.{formatTaken, isReserved, headTaken, withBody, opened, decoded, kindBy, kindOf, keyBy, keyOf, trafficBy, traffic, startsBy, starts};
-ghost use Rattle.messages.specs.Accepted.{frameOf, frameReserved, framed, accepted, frameKey, frameStarts};
+ghost use Rattle.messages.specs.Message.{formatTaken, isReserved, headTaken, withBody, decoded, kindBy, kindOf, keyBy, keyOf, trafficBy, traffic, startsBy, starts};
+ghost use Rattle.messages.specs.Accepted.{frameOf, frameReserved, framed, accepted, headed, frameIn, frameKey, frameStarts};
 
 pub struct Message {
     // DF
@@ -94,7 +94,7 @@ fn frame_reserved(f: Frame) -> bool
 }
 
 // Whether the traffic service sent it, whatever the flag.
-fn traffic_by(format: u8, control: u8) -> bool
+pub fn traffic_by(format: u8, control: u8) -> bool
     ensures { λ r. ⌜ r ≡ trafficBy format control ⌝ }
 {
     (format == 18) & ((control == 2) | (control == 5))
@@ -140,7 +140,7 @@ fn with_body(format: u8, control: u8, address: u32, taken: Taken) -> Decoded
     }
 }
 
-// The same answer. `traffic_by` is asked first, since it is asked again of the decoded message, for its readings: the compiler keeps it.
+// The same answer. `traffic_by` is asked first, since it is asked again for the readings: the compiler keeps it.
 fn decoder_reserves(f: Frame) -> bool
     ensures { λ r. ⌜ r ≡ frameReserved f ⌝ }
 {
@@ -150,30 +150,40 @@ fn decoder_reserves(f: Frame) -> bool
     frame_reserved(f)
 }
 
-// A message whose parity is right, with its ME unpacked.
-fn opened_of(f: Frame) -> Decoded
-    ensures { λ r. ⌜ r ≡ opened (f .format) (f .control) (f .address) (f .me) ⌝ }
+fn headed_as(f: Frame) -> Accepted
+    ensures { λ r. ⌜ r ≡ headed f ⌝ }
 {
     if !format_taken(f.format, f.control) {
-        return Decoded::Refused(Refusal::Format);
+        return Accepted::Refused(Refusal::Format);
     }
     if decoder_reserves(f) {
-        return Decoded::Refused(Refusal::TypeCode);
+        return Accepted::Refused(Refusal::TypeCode);
     }
-    with_body(f.format, f.control, f.address, layouts::body_of(f.me))
+    Accepted::Frame(f)
+}
+
+// The bits before PI, or why they are refused whatever TYPE and subtype are: the decoder asks for those once, with the layout.
+pub fn frame_in(s: &[u8]) -> Accepted
+    ensures { λ r. ⌜ r ≡ frameIn (now (s .entry)) ⌝ }
+{
+    if s.len() != 14 {
+        return Accepted::Refused(Refusal::Length);
+    }
+    if !parity_right(s) {
+        return Accepted::Refused(Refusal::Parity);
+    }
+    headed_as(frame_of(s))
 }
 
 // What 14 bytes say, or why they are refused.
 pub fn decode(s: &[u8]) -> Decoded
     ensures { λ r. ⌜ r ≡ decoded (now (s .entry)) ⌝ }
 {
-    if s.len() != 14 {
-        return Decoded::Refused(Refusal::Length);
+    let opened = frame_in(s);
+    match opened {
+        Accepted::Frame(f) => with_body(f.format, f.control, f.address, layouts::body_of(f.me)),
+        Accepted::Refused(r) => Decoded::Refused(r),
     }
-    if !parity_right(s) {
-        return Decoded::Refused(Refusal::Parity);
-    }
-    opened_of(frame_of(s))
 }
 
 // The kind of a message of DF 18.

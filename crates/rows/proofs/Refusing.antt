@@ -1,19 +1,24 @@
 -- No reading in a row is a refusal, of a decoded message or of a track with codes of 12 bits: the fields fit, so each reading gives something, and only a refusal is 5.
 -- Assumes nothing.
-use Prim.Native.Nat.{ℕ, _<_}
-use mathlib.Core.Path.{_≡_, refl, sym, subst⁻¹}
-use mathlib.Core.Bool.{Bool, true}
-use mathlib.Core.List.{List}
+use Prim.Native.Nat.{ℕ, suc, _^_, _<_}
+use mathlib.Core.Path.{_≡_, refl, sym, ap, ap₂, subst, subst⁻¹, _∙_}
+use mathlib.Core.Bool.{Bool, true, false≢true}
+use mathlib.Core.List.{List, [], _∷_, _++_}
 use native.Mathlib.Omega.{arith}
 use lib.ListN.{getD}
-use contract.Lifetimes.{Lfts}
-use denote.Triple.Clauses.{AtExit}
-use borrow.Fn.Kinds.{Dens, resT, endedOf}
+use borrow.Author.Tests.{eqb-true}
 use Rattle.fields.specs.Bytes.{Bytes}
+use Rattle.fields.specs.Packing.{unpack}
+use Rattle.fields.proofs.Bools.{by-test}
 use Rattle.layouts.specs.declared.bodies.Body.{Body}
 use Rattle.layouts.specs.declared.bodies.Body.the-variants as body
-use Rattle.layouts.specs.Bodies.{bodyFits}
-use Rattle.readings.specs.Bodies.{identificationMeans, surfaceMeans, airborneMeans, groundMeans, airMeans, bodyReadings}
+use Rattle.layouts.specs.declared.bodies.Layout.{Layout}
+use Rattle.layouts.specs.declared.bodies.Layout.the-variants as layout
+use Rattle.layouts.specs.declared.bodies.Taken.{Taken}
+use Rattle.layouts.specs.declared.bodies.Taken.the-variants as reads
+use Rattle.layouts.specs.Bodies.{layoutOf, isTaken, layoutWidths, takenAs, taken, bodyLayout, bodyFields, bodyFits}
+use Rattle.layouts.proofs.BothWays.{read-good, fields-read}
+use Rattle.readings.specs.Bodies.{identificationMeans, surfaceMeans, airborneMeans, groundMeans, airMeans, bodyReadings, readingsOf}
 use Rattle.readings.specs.declared.bodies.Readings.{Readings}
 use Rattle.readings.specs.Altitude.{altitudeOf}
 use Rattle.readings.specs.declared.altitude.Altitude.{Altitude}
@@ -23,15 +28,14 @@ use Rattle.readings.proofs.Whole.{read}
 use Rattle.entries.proofs.Refusing.{altitude-given, unknown-no-step, speed-given, rate-given, difference-given, heading-given, movement-given, set-given, text-given}
 use Rattle.messages.specs.declared.Message.{Message}
 use Rattle.messages.specs.declared.Decoded.the-variants as decode
-use Rattle.messages.specs.Message.{keyOf, decoded}
+use Rattle.messages.specs.Message.{keyOf, traffic, decoded}
 use Rattle.messages.proofs.BothWays.{decoded-good}
 use Rattle.messages.proofs.Fitting.{fits-body}
 use Rattle.track.specs.declared.Track.{Track}
 use Rattle.rows.specs.declared.message.Four.{Four}
-use Rattle.rows.specs.Rows.{rowOf, bodyRow, fourOf, messageFour, messageRow, NoneRefused}
-use Rattle.rows.specs.Tracks.{trackRow}
-use Rattle.rows.proofs.message.message_values.Kinds as message-values-kinds
-use Rattle.rows.proofs.message.message_values.Reads as message-values
+use Rattle.rows.specs.Rows.{layoutNumber, rowOf, meRow, fourOf, fourIn, messageFour, messageRow, NoneRefused, EachGiven}
+use Rattle.rows.specs.Shown.{rowIn, isOf, named, source, moving, onGround, taxiing, isSaved, shown}
+use Rattle.rows.specs.Tracks.{keptRow, trackRow}
 
 -- what each of four readings is
 abbrev Given4 : Four → Type 0
@@ -64,30 +68,121 @@ given (body.Air b) traffic e =
     (heading-given (r .heading) (g .0), speed-given (r .airspeed) (g .1), rate-given (r .rate) (g .2), difference-given (r .difference) (g .3))
 
 -- where the readings stand in a row
-in-row : (m : Message) (key : ℕ) (b : Body) (f : Four) → Given4 f → NoneRefused (bodyRow m key b f)
+in-row : (b : Body) (format control address key : ℕ) (f : Four) → Given4 f → NoneRefused (rowOf (bodyLayout b) (format ∷ control ∷ address ∷ key ∷ []) (bodyFields b) f)
 unfolding rowOf
-in-row m key (body.Identification b) f g = g
-in-row m key (body.Surface b) f g = g
-in-row m key (body.Airborne b) f g = g
-in-row m key (body.Ground b) f g = g
-in-row m key (body.Air b) f g = g
+in-row (body.Identification b) format control address key f g = g
+in-row (body.Surface b) format control address key f g = g
+in-row (body.Airborne b) format control address key f g = g
+in-row (body.Ground b) format control address key f g = g
+in-row (body.Air b) format control address key f g = g
+
+-- a body that fits
+four-given : (b : Body) (traffic : Bool) → bodyFits b ≡ true → Given4 (fourOf (readingsOf b traffic))
+four-given b traffic e = subst⁻¹ (λ (r : Readings). Given4 (fourOf r)) (read b _ true (sym e) refl) (given b traffic e)
 
 pub never-refused : (s : List ℕ) (m : Message) → Bytes s → decoded s ≡ decode.Message m → NoneRefused (messageRow m)
 never-refused s m h d =
-    let e = fits-body m (decoded-good s m h d .0) in
-    in-row m (keyOf m) (m .body) (messageFour m) (subst⁻¹ (λ (r : Readings). Given4 (fourOf r)) (read (m .body) _ true (sym e) refl) (given (m .body) _ e))
+    in-row (m .body) (m .format) (m .control) (m .address) (keyOf m) (messageFour m) (four-given (m .body) (traffic m) (fits-body m (decoded-good s m h d .0)))
 
--- and so of whatever meets the contract of `message_values`
-pub message-values-never-refused : (κs : Lfts 0) (args : Dens κs message-values-kinds.ps) (x : resT message-values-kinds.r κs .Denot)
-    (left : AtExit (endedOf 0 message-values-kinds.ps message-values-kinds.r) κs) → message-values.Post κs args x left
-    → (s : List ℕ) → Bytes s → decoded s ≡ decode.Message (args .0) → NoneRefused x
-message-values-never-refused κs args x left p s h d = subst⁻¹ NoneRefused p (never-refused s (args .0) h d)
+-- .. nor of an ME of 56 bits by itself, which has a layout
 
-pub track-never-refused : (t : Track) → t .groups .pressure < 4096 → t .groups .height < 4096 → (getD (trackRow t) 19 0 < 5) × (getD (trackRow t) 21 0 < 5) × (getD (trackRow t) 23 0 < 5) × (getD (trackRow t) 25 0 < 5)
-unfolding trackRow
-track-never-refused t p h =
+me-row-of : (n : ℕ) (traffic : Bool) (b : Body) → taken n ≡ reads.Body b
+    → rowOf (bodyLayout b) (0 ∷ 0 ∷ 0 ∷ 0 ∷ []) (bodyFields b) (fourOf (readingsOf b traffic)) ≡ meRow (layoutOf n) n traffic
+me-row-of n traffic b e =
+    let c = fields-read n b e in
+    ap₂ (λ (l : Layout) (v : List ℕ). rowOf l (0 ∷ 0 ∷ 0 ∷ 0 ∷ []) v (fourOf (readingsOf b traffic))) (c .0) (c .1)
+    ∙ ap (λ (t : Taken). rowOf (layoutOf n) (0 ∷ 0 ∷ 0 ∷ 0 ∷ []) (unpack (layoutWidths (layoutOf n)) n) (fourIn t traffic)) (sym e)
+
+pub by-layout : (l : Layout) (n : ℕ) → isTaken l ≡ true → (b : Body) × (takenAs l n ≡ reads.Body b)
+by-layout layout.Identification n e = (_, refl)
+by-layout layout.Surface n e = (_, refl)
+by-layout layout.Airborne n e = (_, refl)
+by-layout layout.Ground n e = (_, refl)
+by-layout layout.Air n e = (_, refl)
+by-layout layout.NotTaken n e = absurd (false≢true e)
+
+pub me-never-refused : (n : ℕ) (traffic : Bool) → n < 2 ^ 56 → isTaken (layoutOf n) ≡ true → NoneRefused (meRow (layoutOf n) n traffic)
+me-never-refused n traffic h t =
+    let r = by-layout (layoutOf n) n t in
+    subst NoneRefused (me-row-of n traffic (r .0) (r .1))
+    (in-row (r .0) 0 0 0 0 (fourOf (readingsOf (r .0) traffic)) (four-given (r .0) traffic (read-good n (r .0) h (r .1) .0)))
+
+-- ---- a track
+
+kept-given : (t : Track) → t .groups .pressure < 4096 → t .groups .height < 4096
+    → (getD (keptRow t) 19 0 < 5) × (getD (keptRow t) 21 0 < 5) × (getD (keptRow t) 23 0 < 5) × (getD (keptRow t) 25 0 < 5)
+unfolding keptRow
+kept-given t p h =
     let pressure = altitudeOf (t .groups .pressure) in
     let height = altitudeOf (t .groups .height) in
     let g = altitude-given pressure (altitude-known (t .groups .pressure) p) in
     let k = altitude-given height (altitude-known (t .groups .height) h) in
     (g, step-given pressure g, k, step-given height k)
+
+each-append : (a b : List ℕ) → EachGiven a → EachGiven b → EachGiven (a ++ b)
+each-append [] b g h = h
+each-append (w ∷ []) b g h = absurd g
+each-append (w ∷ v ∷ a) b g h = (g .0, each-append a b (g .1) h)
+
+some-layout : (l : Layout) (k : ℕ) → layoutNumber l ≡ suc k → isTaken l ≡ true
+some-layout layout.Identification k e = refl
+some-layout layout.Surface k e = refl
+some-layout layout.Airborne k e = refl
+some-layout layout.Ground k e = refl
+some-layout layout.Air k e = refl
+some-layout layout.NotTaken k e = let z : ⊥ = omega arith in absurd z
+
+module _ (traffic : Bool) where
+  -- the row of an ME that is of a layout
+  row-given : (n k : ℕ) → n < 2 ^ 56 → isOf (suc k) (rowIn traffic n) ≡ true → NoneRefused (rowIn traffic n)
+  unfolding rowOf
+  row-given n k h e = me-never-refused n traffic h (some-layout (layoutOf n) k (eqb-true _ _ e))
+
+  named-given : (n : ℕ) → n < 2 ^ 56 → EachGiven (named (rowIn traffic n))
+  unfolding named
+  named-given n h =
+      by-test EachGiven (isOf 1 (rowIn traffic n)) _ _
+      (λ e. let g = row-given n 0 h e in (g .1, (g .0, (omega arith, tt))))
+      (λ _. (omega arith, (omega arith, (omega arith, tt))))
+
+  source-given : (row : List ℕ) → EachGiven (source traffic row)
+  unfolding source
+  source-given row = by-test EachGiven traffic _ _ (λ _. (omega arith, tt)) (λ _. (omega arith, tt))
+
+  moving-given : (n : ℕ) → n < 2 ^ 56 → EachGiven (moving traffic (rowIn traffic n))
+  unfolding moving
+  moving-given n h =
+      by-test EachGiven (isOf 4 (rowIn traffic n)) _ _
+      (λ e. let g = row-given n 3 h e in (g .0, (g .1, (omega arith, (omega arith, (omega arith, (omega arith, (g .2, source-given (rowIn traffic n)))))))))
+      (λ _. by-test EachGiven (isOf 5 (rowIn traffic n)) _ _
+      (λ e. let g = row-given n 4 h e in (omega arith, (omega arith, (g .0, (omega arith, (g .1, (omega arith, (g .2, source-given (rowIn traffic n)))))))))
+      (λ _. (omega arith, (omega arith, (omega arith, (omega arith, (omega arith, (omega arith, (omega arith, (omega arith, tt))))))))))
+
+  ground-given : (encoded : Bool) (row : List ℕ) → EachGiven (onGround encoded row)
+  unfolding onGround
+  ground-given encoded row =
+      by-test EachGiven encoded _ _ (λ _. (omega arith, tt))
+      (λ _. by-test EachGiven (isOf 2 row) _ _ (λ _. (omega arith, tt)) (λ _. (omega arith, tt)))
+
+  taxiing-given : (n : ℕ) → n < 2 ^ 56 → EachGiven (taxiing (rowIn traffic n))
+  unfolding taxiing
+  taxiing-given n h =
+      by-test EachGiven (isOf 2 (rowIn traffic n)) _ _
+      (λ e. let g = row-given n 1 h e in (g .0, (g .1, (omega arith, tt))))
+      (λ _. (omega arith, (omega arith, (omega arith, tt))))
+
+  pub shown-never-refused : (t : Track) → t .groups .identification < 2 ^ 56 → t .groups .velocity < 2 ^ 56 → t .groups .surface < 2 ^ 56 → EachGiven (shown traffic t)
+  unfolding shown
+  shown-never-refused t i v s =
+      let surface : List ℕ = rowIn traffic (t .groups .surface) in
+      let n : List ℕ = named (rowIn traffic (t .groups .identification)) in
+      let m : List ℕ = moving traffic (rowIn traffic (t .groups .velocity)) in
+      let o : List ℕ = onGround (isSaved t) surface in
+      each-append n (m ++ (o ++ taxiing surface)) (named-given (t .groups .identification) i)
+      (each-append m (o ++ taxiing surface) (moving-given (t .groups .velocity) v)
+      (each-append o (taxiing surface) (ground-given (isSaved t) surface) (taxiing-given (t .groups .surface) s)))
+
+  pub track-never-refused : (t : Track) → t .groups .pressure < 4096 → t .groups .height < 4096
+      → (getD (trackRow traffic t) 19 0 < 5) × (getD (trackRow traffic t) 21 0 < 5) × (getD (trackRow traffic t) 23 0 < 5) × (getD (trackRow traffic t) 25 0 < 5)
+  unfolding trackRow keptRow
+  track-never-refused t p h = kept-given t p h

@@ -1,12 +1,16 @@
--- A message as 28 numbers: the layout, DF, CA or CF, AA and the key; then its ME fields in the order of their bits, 15 with zeros behind them; then up to four readings.
+-- A message as 28 numbers: the layout, DF, CA or CF, AA and the key; then its ME fields in the order of their bits, 15 with zeros behind them; then up to four readings. An ME by itself has zeros for what is not its own.
 use Prim.Native.Nat.{ℕ, _<_}
+use mathlib.Core.Bool.{Bool, cond}
 use mathlib.Core.List.{List, [], _∷_, _++_}
-use lib.ListN.{getD}
+use lib.Dec.{eqb}
+use lib.ListN.{length, getD}
 use Rattle.entries.specs.Arrays.{filled}
-use Rattle.layouts.specs.declared.bodies.Body.{Body}
-use Rattle.layouts.specs.declared.bodies.Body.the-variants as body
-use Rattle.layouts.specs.Layouts.{identificationFields, surfaceFields, airborneFields}
-use Rattle.layouts.specs.Velocity.{groundFields, airFields}
+use Rattle.fields.specs.Packing.{unpack}
+use Rattle.layouts.specs.declared.bodies.Layout.{Layout}
+use Rattle.layouts.specs.declared.bodies.Layout.the-variants as layout
+use Rattle.layouts.specs.declared.bodies.Taken.{Taken}
+use Rattle.layouts.specs.declared.bodies.Taken.the-variants as read
+use Rattle.layouts.specs.Bodies.{layoutWidths, takenAs, bodyLayout, bodyFields}
 use Rattle.readings.specs.declared.bodies.IdentificationReadings.{IdentificationReadings}
 use Rattle.readings.specs.declared.bodies.SurfaceReadings.{SurfaceReadings}
 use Rattle.readings.specs.declared.bodies.AirborneReadings.{AirborneReadings}
@@ -16,7 +20,7 @@ use Rattle.readings.specs.declared.bodies.Readings.{Readings}
 use Rattle.readings.specs.declared.bodies.Readings.the-variants as readings
 use Rattle.readings.specs.Bodies.{readingsOf}
 use Rattle.messages.specs.declared.Message.{Message}
-use Rattle.messages.specs.Message.{keyOf, traffic}
+use Rattle.messages.specs.Message.{headFields, keyOf, traffic}
 use Rattle.rows.specs.declared.message.Four.{Four}
 use Rattle.entries.specs.Means.{reading, bit, altitudeReading, stepReading, speedReading, rateReading, differenceReading, headingReading, movementReading, setReading, textReading}
 
@@ -89,25 +93,46 @@ fourValues f =
     f .first .what ∷ f .first .value ∷ f .second .what ∷ f .second .value ∷
     f .third .what ∷ f .third .value ∷ f .fourth .what ∷ f .fourth .value ∷ []
 
+-- of what the 56 bits say, in a traffic service's message or in another
+abbrev pub fourIn : Taken → Bool → Four
+fourIn (read.Body b) traffic = fourOf (readingsOf b traffic)
+fourIn (read.Refused r) traffic = refusedFour
+
 -- ---- the whole row
 
-unfoldable pub rowOf : ℕ → Message → ℕ → List ℕ → Four → List ℕ
-rowOf layout m key fields four = layout ∷ m .format ∷ m .control ∷ m .address ∷ key ∷ (filled 15 fields ++ fourValues four)
+abbrev pub layoutNumber : Layout → ℕ
+layoutNumber layout.NotTaken = 0
+layoutNumber layout.Identification = 1
+layoutNumber layout.Surface = 2
+layoutNumber layout.Airborne = 3
+layoutNumber layout.Ground = 4
+layoutNumber layout.Air = 5
 
-abbrev pub bodyRow : Message → ℕ → Body → Four → List ℕ
-bodyRow m key (body.Identification b) four = rowOf 1 m key (identificationFields b) four
-bodyRow m key (body.Surface b) four = rowOf 2 m key (surfaceFields b) four
-bodyRow m key (body.Airborne b) four = rowOf 3 m key (airborneFields b) four
-bodyRow m key (body.Ground b) four = rowOf 4 m key (groundFields b) four
-bodyRow m key (body.Air b) four = rowOf 5 m key (airFields b) four
+-- behind the layout what stands before ME, with the key
+unfoldable pub rowOf : Layout → List ℕ → List ℕ → Four → List ℕ
+rowOf l head fields four = layoutNumber l ∷ (head ++ (filled 15 fields ++ fourValues four))
+
+-- the 56 bits of ME, in a layout: cut by its widths, with what they mean; nothing before them
+abbrev pub meRow : Layout → ℕ → Bool → List ℕ
+meRow l n traffic = rowOf l (0 ∷ 0 ∷ 0 ∷ 0 ∷ []) (unpack (layoutWidths l) n) (fourIn (takenAs l n) traffic)
+
+-- what an array holds afterwards: one of another length is left as it was
+abbrev pub rowInto : List ℕ → List ℕ → List ℕ
+rowInto out row = cond (eqb (length out) 28) row out
 
 -- its readings go by whether it is a traffic service's message
 abbrev pub messageFour : Message → Four
 messageFour m = fourOf (readingsOf (m .body) (traffic m))
 
 abbrev pub messageRow : Message → List ℕ
-messageRow m = bodyRow m (keyOf m) (m .body) (messageFour m)
+messageRow m = rowOf (bodyLayout (m .body)) (headFields m ++ (keyOf m ∷ [])) (bodyFields (m .body)) (messageFour m)
 
 -- of the four readings in a row none was refused
 abbrev pub NoneRefused : List ℕ → Type 0
 NoneRefused row = (getD row 20 0 < 5) × (getD row 22 0 < 5) × (getD row 24 0 < 5) × (getD row 26 0 < 5)
+
+-- .. nor in a list of readings
+abbrev pub EachGiven : List ℕ → Type 0
+EachGiven [] = Unit
+EachGiven (what ∷ []) = ⊥
+EachGiven (what ∷ value ∷ l) = (what < 5) × EachGiven l

@@ -1,157 +1,63 @@
-// A message back from its 28 numbers. What is too large for its place becomes the largest number there, which the encoder refuses.
-use counts::LatitudeCount;
-use counts::LongitudeCount;
-use layouts::Air;
-use layouts::Airborne;
-use layouts::Body;
-use layouts::Ground;
-use layouts::Identification;
-use layouts::Surface;
-use layouts::Vertical;
+// A message back from its 28 numbers. One that is too large for its place is refused with 8.
+use crate::widths::layout_at;
+use crate::widths::number_of;
+use crate::widths::packed_as;
+use layouts::Taken;
+use layouts::Written;
 use messages::Decoded;
 use messages::Message;
 use refusals::Refusal;
 ghost use mathlib.Core.Path.{_≡_};
-ghost use Rattle.rows.specs.From.{byteAt, shortAt, wordAt, identificationFrom, surfaceFrom, airborneFrom, verticalFrom, groundFrom, airFrom, messageWith, messageFrom};
+ghost use Prim.Native.Nat.{_<_, _^_};
+ghost use Rattle.rows.specs.From.{messageWith, headWith, messageBy, messageFrom};
 
-fn byte_at(fields: &[u64], i: usize) -> u8
-    ensures { λ r. ⌜ r ≡ byteAt (now (fields .entry)) i ⌝ }
+fn message_with(format: u8, control: u8, address: u32, taken: Taken) -> Decoded
+    ensures { λ r. ⌜ r ≡ messageWith format control address taken ⌝ }
 {
-    let x = entries::entry(fields, i);
-    if x < 255 { x as u8 } else { 255 }
-}
-
-fn short_at(fields: &[u64], i: usize) -> u16
-    ensures { λ r. ⌜ r ≡ shortAt (now (fields .entry)) i ⌝ }
-{
-    let x = entries::entry(fields, i);
-    if x < 65535 { x as u16 } else { 65535 }
-}
-
-fn word_at(fields: &[u64], i: usize) -> u32
-    ensures { λ r. ⌜ r ≡ wordAt (now (fields .entry)) i ⌝ }
-{
-    let x = entries::entry(fields, i);
-    if x < 4294967295 { x as u32 } else { 4294967295 }
-}
-
-fn identification_from(fields: &[u64]) -> Identification
-    ensures { λ r. ⌜ r ≡ identificationFrom (now (fields .entry)) ⌝ }
-{
-    Identification {
-        typecode: byte_at(fields, 5),
-        category: byte_at(fields, 6),
-        characters: entries::entry(fields, 7),
+    match taken {
+        Taken::Body(b) => Decoded::Message(Message {
+            format: format,
+            control: control,
+            address: address,
+            body: b,
+        }),
+        Taken::Refused(_) => Decoded::Refused(Refusal::Field),
     }
 }
 
-fn surface_from(fields: &[u64]) -> Surface
-    ensures { λ r. ⌜ r ≡ surfaceFrom (now (fields .entry)) ⌝ }
+// DF, CA or CF and AA, each within its bits, with what ME says.
+fn head_with(format: u64, control: u64, address: u64, taken: Taken) -> Decoded
+    ensures { λ r. ⌜ r ≡ headWith format control address taken ⌝ }
 {
-    Surface {
-        typecode: byte_at(fields, 5),
-        movement: byte_at(fields, 6),
-        status: byte_at(fields, 7),
-        heading: byte_at(fields, 8),
-        t: byte_at(fields, 9),
-        f: byte_at(fields, 10),
-        latitude: LatitudeCount(word_at(fields, 11)),
-        longitude: LongitudeCount(word_at(fields, 12)),
+    if (format < 32) & (control < 8) & (address < 0x100_0000) {
+        message_with(format as u8, control as u8, address as u32, taken)
+    } else {
+        Decoded::Refused(Refusal::Field)
     }
 }
 
-fn airborne_from(fields: &[u64]) -> Airborne
-    ensures { λ r. ⌜ r ≡ airborneFrom (now (fields .entry)) ⌝ }
+// With an ME that has the layout which entry 0 says.
+fn with_me(fields: &[u64], me: u64) -> Decoded
+    ensures { λ r. ⌜ r ≡ messageBy (now (fields .entry)) (Written.Me me) ⌝ }
 {
-    Airborne {
-        typecode: byte_at(fields, 5),
-        surveillance: byte_at(fields, 6),
-        bit8: byte_at(fields, 7),
-        altitude: short_at(fields, 8),
-        t: byte_at(fields, 9),
-        f: byte_at(fields, 10),
-        latitude: LatitudeCount(word_at(fields, 11)),
-        longitude: LongitudeCount(word_at(fields, 12)),
+    let layout = layouts::layout_of(me);
+    if number_of(layout) != entries::entry(fields, 0) {
+        return Decoded::Refused(Refusal::Field);
     }
+    let format = entries::entry(fields, 1);
+    let control = entries::entry(fields, 2);
+    let address = entries::entry(fields, 3);
+    head_with(format, control, address, layouts::body_of(me))
 }
 
-fn vertical_from(fields: &[u64]) -> Vertical
-    ensures { λ r. ⌜ r ≡ verticalFrom (now (fields .entry)) ⌝ }
-{
-    Vertical {
-        source: byte_at(fields, 14),
-        down: byte_at(fields, 15),
-        rate: short_at(fields, 16),
-        reserved: byte_at(fields, 17),
-        below: byte_at(fields, 18),
-        difference: byte_at(fields, 19),
-    }
-}
-
-fn ground_from(fields: &[u64]) -> Ground
-    ensures { λ r. ⌜ r ≡ groundFrom (now (fields .entry)) ⌝ }
-{
-    Ground {
-        typecode: byte_at(fields, 5),
-        subtype: byte_at(fields, 6),
-        bit9: byte_at(fields, 7),
-        bit10: byte_at(fields, 8),
-        nacv: byte_at(fields, 9),
-        west: byte_at(fields, 10),
-        eastward: short_at(fields, 11),
-        south: byte_at(fields, 12),
-        northward: short_at(fields, 13),
-        vertical: vertical_from(fields),
-    }
-}
-
-fn air_from(fields: &[u64]) -> Air
-    ensures { λ r. ⌜ r ≡ airFrom (now (fields .entry)) ⌝ }
-{
-    Air {
-        typecode: byte_at(fields, 5),
-        subtype: byte_at(fields, 6),
-        bit9: byte_at(fields, 7),
-        bit10: byte_at(fields, 8),
-        nacv: byte_at(fields, 9),
-        status: byte_at(fields, 10),
-        heading: short_at(fields, 11),
-        airspeedkind: byte_at(fields, 12),
-        airspeed: short_at(fields, 13),
-        vertical: vertical_from(fields),
-    }
-}
-
-fn with_body(fields: &[u64], body: Body) -> Decoded
-    ensures { λ r. ⌜ r ≡ Decoded.Message (messageWith (now (fields .entry)) body) ⌝ }
-{
-    Decoded::Message(Message {
-        format: byte_at(fields, 1),
-        control: byte_at(fields, 2),
-        address: word_at(fields, 3),
-        body: body,
-    })
-}
-
-// A message from its 28 numbers, or 8 for a layout that there is not.
+// A message from its 28 numbers, or 8.
 pub fn message_from(fields: &[u64]) -> Decoded
     ensures { λ r. ⌜ r ≡ messageFrom (now (fields .entry)) ⌝ }
 {
-    let layout = entries::entry(fields, 0);
-    if layout == 1 {
-        return with_body(fields, Body::Identification(identification_from(fields)));
+    let layout = layout_at(entries::entry(fields, 0));
+    let written = packed_as(layout, fields);
+    match written {
+        Written::Me(me) => with_me(fields, me),
+        Written::Refused(r) => Decoded::Refused(r),
     }
-    if layout == 2 {
-        return with_body(fields, Body::Surface(surface_from(fields)));
-    }
-    if layout == 3 {
-        return with_body(fields, Body::Airborne(airborne_from(fields)));
-    }
-    if layout == 4 {
-        return with_body(fields, Body::Ground(ground_from(fields)));
-    }
-    if layout == 5 {
-        return with_body(fields, Body::Air(air_from(fields)));
-    }
-    Decoded::Refused(Refusal::Field)
 }

@@ -1,8 +1,10 @@
-// A message and a track as numbers in a row, each at its own place, for another language; and a message back from such numbers.
+// An ME and a track as numbers in a row, each at its own place, for another language; and a message back from such numbers.
 mod back;
 mod message;
+mod shown;
 mod tracks;
+mod widths;
 
 pub use back::message_from;
-pub use message::message_values;
+pub use message::put_me;
 pub use tracks::track_values;

@@ -1,4 +1,6 @@
-// A message as 28 numbers, layout by layout.
+// An ME as 28 numbers, its fields and its readings; who has a message adds what stands before ME.
+use crate::widths::fields_in;
+use crate::widths::number_of;
 use entries::Reading;
 use entries::altitude_reading;
 use entries::bit;
@@ -11,13 +13,9 @@ use entries::set_reading;
 use entries::speed_reading;
 use entries::step_reading;
 use entries::text_reading;
-use layouts::Air;
-use layouts::Airborne;
 use layouts::Body;
-use layouts::Ground;
-use layouts::Identification;
-use layouts::Surface;
-use messages::Message;
+use layouts::Layout;
+use layouts::Taken;
 use readings::AirReadings;
 use readings::AirborneReadings;
 use readings::GroundReadings;
@@ -25,10 +23,10 @@ use readings::IdentificationReadings;
 use readings::Readings;
 use readings::SurfaceReadings;
 ghost use mathlib.Core.Path.{_≡_};
-ghost use Rattle.layouts.specs.Layouts.{identificationFields, surfaceFields, airborneFields};
-ghost use Rattle.layouts.specs.Velocity.{groundFields, airFields};
+ghost use lib.Dec.{eqb};
+ghost use lib.ListN.{length};
 ghost use Rattle.readings.specs.Bodies.{readingsOf};
-ghost use Rattle.rows.specs.Rows.{identificationFour, surfaceFour, airborneFour, groundFour, airFour, refusedFour, fourOf, rowOf, messageRow};
+ghost use Rattle.rows.specs.Rows.{identificationFour, surfaceFour, airborneFour, groundFour, airFour, refusedFour, fourOf, fourIn, meRow, rowInto};
 
 // The readings of a layout.
 pub struct Four {
@@ -135,210 +133,61 @@ fn four_of(b: Body, traffic: bool) -> Four
     }
 }
 
-fn identification_row(m: Message, key: u32, b: Identification, r: Four) -> [u64; 28]
-    ensures { λ x. ⌜ x ≡ rowOf 1 m key (identificationFields b) r ⌝ }
+fn four_in(taken: Taken, traffic: bool) -> Four
+    ensures { λ r. ⌜ r ≡ fourIn taken traffic ⌝ }
 {
-    [
-        1,
-        m.format as u64,
-        m.control as u64,
-        m.address as u64,
-        key as u64,
-        b.typecode as u64,
-        b.category as u64,
-        b.characters,
-        0,
-        0,
-        0,
-        0,
-        0,
-        0,
-        0,
-        0,
-        0,
-        0,
-        0,
-        0,
-        r.first.what,
-        r.first.value,
-        r.second.what,
-        r.second.value,
-        r.third.what,
-        r.third.value,
-        r.fourth.what,
-        r.fourth.value,
-    ]
-}
-
-fn surface_row(m: Message, key: u32, b: Surface, r: Four) -> [u64; 28]
-    ensures { λ x. ⌜ x ≡ rowOf 2 m key (surfaceFields b) r ⌝ }
-{
-    [
-        2,
-        m.format as u64,
-        m.control as u64,
-        m.address as u64,
-        key as u64,
-        b.typecode as u64,
-        b.movement as u64,
-        b.status as u64,
-        b.heading as u64,
-        b.t as u64,
-        b.f as u64,
-        b.latitude.0 as u64,
-        b.longitude.0 as u64,
-        0,
-        0,
-        0,
-        0,
-        0,
-        0,
-        0,
-        r.first.what,
-        r.first.value,
-        r.second.what,
-        r.second.value,
-        r.third.what,
-        r.third.value,
-        r.fourth.what,
-        r.fourth.value,
-    ]
-}
-
-fn airborne_row(m: Message, key: u32, b: Airborne, r: Four) -> [u64; 28]
-    ensures { λ x. ⌜ x ≡ rowOf 3 m key (airborneFields b) r ⌝ }
-{
-    [
-        3,
-        m.format as u64,
-        m.control as u64,
-        m.address as u64,
-        key as u64,
-        b.typecode as u64,
-        b.surveillance as u64,
-        b.bit8 as u64,
-        b.altitude as u64,
-        b.t as u64,
-        b.f as u64,
-        b.latitude.0 as u64,
-        b.longitude.0 as u64,
-        0,
-        0,
-        0,
-        0,
-        0,
-        0,
-        0,
-        r.first.what,
-        r.first.value,
-        r.second.what,
-        r.second.value,
-        r.third.what,
-        r.third.value,
-        r.fourth.what,
-        r.fourth.value,
-    ]
-}
-
-fn ground_row(m: Message, key: u32, b: Ground, r: Four) -> [u64; 28]
-    ensures { λ x. ⌜ x ≡ rowOf 4 m key (groundFields b) r ⌝ }
-{
-    let v = b.vertical;
-    [
-        4,
-        m.format as u64,
-        m.control as u64,
-        m.address as u64,
-        key as u64,
-        b.typecode as u64,
-        b.subtype as u64,
-        b.bit9 as u64,
-        b.bit10 as u64,
-        b.nacv as u64,
-        b.west as u64,
-        b.eastward as u64,
-        b.south as u64,
-        b.northward as u64,
-        v.source as u64,
-        v.down as u64,
-        v.rate as u64,
-        v.reserved as u64,
-        v.below as u64,
-        v.difference as u64,
-        r.first.what,
-        r.first.value,
-        r.second.what,
-        r.second.value,
-        r.third.what,
-        r.third.value,
-        r.fourth.what,
-        r.fourth.value,
-    ]
-}
-
-fn air_row(m: Message, key: u32, b: Air, r: Four) -> [u64; 28]
-    ensures { λ x. ⌜ x ≡ rowOf 5 m key (airFields b) r ⌝ }
-{
-    let v = b.vertical;
-    [
-        5,
-        m.format as u64,
-        m.control as u64,
-        m.address as u64,
-        key as u64,
-        b.typecode as u64,
-        b.subtype as u64,
-        b.bit9 as u64,
-        b.bit10 as u64,
-        b.nacv as u64,
-        b.status as u64,
-        b.heading as u64,
-        b.airspeedkind as u64,
-        b.airspeed as u64,
-        v.source as u64,
-        v.down as u64,
-        v.rate as u64,
-        v.reserved as u64,
-        v.below as u64,
-        v.difference as u64,
-        r.first.what,
-        r.first.value,
-        r.second.what,
-        r.second.value,
-        r.third.what,
-        r.third.value,
-        r.fourth.what,
-        r.fourth.value,
-    ]
-}
-
-// A message as 28 numbers.
-pub fn message_values(m: Message) -> [u64; 28]
-    ensures { λ r. ⌜ r ≡ messageRow m ⌝ }
-{
-    let body = m.body;
-    let r = four_of(body, messages::is_traffic(m));
-    // each layout gives its own flag: `key_of` would take the body apart again
-    match body {
-        Body::Identification(b) => {
-            let key = messages::key_by(m.format, m.control, 0, m.address);
-            identification_row(m, key, b, r)
-        }
-        Body::Surface(b) => {
-            let key = messages::key_by(m.format, m.control, b.t, m.address);
-            surface_row(m, key, b, r)
-        }
-        Body::Airborne(b) => {
-            let key = messages::key_by(m.format, m.control, b.bit8, m.address);
-            airborne_row(m, key, b, r)
-        }
-        Body::Ground(b) => {
-            let key = messages::key_by(m.format, m.control, b.bit9, m.address);
-            ground_row(m, key, b, r)
-        }
-        Body::Air(b) => {
-            let key = messages::key_by(m.format, m.control, b.bit9, m.address);
-            air_row(m, key, b, r)
-        }
+    match taken {
+        Taken::Body(b) => four_of(b, traffic),
+        Taken::Refused(_) => refused_four(),
     }
+}
+
+// What the 56 bits of ME say in a layout, as 28 numbers.
+fn me_values(layout: Layout, me: u64, traffic: bool) -> [u64; 28]
+    ensures { λ r. ⌜ r ≡ meRow layout me traffic ⌝ }
+{
+    let f = fields_in(layout, me);
+    let r = four_in(layouts::body_as(layout, me), traffic);
+    [
+        number_of(layout),
+        0,
+        0,
+        0,
+        0,
+        f[0],
+        f[1],
+        f[2],
+        f[3],
+        f[4],
+        f[5],
+        f[6],
+        f[7],
+        f[8],
+        f[9],
+        f[10],
+        f[11],
+        f[12],
+        f[13],
+        f[14],
+        r.first.what,
+        r.first.value,
+        r.second.what,
+        r.second.value,
+        r.third.what,
+        r.third.value,
+        r.fourth.what,
+        r.fourth.value,
+    ]
+}
+
+// Fills an array of 28 entries, and says whether it is one; another it leaves as it was.
+pub fn put_me(out: &mut [u64], layout: Layout, me: u64, traffic: bool) -> bool
+    ensures { λ r. ⌜ (r ≡ eqb (length (now (out .entry))) 28) × (now (out .exit) ≡ rowInto (now (out .entry)) (meRow layout me traffic)) ⌝ }
+{
+    if out.len() != 28 {
+        return false;
+    }
+    let row = me_values(layout, me, traffic);
+    entries::fill(out, &row);
+    true
 }

@@ -1,14 +1,15 @@
-// A track as 27 numbers.
+// A track as 57 numbers: 27 as it is kept, and what people are shown.
+use crate::shown::shown_values;
 use entries::altitude_reading;
 use entries::bit;
 use entries::step_reading;
 use track::Track;
 ghost use mathlib.Core.Path.{_≡_};
-ghost use Rattle.rows.specs.Tracks.{trackRow};
+ghost use Rattle.rows.specs.Tracks.{keptRow, trackRow};
 
-// A track as 27 numbers.
-pub fn track_values(t: Track) -> [u64; 27]
-    ensures { λ r. ⌜ r ≡ trackRow t ⌝ }
+// As it is kept.
+fn kept_values(t: Track) -> [u64; 27]
+    ensures { λ r. ⌜ r ≡ keptRow t ⌝ }
 {
     let both = t.saved;
     let even = both[0];
@@ -49,5 +50,72 @@ pub fn track_values(t: Track) -> [u64; 27]
         gnss.value,
         gnss_step.what,
         gnss_step.value,
+    ]
+}
+
+// A track as 57 numbers, of a key that a traffic service sends or of another.
+pub fn track_values(t: Track, traffic: bool) -> [u64; 57]
+    ensures { λ r. ⌜ r ≡ trackRow traffic t ⌝ }
+{
+    let k = kept_values(t);
+    let s = shown_values(traffic, t);
+    [
+        k[0],
+        k[1],
+        k[2],
+        k[3],
+        k[4],
+        k[5],
+        k[6],
+        k[7],
+        k[8],
+        k[9],
+        k[10],
+        k[11],
+        k[12],
+        k[13],
+        k[14],
+        k[15],
+        k[16],
+        k[17],
+        k[18],
+        k[19],
+        k[20],
+        k[21],
+        k[22],
+        k[23],
+        k[24],
+        k[25],
+        k[26],
+        s[0],
+        s[1],
+        s[2],
+        s[3],
+        s[4],
+        s[5],
+        s[6],
+        s[7],
+        s[8],
+        s[9],
+        s[10],
+        s[11],
+        s[12],
+        s[13],
+        s[14],
+        s[15],
+        s[16],
+        s[17],
+        s[18],
+        s[19],
+        s[20],
+        s[21],
+        s[22],
+        s[23],
+        s[24],
+        s[25],
+        s[26],
+        s[27],
+        s[28],
+        s[29],
     ]
 }

@@ -1,40 +1,42 @@
--- `messages::decode` meets its contract: the tests are the definition's, and the rest is that of `opened_of`.
+-- `messages::decode` meets its contract: what `frame_in` refuses is refused, and a frame says what `body_of` reads.
 -- Assumes nothing.
-use mathlib.Core.Path.{ap, _∙_}
-use borrow.Author.Tests.{eq-eqb, ne-eqb}
-use Rattle.messages.specs.declared.Frame.{Frame}
-use Rattle.messages.specs.Message.{opened}
+use mathlib.Core.Path.{sym, ap, _∙_}
+use Rattle.messages.specs.Message.{withBody}
+use Rattle.messages.specs.Accepted.{decodedBy}
+use Rattle.messages.proofs.Acceptance.{frame-says}
 use borrow.Author.Needs.{needs}
 use Rattle.messages.proofs.decode.Statement.{statement}
 use Rattle.messages.proofs.decode.Tie as tie
 
-returns : tie.Need-returns
-returns c = simp (ne-eqb _ _ (c .if1 .taken))
+frame-in-requires : tie.Need-frame-in-requires
+frame-in-requires c κs = search needs
 
-parity-right-requires : tie.Need-parity-right-requires
-parity-right-requires c κs = search needs
+enum-known-opened : tie.Need-enum-known-opened
+enum-known-opened c = search needs
+
+body-of-requires : tie.Need-body-of-requires
+body-of-requires c κs = search needs
+
+with-body-requires : tie.Need-with-body-requires
+with-body-requires c κs = search needs
+
+enum-known-opened-2 : tie.Need-enum-known-opened-2
+enum-known-opened-2 c = search needs
+
+returns : tie.Need-returns
+returns c =
+    let p = c .before .before .before in
+    let q = p .before .before in
+    let f = p .opened .given .0 .0 in
+    c .with-body .ensures ∙ ap (withBody (f .format) (f .control) (f .address)) (c .before .body-of .ensures)
+    ∙ ap decodedBy (sym (p .opened .given .1) ∙ q .frame-in .ensures) ∙ sym (frame-says (q .before .before .args .s .now))
 
 returns-2 : tie.Need-returns-2
-returns-2 c = simp (eq-eqb _ _ (c .before .before .if1 .left), ← c .before .parity-right .ensures, c .if2 .taken)
-
-frame-of-requires : tie.Need-frame-of-requires
-frame-of-requires c κs = search needs
-
-opened-of-requires : tie.Need-opened-of-requires
-opened-of-requires c κs = search needs
-
-returns-3 : tie.Need-returns-3
-returns-3 c =
-    let p = c .before .before .before in
-    simp (eq-eqb _ _ (p .before .if1 .left), ← p .parity-right .ensures, c .before .before .if2 .left) (c .opened-of .ensures ∙ ap (λ (f : Frame). opened (f .format) (f .control) (f .address) (f .me)) (c .before .frame-of .ensures))
+returns-2 c =
+    let q = c .before .before .before in
+    ap decodedBy (sym (c .before .opened2 .given .1) ∙ q .frame-in .ensures) ∙ sym (frame-says (q .before .before .args .s .now))
 
 pub decode-spec : {M : Type 1} → statement M
 decode-spec =
     tie.close
-    (tie.spec
-    returns
-    parity-right-requires
-    returns-2
-    frame-of-requires
-    opened-of-requires
-    returns-3)
+    (tie.spec frame-in-requires enum-known-opened body-of-requires with-body-requires enum-known-opened-2 returns returns-2)

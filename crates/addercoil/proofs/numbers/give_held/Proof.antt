@@ -1,6 +1,8 @@
 -- `addercoil::numbers::give_held` meets its contract: by whether the key is held.
 -- Assumes nothing.
-use mathlib.Core.Path.{refl}
+use mathlib.Core.Bool.{Bool}
+use mathlib.Core.Path.{refl, ap, _∙_}
+use Rattle.rows.specs.Tracks.{trackRow}
 use Rattle.addercoil.specs.Messages.{heldSaid}
 use Rattle.addercoil.proofs.Ways.{given-as, given-number, given-list}
 use borrow.Author.Needs.{needs}
@@ -9,6 +11,9 @@ use Rattle.addercoil.proofs.numbers.give_held.Tie as tie
 
 enum-told : tie.Need-enum-told
 enum-told c = search needs
+
+traffic-in-requires : tie.Need-traffic-in-requires
+traffic-in-requires c κs = search needs
 
 track-values-requires : tie.Need-track-values-requires
 track-values-requires c κs = search needs
@@ -38,22 +43,27 @@ same-length : tie.Need-same-length
 same-length c = search needs
 
 returns : tie.Need-returns
-returns c = given-as (heldSaid _) _ (c .before .before .before .before .before .before .enum-told .given .1) (given-list (c .before .before .before .before .before .before .before .before .before .args .out .now) (c .before .before .before .before .before .track-values .ensures) (c .before .before .give .ensures))
+returns c =
+    let p = c .before .before .before .before .before in
+    let a = p .before .before .before .before .before .args in
+    given-as (heldSaid (a .key) (a .t)) (a .out .now) (p .before .before .enum-told .given .1)
+    (given-list (a .out .now) (p .track-values .ensures ∙ ap (λ (b : Bool). trackRow b (a .t)) (p .before .traffic-in .ensures)) (c .before .before .give .ensures))
 
 same-length-2 : tie.Need-same-length-2
 same-length-2 c = search needs
 
 returns-2 : tie.Need-returns-2
-returns-2 c = given-as (heldSaid _) _ (c .before .before .before .before .before .enum-told2 .given .1) (c .before .before .give2 .ensures)
+returns-2 c = given-as (heldSaid _ _) _ (c .before .before .before .before .before .enum-told2 .given .1) (c .before .before .give2 .ensures)
 
 returns-3 : tie.Need-returns-3
-returns-3 c = given-number (heldSaid _) _ (c .before .before .answer .given .1) refl (c .number .ensures)
+returns-3 c = given-number (heldSaid _ _) _ (c .before .before .answer .given .1) refl (c .number .ensures)
 
 pub give-held-spec : {M : Type 1} → statement M
 give-held-spec =
     tie.close
     (tie.spec
     enum-told
+    traffic-in-requires
     track-values-requires
     slice-aggregate-give
     give-requires

@@ -1,8 +1,10 @@
--- `addercoil::numbers::give_message` meets its contract: by what the decoder answers.
+-- `addercoil::numbers::give_message` meets its contract: by whether there is a frame.
 -- Assumes nothing.
 use mathlib.Core.Path.{refl}
+use Rattle.messages.specs.declared.Accepted.{Accepted}
+use Rattle.messages.specs.Accepted.{decodedBy}
 use Rattle.addercoil.specs.Messages.{messageSaid}
-use Rattle.addercoil.proofs.Ways.{given-as, given-number, given-list}
+use Rattle.addercoil.proofs.Ways.{given-as, given-number}
 use borrow.Author.Needs.{needs}
 use Rattle.addercoil.proofs.numbers.give_message.Statement.{statement}
 use Rattle.addercoil.proofs.numbers.give_message.Tie as tie
@@ -10,14 +12,8 @@ use Rattle.addercoil.proofs.numbers.give_message.Tie as tie
 enum-known-answer : tie.Need-enum-known-answer
 enum-known-answer c = search needs
 
-message-values-requires : tie.Need-message-values-requires
-message-values-requires c κs = search needs
-
-slice-aggregate-give : tie.Need-slice-aggregate-give
-slice-aggregate-give c = search needs
-
-give-requires : tie.Need-give-requires
-give-requires c κs = search needs
+give-frame-requires : tie.Need-give-frame-requires
+give-frame-requires c κs = search needs
 
 enum-known-answer-2 : tie.Need-enum-known-answer-2
 enum-known-answer-2 c = search needs
@@ -29,19 +25,18 @@ same-length : tie.Need-same-length
 same-length c = search needs
 
 returns : tie.Need-returns
-returns c = given-as messageSaid _ (c .before .before .before .before .before .before .before .answer .given .1) (given-list (c .before .before .before .before .before .before .before .before .before .before .args .out .now) (c .before .before .before .before .before .message-values .ensures) (c .before .before .give .ensures))
+returns c =
+    given-as (λ (x : Accepted). messageSaid (decodedBy x)) (c .before .before .before .before .before .before .before .before .args .out .now) (c .before .before .before .before .before .answer .given .1) (c .before .before .give-frame .ensures)
 
 returns-2 : tie.Need-returns-2
-returns-2 c = given-number messageSaid _ (c .before .before .answer2 .given .1) refl (c .number .ensures)
+returns-2 c = given-number (λ (x : Accepted). messageSaid (decodedBy x)) _ (c .before .before .answer2 .given .1) refl (c .number .ensures)
 
 pub give-message-spec : {M : Type 1} → statement M
 give-message-spec =
     tie.close
     (tie.spec
     enum-known-answer
-    message-values-requires
-    slice-aggregate-give
-    give-requires
+    give-frame-requires
     enum-known-answer-2
     number-requires
     same-length

@@ -1,0 +1,130 @@
+-- Arrays laid out entry by entry: each list of entries is the array that was handed over, whose length its definition has.
+-- Assumes nothing.
+use Prim.Native.Nat.{ℕ}
+use mathlib.Core.Path.{_≡_, refl, sym, ap, ap₂, _∙_}
+use mathlib.Core.Bool.{Bool, true, false, cond}
+use mathlib.Core.List.{List, [], _∷_, _++_}
+use native.Mathlib.Omega.{arith}
+use lib.Dec.{eqb}
+use lib.ListN.{length, getD, length-append}
+use borrow.Author.Tests.{eq-eqb, ne-eqb}
+use Rattle.fields.proofs.Bools.{by-test}
+use Rattle.entries.specs.Arrays.{filled}
+use Rattle.layouts.specs.declared.bodies.Layout.{Layout}
+use Rattle.layouts.specs.Bodies.{layoutOf, layoutWidths, takenAs}
+use Rattle.fields.specs.Packing.{unpack}
+use Rattle.track.specs.declared.Track.{Track}
+use Rattle.rows.specs.declared.message.Four.{Four}
+use Rattle.rows.specs.Rows.{layoutNumber, rowOf, fourIn, fourValues, meRow, rowInto}
+use Rattle.rows.specs.Same.{entries}
+use Rattle.rows.specs.Shown.{rowIn, knownAt, readingAt, unknown, isOf, named, source, moving, onGround, taxiing, isSaved, shown}
+use Rattle.rows.specs.Tracks.{keptRow, trackRow}
+use Rattle.rows.proofs.Cutting.{chosen, length-filled, filled-all, entries-all}
+
+-- ---- the row of an ME
+
+pub row-is : (l : Layout) (f fields : List ℕ) (k : ℕ) (r four : Four) → f ≡ filled 15 fields → k ≡ layoutNumber l → r ≡ four
+    → k ∷ 0 ∷ 0 ∷ 0 ∷ 0 ∷ (entries 0 15 f ++ fourValues r) ≡ rowOf l (0 ∷ 0 ∷ 0 ∷ 0 ∷ []) fields four
+unfolding rowOf
+row-is l f fields k r four e q g =
+    ap₂ (λ (n : ℕ) (x : List ℕ). n ∷ 0 ∷ 0 ∷ 0 ∷ 0 ∷ (x ++ fourValues r)) q (entries-all 15 f (ap length e ∙ length-filled 15 fields) ∙ e)
+    ∙ ap (λ (x : Four). layoutNumber l ∷ 0 ∷ 0 ∷ 0 ∷ 0 ∷ (filled 15 fields ++ fourValues x)) g
+
+pub row-length : (l : Layout) (a b c d : ℕ) (fields : List ℕ) (four : Four) → length (rowOf l (a ∷ b ∷ c ∷ d ∷ []) fields four) ≡ 28
+unfolding rowOf
+row-length l a b c d fields four = omega (arith, length-append (filled 15 fields) (fourValues four), length-filled 15 fields)
+
+pub row-kept : (out row : List ℕ) → (length out ≡ 28 → ⊥) → out ≡ rowInto out row
+row-kept out row h = rw (ne-eqb (length out) 28 h)
+
+pub row-put : (out row : List ℕ) (l : Layout) (n : ℕ) (traffic : Bool) {new : List ℕ} → length out ≡ 28 → row ≡ meRow l n traffic → new ≡ filled (length out) row → new ≡ rowInto out (meRow l n traffic)
+row-put out row l n traffic h e p =
+    let m : List ℕ = meRow l n traffic in
+    p ∙ ap₂ filled (h ∙ sym (row-length l 0 0 0 0 (unpack (layoutWidths l) n) (fourIn (takenAs l n) traffic))) e ∙ filled-all m
+    ∙ sym (chosen (eqb (length out) 28) m out (eq-eqb (length out) 28 h))
+
+-- ---- what people are shown
+
+source-length : (traffic : Bool) (row : List ℕ) → length (source traffic row) ≡ 2
+unfolding source
+source-length true row = refl
+source-length false row = refl
+
+module _ (traffic : Bool) (row s : List ℕ) (e : s ≡ source traffic row) where
+  source-is : entries 0 2 s ≡ source traffic row
+  source-is = entries-all 2 s (ap length e ∙ source-length traffic row) ∙ e
+
+  pub over-ground : isOf 4 row ≡ true → readingAt row 20 ++ (readingAt row 22 ++ (unknown 4 ++ (readingAt row 24 ++ entries 0 2 s))) ≡ moving traffic row
+  unfolding moving
+  over-ground h = ap (λ (x : List ℕ). readingAt row 20 ++ (readingAt row 22 ++ (unknown 4 ++ (readingAt row 24 ++ x)))) source-is ∙ sym (chosen (isOf 4 row) _ _ h)
+
+  pub through-air : isOf 4 row ≡ false → isOf 5 row ≡ true
+      → unknown 2 ++ (readingAt row 20 ++ (knownAt row 10 ++ (readingAt row 22 ++ (knownAt row 12 ++ (readingAt row 24 ++ entries 0 2 s))))) ≡ moving traffic row
+  unfolding moving
+  through-air n h =
+      ap (λ (x : List ℕ). unknown 2 ++ (readingAt row 20 ++ (knownAt row 10 ++ (readingAt row 22 ++ (knownAt row 12 ++ (readingAt row 24 ++ x)))))) source-is
+      ∙ rw (n, h)
+
+module _ (row : List ℕ) where
+  abbrev Of : ℕ → List ℕ → Type 0
+  Of n l = length l ≡ n
+
+  named-length : length (named row) ≡ 6
+  unfolding named
+  named-length = by-test (Of 6) (isOf 1 row) _ _ (λ _. refl) (λ _. refl)
+
+  moving-length : (traffic : Bool) → length (moving traffic row) ≡ 16
+  unfolding moving
+  moving-length traffic =
+      let s = source-length traffic row in
+      by-test (Of 16) (isOf 4 row) _ _ (λ _. omega arith)
+      (λ _. by-test (Of 16) (isOf 5 row) _ _ (λ _. omega arith) (λ _. refl))
+
+  ground-length : (encoded : Bool) → length (onGround encoded row) ≡ 2
+  unfolding onGround
+  ground-length encoded = by-test (Of 2) encoded _ _ (λ _. refl) (λ _. by-test (Of 2) (isOf 2 row) _ _ (λ _. refl) (λ _. refl))
+
+  taxiing-length : length (taxiing row) ≡ 6
+  unfolding taxiing
+  taxiing-length = by-test (Of 6) (isOf 2 row) _ _ (λ _. refl) (λ _. refl)
+
+module _ (traffic : Bool) (t : Track) where
+  abbrev surface : List ℕ
+  surface = rowIn traffic (t .groups .surface)
+
+  whole : (k : ℕ) (l meant : List ℕ) → l ≡ meant → length meant ≡ k → entries 0 k l ≡ meant
+  whole k l meant e h = entries-all k l (ap length e ∙ h) ∙ e
+
+  pub shows : (n m o s : List ℕ) → n ≡ named (rowIn traffic (t .groups .identification)) → m ≡ moving traffic (rowIn traffic (t .groups .velocity))
+      → o ≡ onGround (isSaved t) surface → s ≡ taxiing surface
+      → entries 0 6 n ++ (entries 0 16 m ++ (entries 0 2 o ++ entries 0 6 s)) ≡ shown traffic t
+  unfolding shown
+  shows n m o s p q r e =
+      ap₂ (λ (a b : List ℕ). a ++ b) (whole 6 n _ p (named-length (rowIn traffic (t .groups .identification))))
+      (ap₂ (λ (a b : List ℕ). a ++ b) (whole 16 m _ q (moving-length (rowIn traffic (t .groups .velocity)) traffic))
+      (ap₂ (λ (a b : List ℕ). a ++ b) (whole 2 o _ r (ground-length surface (isSaved t))) (whole 6 s _ e (taxiing-length surface))))
+
+  shown-length : length (shown traffic t) ≡ 30
+  unfolding shown
+  shown-length =
+      let i : List ℕ = named (rowIn traffic (t .groups .identification)) in
+      let v : List ℕ = moving traffic (rowIn traffic (t .groups .velocity)) in
+      let o : List ℕ = onGround (isSaved t) surface in
+      omega (
+        arith,
+        length-append i (v ++ (o ++ taxiing surface)),
+        length-append v (o ++ taxiing surface),
+        length-append o (taxiing surface),
+        named-length (rowIn traffic (t .groups .identification)),
+        moving-length (rowIn traffic (t .groups .velocity)) traffic,
+        ground-length surface (isSaved t),
+        taxiing-length surface,
+      )
+
+  kept-length : length (keptRow t) ≡ 27
+  unfolding keptRow
+  kept-length = refl
+
+  pub joined : (k s : List ℕ) → k ≡ keptRow t → s ≡ shown traffic t → entries 0 27 k ++ entries 0 30 s ≡ trackRow traffic t
+  unfolding trackRow
+  joined k s p q = ap₂ (λ (a b : List ℕ). a ++ b) (whole 27 k _ p kept-length) (whole 30 s _ q shown-length)

@@ -1,0 +1,148 @@
+// The fields of a layout by their widths: cut out of the 56 bits of ME, and packed into them.
+use layouts::Layout;
+use layouts::Written;
+use refusals::Refusal;
+ghost use mathlib.Core.Path.{_≡_};
+ghost use Prim.Native.Nat.{_+_, _*_, _/_, _%_, _^_, _<_, _≤_};
+ghost use lib.ListN.{length};
+ghost use Rattle.fields.specs.Packing.{wider, total, unpack};
+ghost use Rattle.layouts.specs.Bodies.{layoutWidths};
+ghost use Rattle.entries.specs.Arrays.{filled};
+ghost use Rattle.rows.specs.Rows.{layoutNumber};
+ghost use Rattle.rows.specs.From.{layoutNumbered, packedBy, packedAs};
+
+const IDENTIFICATION: [u8; 3] = [5, 3, 48];
+
+const SURFACE: [u8; 8] = [5, 7, 1, 7, 1, 1, 17, 17];
+
+const AIRBORNE: [u8; 8] = [5, 2, 1, 12, 1, 1, 17, 17];
+
+const VELOCITY: [u8; 15] = [5, 3, 1, 1, 3, 1, 10, 1, 10, 1, 1, 9, 2, 1, 7];
+
+pub(crate) fn number_of(layout: Layout) -> u64
+    ensures { λ r. ⌜ r ≡ layoutNumber layout ⌝ }
+{
+    match layout {
+        Layout::NotTaken => 0,
+        Layout::Identification => 1,
+        Layout::Surface => 2,
+        Layout::Airborne => 3,
+        Layout::Ground => 4,
+        Layout::Air => 5,
+    }
+}
+
+// The layout of a number; that of a number that no layout has is none.
+pub(crate) fn layout_at(number: u64) -> Layout
+    ensures { λ r. ⌜ r ≡ layoutNumbered number ⌝ }
+{
+    if number == 1 {
+        return Layout::Identification;
+    }
+    if number == 2 {
+        return Layout::Surface;
+    }
+    if number == 3 {
+        return Layout::Airborne;
+    }
+    if number == 4 {
+        return Layout::Ground;
+    }
+    if number == 5 {
+        return Layout::Air;
+    }
+    Layout::NotTaken
+}
+
+fn wide(x: u8) -> u64
+    ensures { λ r. ⌜ r ≡ x ⌝ }
+{
+    x as u64
+}
+
+// So many bits, above as many others.
+fn field_at(me: u64, below: u64, width: u64) -> u64
+    requires { ⌜ (below < 64) × (width < 64) ⌝ }
+    ensures { λ r. ⌜ r ≡ me / 2 ^ below % 2 ^ width ⌝ }
+{
+    (me >> below) % (1 << width)
+}
+
+// The fields of ME, 15 at most, and zeros behind them. The compiler knows the widths, and makes a shift and a mask of each turn.
+fn cut(widths: &[u8], me: u64) -> [u64; 15]
+    requires { ⌜ (length (now widths) ≤ 15) × (total (now widths) ≡ 56) ⌝ }
+    ensures { λ r. ⌜ r ≡ filled 15 (unpack (now (widths .entry)) me) ⌝ }
+{
+    let mut out = [0u64; 15];
+    let mut below: u64 = 56;
+    let mut i: usize = 0;
+    while i < widths.len() {
+        let width = wide(widths[i]);
+        below -= width;
+        out[i] = field_at(me, below, width);
+        i += 1;
+    }
+    out
+}
+
+// The fields of ME in a layout.
+pub(crate) fn fields_in(layout: Layout, me: u64) -> [u64; 15]
+    ensures { λ r. ⌜ r ≡ filled 15 (unpack (layoutWidths layout) me) ⌝ }
+{
+    match layout {
+        Layout::Identification => cut(&IDENTIFICATION, me),
+        Layout::Surface => cut(&SURFACE, me),
+        Layout::Airborne => cut(&AIRBORNE, me),
+        Layout::Ground => cut(&VELOCITY, me),
+        Layout::Air => cut(&VELOCITY, me),
+        Layout::NotTaken => [0u64; 15],
+    }
+}
+
+fn is_wider(width: u64, code: u64) -> bool
+    requires { ⌜ width < 64 ⌝ }
+    ensures { λ r. ⌜ r ≡ wider width code ⌝ }
+{
+    (1 << width) <= code
+}
+
+// A field behind the bits before it.
+fn behind(me: u64, width: u64, code: u64) -> u64
+    requires { ⌜ (width < 64) × (me * 2 ^ width + code < 2 ^ 64) ⌝ }
+    ensures { λ r. ⌜ r ≡ me * 2 ^ width + code ⌝ }
+{
+    (me << width) + code
+}
+
+// The 56 bits that hold the fields from the entry 5 on; one that is wider than its bits is refused.
+fn packed(widths: &[u8], fields: &[u64]) -> Written
+    requires { ⌜ (length (now widths) ≤ 15) × (total (now widths) ≡ 56) ⌝ }
+    ensures { λ r. ⌜ r ≡ packedBy (now (widths .entry)) (now (fields .entry)) ⌝ }
+{
+    let mut me: u64 = 0;
+    let mut i: usize = 0;
+    while i < widths.len() {
+        let width = wide(widths[i]);
+        let code = entries::entry(fields, 5 + i);
+        if is_wider(width, code) {
+            return Written::Refused(Refusal::Field);
+        }
+        me = behind(me, width, code);
+        i += 1;
+    }
+    Written::Me(me)
+}
+
+// Those of a layout.
+pub(crate) fn packed_as(layout: Layout, fields: &[u64]) -> Written
+    ensures { λ r. ⌜ r ≡ packedAs layout (now (fields .entry)) ⌝ }
+{
+    match layout {
+        Layout::Identification => packed(&IDENTIFICATION, fields),
+        Layout::Surface => packed(&SURFACE, fields),
+        Layout::Airborne => packed(&AIRBORNE, fields),
+        Layout::Ground => packed(&VELOCITY, fields),
+        Layout::Air => packed(&VELOCITY, fields),
+        Layout::NotTaken => Written::Refused(Refusal::Field),
+    }
+}
