@@ -15,7 +15,8 @@
  *   - A function answers 0, or a number that says why it refused (ADDERCOIL_LENGTH and so on). Where it could refuse for
  *     several reasons, it says the first in the order in which its comment lists them.
  *   - A result goes into a lent array that has just as many elements as its comment says. An array of another length is
- *     refused with ADDERCOIL_LENGTH. A call that refuses leaves its result array as it was.
+ *     refused with ADDERCOIL_LENGTH. A call that refuses leaves its result array as it was. The state of
+ *     addercoil_receive_stamp is no result: see there.
  *   - A number that can be below zero stands in a uint64_t in two's complement: (int64_t)out[i] is the number.
  *   - Unused entries are 0.
  *
@@ -46,8 +47,8 @@ extern "C" {
 /* The numbers that come back. */
 enum {
     ADDERCOIL_OK = 0,
-    ADDERCOIL_LENGTH = 1,    /* a message that is not of 14 bytes, or a result array of a wrong length */
-    ADDERCOIL_LATE = 2,      /* a time below the table's clock */
+    ADDERCOIL_LENGTH = 1,    /* a message that is not of 14 bytes, or a result or state array of a wrong length */
+    ADDERCOIL_LATE = 2,      /* a time below the table's clock, or a stamp 2^31 or more past the last one */
     ADDERCOIL_PARITY = 3,    /* a parity remainder that is not 0 */
     ADDERCOIL_FORMAT = 4,    /* a DF or CF that is not taken: only DF 17, and DF 18 with CF 0, 1, 2 or 5, are */
     ADDERCOIL_TYPE = 5,      /* a TYPE or subtype that is not taken, or CF 5 with the flag of its address set */
@@ -56,7 +57,8 @@ enum {
     ADDERCOIL_FIELD = 8,     /* a field wider than its bits or that no such message has, a latitude beyond a pole, a choice above 1 */
     ADDERCOIL_LATITUDE = 9,  /* a decoded latitude beyond a pole */
     ADDERCOIL_ZONES = 10,    /* two latitudes in different longitude zones */
-    ADDERCOIL_NO_TRACK = 12  /* an aircraft that is not held, and a message that starts no track: see addercoil_receive */
+    ADDERCOIL_NO_TRACK = 12, /* an aircraft that is not held, and a message that starts no track: see addercoil_receive */
+    ADDERCOIL_OVERRUN = 13   /* a stamp whose time would pass 2^64 - 1: see addercoil_receive_stamp */
 };
 
 /* ---- The table: tracks in bytes that the caller lends ---- */
@@ -90,6 +92,27 @@ uint32_t addercoil_set_up_at(uint8_t *table, size_t table_len, int32_t latitude,
  * ADDERCOIL_NO_TRACK, which move the clock, so that tracks out of date go, and leave the other tracks as they were.
  */
 uint32_t addercoil_receive(uint8_t *table, size_t table_len, const uint8_t *message, size_t message_len, uint64_t time);
+
+/* The entries of the state of a clock of 32 bits. Both are 0 at first, and again after each set-up. */
+enum {
+    ADDERCOIL_STAMP_STARTED,  /* 1 once a stamp was accepted, else 0 */
+    ADDERCOIL_STAMP_LAST,     /* the last accepted stamp */
+    ADDERCOIL_STAMPS          /* how many there are */
+};
+
+/*
+ * The same for a receiver that stamps messages with a millisecond counter of 32 bits, which starts again from 0. Until a
+ * stamp is accepted, the time is the stamp. Then it is the table's clock and how far the stamp is past the last accepted
+ * one, counted around the circle, if that is below 2^31. state has ADDERCOIL_STAMPS entries; a call whose stamp is
+ * accepted leaves 1 and the stamp there, and any other leaves them as they were.
+ * Or ADDERCOIL_LENGTH for the message or state, ADDERCOIL_PLACES, ADDERCOIL_FIELD for STARTED above 1 or LAST above
+ * 2^32 - 1, ADDERCOIL_LATE for a stamp 2^31 or more past the last, or a first one below the clock, ADDERCOIL_OVERRUN,
+ * which leave the table and state as they were, so that the stamp is not accepted;
+ * or ADDERCOIL_PARITY, ADDERCOIL_FORMAT, ADDERCOIL_TYPE, and last ADDERCOIL_FULL or ADDERCOIL_NO_TRACK, as above, whose
+ * stamp is accepted: noise counts as heard.
+ */
+uint32_t addercoil_receive_stamp(uint8_t *table, size_t table_len, const uint8_t *message, size_t message_len,
+                                 uint32_t stamp, uint64_t *state, size_t state_len);
 
 /* The clock: the latest time, into out of 1 entry. Or ADDERCOIL_LENGTH, ADDERCOIL_PLACES. */
 uint32_t addercoil_clock(const uint8_t *table, size_t table_len, uint64_t *out, size_t out_len);

@@ -13,6 +13,7 @@ import captures
 import messages
 import positions
 import readings
+import stamps
 import table as tables
 from refusals import Refused, fits
 from tracks import KINDS, M, N, T, key_of
@@ -233,6 +234,35 @@ def receive(table, message, time):
     tables.receive(table, message, time)
 
 
+class Wrote(Exception):
+    """A refusal that leaves its result array written: of a message whose stamp was accepted."""
+
+    def __init__(self, number, result):
+        super().__init__(number)
+        self.number, self.result = number, result
+
+
+def stamps_row(state):
+    """The entries of a state."""
+    return row(AT["STAMPS"], {"STAMP_STARTED": state.started, "STAMP_LAST": state.last})
+
+
+def receive_stamp(table, message, stamp, started, last):
+    """A message with a stamp, and the state before it: 1, 7, then 8 for a state that is none."""
+    if len(message) != 14:
+        raise Refused(1)
+    tables.places(table)
+    fits(started, 1)
+    fits(last, 32)
+    before = stamps.Stamps(started == 1, last)
+    answer, after = stamps.receive(table, before, message, stamp % 2**32)
+    if not isinstance(answer, Refused):
+        return stamps_row(after)
+    if answer.number in stamps.NOT_ACCEPTED:
+        raise answer
+    raise Wrote(answer.number, stamps_row(after))
+
+
 def clock(table):
     """The clock, at entry 0."""
     return [tables.clock_of(table)]
@@ -370,6 +400,7 @@ FUNCTIONS = {
     "set_up": Function(set_up, WRITES),
     "set_up_at": Function(set_up_at, WRITES),
     "receive": Function(receive, WRITES, BYTES),
+    "receive_stamp": Function(receive_stamp, WRITES, BYTES, AT["STAMPS"], WORDS),
     "clock": Function(clock, READS, None, 1, WORDS),
     "site": Function(site, READS, None, AT["SITE"], WORDS),
     "next": Function(next_key, READS, None, 1, WORDS),
@@ -419,9 +450,12 @@ def answered(function, length, arguments):
         if length != function.length:
             raise Refused(1)
         return 0, function.answer(*arguments)
+    except Wrote as refusal:
+        return refusal.number, refusal.result
     except Refused as refusal:
         fresh = int.from_bytes(bytes([FRESH]) * (function.result or 1), "big")
-        return refusal.number, [fresh] * length
+        before = arguments[-AT["STAMPS"] :] if function.answer is receive_stamp else []  # the array that is read too
+        return refusal.number, [*before, *[fresh] * length][:length]
 
 
 def outcome_text(call):

@@ -10,7 +10,7 @@ import argparse
 import sys
 from pathlib import Path
 
-from vectors import message_vectors, parity_vectors, position_vectors, readings_vectors, table_vectors
+from vectors import message_vectors, parity_vectors, position_vectors, readings_vectors, stamps_vectors, table_vectors
 
 PROGRAMS = {
     "parity_vectors": parity_vectors,
@@ -18,6 +18,7 @@ PROGRAMS = {
     "position_vectors": position_vectors,
     "message_vectors": message_vectors,
     "table_vectors": table_vectors,
+    "stamps_vectors": stamps_vectors,
 }
 
 

@@ -32,6 +32,7 @@ RECEIVED = 20  # times as many of receive, so that tracks grow; and twice as man
 LISTED = ["header", "next", "line"]  # what a listing calls
 DOUBLED = 150  # of each of these, on tables that hold keys twice
 OLD_LENGTHS = [("header", 97), ("line", 97), ("look_up", 23), ("look_up", 27)]  # of results in older headers, which are refused with 1
+STAMPED = 4_000  # of receive_stamp, behind all others
 LAST = 2**64 - 1
 FIRST_READING = 20  # from this entry on fields are readings
 KEYS = [kind << 24 | aa for kind in KIND_NUMBERS for aa in (0, 1, 0xABCDEF, 2**24 - 1)]  # those of run_captures.message
@@ -121,6 +122,17 @@ def time_for(chance, table):
         return number(chance)
     step = chance.choice((0, 1, 400, 400, 400, 5_000, 10_001, 120_001, 125_000, -1))
     return (tables.get(table, 0, 8) + step) % 2**64
+
+
+def stamp_for(chance, table):
+    """A stamp about a distance from the last one, and the state before it: as a rule the clock's low 32 bits, or none, or any."""
+    clock = tables.get(table, 0, 8) if len(table) >= 8 else 0
+    last = chance.choice((clock % 2**32, clock % 2**32, 0, 2**32 - 1, chance.getrandbits(32)))
+    step = chance.choice((0, 1, 400, 400, 5_000, 125_000, 2**31 - 1, 2**31, 2**31 + 1, -1))
+    started = chance.choice((0, *[1] * 6))
+    if chance.randrange(12) == 0:
+        started, last = chance.choice(((2, last), (number(chance), last), (started, 2**32), (started, number(chance))))
+    return [(last + step) % 2**32, started, last]
 
 
 # What a call is given
@@ -224,6 +236,8 @@ def numbers_for(name, chance, table):
         return [key(chance, table), bit(chance)]
     if name == "receive":
         return [time_for(chance, table)]
+    if name == "receive_stamp":
+        return stamp_for(chance, table)
     if name == "header":
         return [number(chance), bit(chance)]
     if name == "feed_block":
@@ -246,7 +260,7 @@ def numbers_for(name, chance, table):
 
 def given_for(name, chance, table):
     """The array of a call."""
-    if name in ("receive", "decode"):
+    if name in ("receive", "receive_stamp", "decode"):
         return some_message(chance)
     if name == "feed_block":
         return some_block(chance, table)
@@ -257,12 +271,13 @@ def given_for(name, chance, table):
 
 
 def named(chance):
-    """The functions, in any order, each with a table; then those of a listing, with tables of many places and few keys."""
+    """The functions, in any order, each with a table; then those of a listing, with tables of many places and few keys; then stamps."""
     pool = Tables(chance)
-    names = [*FUNCTIONS, "decode", *["receive"] * RECEIVED] * CALLS
+    names = [*(name for name in FUNCTIONS if name != "receive_stamp"), "decode", *["receive"] * RECEIVED] * CALLS
     chance.shuffle(names)
     yield from ((name, pool.choose()) for name in names)
     yield from ((name, random_tracks(chance, 9, 40)) for name in LISTED * DOUBLED)
+    yield from (("receive_stamp", pool.choose()) for _ in range(STAMPED))
 
 
 def answered(chance, name, table, length):
@@ -295,12 +310,13 @@ def difference(asked, given):
 # What must have been tried
 
 PAPER = dict(enumerate("OK LENGTH LATE PARITY FORMAT TYPE FULL PLACES FIELD LATITUDE ZONES".split()))  # by the header's names
-PAPER |= {12: "NO_TRACK"}
+PAPER |= {12: "NO_TRACK", 13: "OVERRUN"}
 READS = {0, 1, 7}
 NUMBERS = {
     **{name: READS for name in ("clock", "site", "next", "look_up", "feed_block")},
     **{name: {*READS, 8} for name in ("header", "line")},
     **{"set_up": {0, 7}, "set_up_at": {0, 7, 8}, "receive": {0, 1, 2, 3, 4, 5, 6, 7, 12}},
+    **{"receive_stamp": {0, 1, 2, 3, 4, 5, 6, 7, 8, 12, 13}},
     **{"encode_position": {0, 1, 8}, "pair": {0, 1, 8, 9, 10}, "single": {0, 1, 8, 9}},
     **{"decode": {0, 1, 3, 4, 5}, "encode": {0, 1, 8}, "me": {0, 1, 5, 8}},
 }

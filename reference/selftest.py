@@ -7,6 +7,7 @@ import subprocess
 import sys
 from decimal import Decimal
 from fractions import Fraction
+from itertools import product
 from math import ceil, floor
 from pathlib import Path
 from random import Random
@@ -19,6 +20,7 @@ import positions
 import published
 import readings
 import run_captures
+import stamps as short_clock
 import table as lent_table
 import tracks
 import traffic
@@ -950,6 +952,40 @@ def receiver_lines():
     equal("nothing is judged", made_capture(f"8 {damaged.hex()}")[0], [(8, damaged)])
 
 
+# Stamps
+
+
+def stamp_edges():
+    """R-6: taken as it is at first; then a distance below 2^31, around the circle; 2, or 13."""
+    fresh, last = short_clock.Stamps(), 2**64 - 1
+    equal("the first as it is", short_clock.extend(fresh, 0, 2**32 - 1), 2**32 - 1)
+    refused(2, short_clock.extend, fresh, 8, 7)
+    for stamp, clock in product((0, 5, 2**31, 2**32 - 1), (0, 77, 2**32, 2**63)):
+        state = short_clock.Stamps(True, stamp)
+        for distance in (0, 1, 2**31 - 1):
+            equal("a distance", short_clock.extend(state, clock, (stamp + distance) % 2**32), clock + distance)
+        for distance in (2**31, 2**32 - 1):
+            refused(2, short_clock.extend, state, clock, (stamp + distance) % 2**32)
+            refused(2, short_clock.extend, state, last, (stamp + distance) % 2**32)
+        equal("the last time", short_clock.extend(state, last - 1, (stamp + 1) % 2**32), last)
+        refused(13, short_clock.extend, state, last, (stamp + 1) % 2**32)
+
+
+def true_times():
+    """R-6: the times are right, whatever the messages are, if the first stamp is the true time, and no step is back or of 2^31."""
+    chance = Random(61)
+    for _ in range(20):
+        table, state, time = bytearray(lent_table.length_of(2)), short_clock.Stamps(), chance.randrange(2**32)
+        for _ in range(30):
+            string = chance.choice((run_captures.message(chance), chance.randbytes(14), chance.randbytes(9)))
+            answer, state = short_clock.receive(table, state, string, time % 2**32)
+            if len(string) == 14:
+                equal("the clock", lent_table.clock_of(table), time)
+                equal("the state", state, (True, time % 2**32))
+            true("never 2 or 13", not isinstance(answer, Refused) or answer.number not in (2, 13))
+            time += chance.choice((0, 400, 2**31 - 1, chance.randrange(2**31))) if len(string) == 14 else 0
+
+
 TESTS = [
     parity_rows,
     parity_laws,
@@ -981,6 +1017,8 @@ TESTS = [
     random_captures,
     blocks,
     receiver_lines,
+    stamp_edges,
+    true_times,
 ]
 
 

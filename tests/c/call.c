@@ -9,6 +9,7 @@ const struct shape shapes[FUNCTIONS] = {
     {"set_up", WRITES_TABLE, NOTHING, 0, NOTHING},
     {"set_up_at", WRITES_TABLE, NOTHING, 2, NOTHING},
     {"receive", WRITES_TABLE, BYTES, 1, NOTHING},
+    {"receive_stamp", WRITES_TABLE, BYTES, 3, WORDS},
     {"clock", READS_TABLE, NOTHING, 0, WORDS},
     {"site", READS_TABLE, NOTHING, 0, WORDS},
     {"next", READS_TABLE, NOTHING, 1, WORDS},
@@ -50,6 +51,8 @@ static uint64_t with_table(const struct call *call) {
         return addercoil_set_up_at(t, size, (int32_t)n[0], (uint32_t)n[1]);
     case RECEIVE:
         return addercoil_receive(t, size, given.at, call->given_size, n[0]);
+    case RECEIVE_STAMP:
+        return addercoil_receive_stamp(t, size, given.at, call->given_size, (uint32_t)n[0], words, length);
     case CLOCK:
         return addercoil_clock(t, size, words, length);
     case SITE:
@@ -105,25 +108,42 @@ static int same(const struct lent *lent, const uint8_t *bytes, size_t size, size
     return size <= from || memcmp(lent->at + from, bytes + from, size - from) == 0;
 }
 
-/* What an answer leaves of the table: after 1, 2, 7 and 8 all of it, after 3 to 6 and 12 all but the clock, its first 8
- * bytes. */
+/* Whether an answer says that the clock moved, and nothing else of the table: 3 to 6 and 12. */
+static int clock_moved(uint64_t answer) {
+    return (answer >= ADDERCOIL_PARITY && answer <= ADDERCOIL_FULL) || answer == ADDERCOIL_NO_TRACK;
+}
+
+/* What an answer leaves of the table: after 1, 2, 7, 8 and 13 all of it, after 3 to 6 and 12 all but the clock, its
+ * first 8 bytes. */
 static int table_left(const struct call *call, uint64_t answer) {
     enum table_use use = shapes[call->function].table;
-    int clock_moved = (answer >= ADDERCOIL_PARITY && answer <= ADDERCOIL_FULL) || answer == ADDERCOIL_NO_TRACK;
     if (use == NO_TABLE || (use == WRITES_TABLE && answer == 0)) {
         return 1;
     }
-    return same(&table, call->table, call->table_size, use == WRITES_TABLE && clock_moved ? 8 : 0);
+    return same(&table, call->table, call->table_size, use == WRITES_TABLE && clock_moved(answer) ? 8 : 0);
 }
 
-static int all_fresh(const struct lent *lent) {
+/* A byte of the result array before the call. */
+static uint8_t byte_before(const struct call *call, size_t i) {
+    if (call->function != RECEIVE_STAMP || i >= ADDERCOIL_STAMPS * WORDS) {
+        return FRESH;
+    }
+    return ((const uint8_t *)(call->numbers + 1))[i];
+}
+
+static int result_left(const struct call *call) {
     size_t i;
-    for (i = 0; i < lent->size; i++) {
-        if (lent->at[i] != FRESH) {
+    for (i = 0; i < result.size; i++) {
+        if (result.at[i] != byte_before(call, i)) {
             return 0;
         }
     }
     return 1;
+}
+
+/* Whether a call that answers so may have written its result: an accepted stamp is written, whatever its message earns. */
+static int result_written(const struct call *call, uint64_t answer) {
+    return answer == 0 || (call->function == RECEIVE_STAMP && clock_moved(answer));
 }
 
 /* What a call may not do, whatever it answers. */
@@ -137,7 +157,7 @@ static const char *fault_of(const struct call *call, uint64_t answer) {
     if (!table_left(call, answer)) {
         return "a table was written that must be as it was";
     }
-    if (answer != 0 && !all_fresh(&result)) {
+    if (!result_written(call, answer) && !result_left(call)) {
         return "a call that refused wrote its result";
     }
     return NULL;
@@ -145,12 +165,13 @@ static const char *fault_of(const struct call *call, uint64_t answer) {
 
 struct outcome call_make(const struct call *call) {
     const struct shape *shape = &shapes[call->function];
-    size_t size = call->result_length * shape->result;
+    size_t size = call->result_length * shape->result, i;
     struct outcome outcome;
     lend_copy(&table, call->table, call->table_size, call);
     lend_copy(&given, call->given, call->given_size, call);
-    if (lend(&result, size, call->below, call->null) != NULL) {
-        memset(result.at, FRESH, size);
+    lend(&result, size, call->below, call->null);
+    for (i = 0; i < size; i++) {
+        result.at[i] = byte_before(call, i);
     }
     outcome.answer = shape->table == NO_TABLE ? without_table(call) : with_table(call);
     outcome.table = table.at;

@@ -19,6 +19,7 @@ enum function {
     SET_UP,
     SET_UP_AT,
     RECEIVE,
+    RECEIVE_STAMP,
     CLOCK,
     SITE,
     NEXT,
@@ -50,7 +51,8 @@ struct shape {
 };
 extern const struct shape shapes[FUNCTIONS];
 
-/* What a result array holds before the call, byte by byte. */
+/* What a result array holds before the call, byte by byte. The state of stamps is read too: its entries are the last two
+ * NUMBERs. */
 #define FRESH 0xA5
 
 struct call {

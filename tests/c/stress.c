@@ -203,8 +203,11 @@ static void choose_table(struct call *call) {
 /* Receiving comes most often, since it makes tables that are worth reading; pairs have the rarest refusal. */
 static enum function choose_function(void) {
     uint64_t n = below(64);
-    if (n < 28) {
+    if (n < 22) {
         return RECEIVE;
+    }
+    if (n < 28) {
+        return RECEIVE_STAMP;
     }
     if (n < 32) {
         return FEED_BLOCK;
@@ -219,6 +222,8 @@ static size_t about(size_t length) {
 
 static size_t result_length(enum function function) {
     switch (function) {
+    case RECEIVE_STAMP:
+        return about(ADDERCOIL_STAMPS);
     case SITE:
         return about(ADDERCOIL_SITE);
     case LOOK_UP:
@@ -262,6 +267,7 @@ static size_t make_fields(void) {
 static size_t make_given(enum function function, uint64_t time) {
     switch (function) {
     case RECEIVE:
+    case RECEIVE_STAMP:
     case DECODE:
         make_message(given);
         return about(ADDERCOIL_MESSAGE);
@@ -281,11 +287,22 @@ static uint64_t make_time(uint64_t clock) {
                           : clock + ONE_OF(0, 0, 1, 400, 5000, 10000, 10001, 120000, 125000, 0 - (uint64_t)1);
 }
 
+/* The stamp, then the state before it: of any value, mostly one that lets the stamp be accepted. */
+static uint64_t make_stamp(int i, uint64_t time) {
+    uint64_t steps = ONE_OF(0, 1, 400, 0x7FFFFFFF, 0x80000000, below(16) == 0 ? any() : 5000);
+    if (below(16) == 0) {
+        return number();
+    }
+    return i == 0 ? (time + steps) % 0x100000000 : i == 1 ? below(8) != 0 : time % 0x100000000;
+}
+
 static uint64_t make_number(enum function function, int i, uint64_t time) {
     uint64_t kind = 1 + below(5), key = kind << 24 | below(4) * 0x010101;
     switch (function) {
     case RECEIVE:
         return time;
+    case RECEIVE_STAMP:
+        return make_stamp(i, time);
     case NEXT:
     case LOOK_UP:
         return below(8) == 0 ? number() : key;

@@ -3,5 +3,6 @@ pub mod Framed
 pub mod Laws
 pub mod Placed
 pub mod Reported
+pub mod Stamping
 pub mod Unique
 pub mod Ways

@@ -38,6 +38,8 @@ use Rattle.addercoil.proofs.me.addercoil_me.Kinds as me-kinds
 use Rattle.addercoil.proofs.me.addercoil_me.Reads as me
 use Rattle.addercoil.proofs.numbers.addercoil_encode.Kinds as encode-kinds
 use Rattle.addercoil.proofs.numbers.addercoil_encode.Reads as encode
+use Rattle.addercoil.proofs.stamped.addercoil_receive_stamp.Kinds as receive-stamp-kinds
+use Rattle.addercoil.proofs.stamped.addercoil_receive_stamp.Reads as receive-stamp
 
 pub table-bytes-once : OneAnswer 0 table-bytes-kinds.ps table-bytes-kinds.r table-bytes.Post
 table-bytes-once κs args x y left left′ p q = p ∙ sym q
@@ -89,3 +91,6 @@ me-once κs args x y left left′ p q = p ∙ sym q
 
 pub encode-once : OneOutcome 2 encode-kinds.ps encode-kinds.r Sent (λ κs x left. sent x (left .1 .0 .now)) encode.Post
 encode-once κs args x y left left′ p q = p ∙ sym q
+
+pub receive-stamp-once : OneOutcome 3 receive-stamp-kinds.ps receive-stamp-kinds.r Both (λ κs x left. both (sent x (left .1 .1 .1 .0 .now)) (left .0 .now)) receive-stamp.Post
+receive-stamp-once κs args x y left left′ p q = p ∙ sym q

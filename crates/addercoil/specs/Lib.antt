@@ -3,4 +3,5 @@ pub mod Me
 pub mod Messages
 pub mod Sent
 pub mod Spots
+pub mod Stamps
 pub mod Tables

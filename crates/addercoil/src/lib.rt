@@ -4,4 +4,5 @@ mod lines;
 mod me;
 mod numbers;
 mod spots;
+mod stamped;
 mod tables;

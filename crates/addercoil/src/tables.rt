@@ -54,7 +54,7 @@ pub extern "C" fn addercoil_set_up_at(table: &mut [u8], latitude: i32, longitude
     set_up_number(table::set_up_at(table, site))
 }
 
-fn heard_number(answer: Heard) -> u32
+pub(crate) fn heard_number(answer: Heard) -> u32
     ensures { λ r. ⌜ r ≡ heardNumber answer ⌝ }
 {
     match answer {

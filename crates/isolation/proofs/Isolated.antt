@@ -29,7 +29,7 @@ module _ {S : Type 0} (F : Form S) (L : Lawful F) (key : ℕ) (s : S) (c : Call)
   abbrev r : After S Decoded
   r = call (received F) s c
 
-  abbrev Alone : Type 0
+  abbrev pub Alone : Type 0
   Alone = (ownOf F (r .table) key ≡ ownAfter (F .site s) (ownOf F s key) (heardIn key c)) × (saw F key c r ≡ sawAlone (F .site s) (ownOf F s key) (heardIn key c))
 
   not-heard : own key c ≡ false → none ≡ answerTo (ltb (heardIn key c .time) (F .clock s)) (view F s key) (heardIn key c .time) (heardIn key c .message)
@@ -40,7 +40,7 @@ module _ {S : Type 0} (F : Form S) (L : Lawful F) (key : ℕ) (s : S) (c : Call)
   unfolding heardIn
   heard o = own-call F L key s c table o (never o) .1
 
-  one-call : Alone
+  pub one-call : Alone
   one-call = by-owner (own key c) refl
     where
       both : (o : Bool) → own key c ≡ o → ownOf F (r .table) key ≡ ownAfter (F .site s) (ownOf F s key) (heardIn key c)
@@ -66,7 +66,7 @@ run-alone F L key (c ∷ cs) s table never =
 abbrev heard-as : ℕ → Option Message → Heard
 heard-as time m = record { time = time; message = m }
 
-same-heard : (key : ℕ) (c d : Call) → own key c ≡ false → own key d ≡ false → c .time ≡ d .time → heardIn key c ≡ heardIn key d
+pub same-heard : (key : ℕ) (c d : Call) → own key c ≡ false → own key d ≡ false → c .time ≡ d .time → heardIn key c ≡ heardIn key d
 unfolding own heardIn
 same-heard key c d o p e = ap₂ heard-as e (none-in key (decoded (c .message)) o ∙ sym (none-in key (decoded (d .message)) p))
 

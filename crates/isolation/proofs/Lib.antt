@@ -5,3 +5,5 @@ pub mod Played
 pub mod Examples
 pub mod OfCode
 pub mod OfSlice
+pub mod Stamped
+pub mod OfStamped

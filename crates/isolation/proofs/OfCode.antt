@@ -18,7 +18,6 @@ use Rattle.rules.specs.Form.{East}
 use Rattle.rules.specs.Rules as rules
 use Rattle.table.specs.Bytes.{bytes}
 use Rattle.table.specs.Table.{After, after, siteAt, setUp, setUpAt, received}
-use Rattle.table.proofs.Lawful.{bytes-lawful}
 use Rattle.table.proofs.set_up.Kinds as set-up-kinds
 use Rattle.table.proofs.set_up.Reads as set-up
 use Rattle.table.proofs.set_up_at.Kinds as set-up-at-kinds
@@ -27,6 +26,7 @@ use Rattle.table.proofs.receive.Kinds as receive-kinds
 use Rattle.table.proofs.receive.Reads as receive
 use Rattle.isolation.specs.Runs.{Call, Alike, call}
 use Rattle.isolation.specs.Played.{Played, shown, NotFull}
+use Rattle.isolation.proofs.Both.{bytes-isolated}
 use Rattle.isolation.proofs.Played.{played-isolated}
 
 -- ---- calls that met their contracts
@@ -77,7 +77,7 @@ abbrev pub given : Option Spot → Site
 given none = noSite
 given (some site) = siteAt site
 
-begun-is : (site : Option Spot) (s : List ℕ) (r : After SetUp) → Begun site s r → r ≡ rules.setUp bytes s (given site)
+pub begun-is : (site : Option Spot) (s : List ℕ) (r : After SetUp) → Begun site s r → r ≡ rules.setUp bytes s (given site)
 begun-is none s r b = ap (after (r .answer)) (sym (b .table)) ∙ b .meets ∙ ap setUp (b .lent)
 begun-is (some site) s r b = ap (after (r .answer)) (sym (b .table)) ∙ b .meets ∙ ap₂ setUpAt (b .lent) (b .given)
 
@@ -88,7 +88,7 @@ received-is {s} {c} {r} b =
     ∙ ap₂ (λ (x : List ℕ) (m : List ℕ). received x m (b .args .1 .1 .0)) (b .lent) (b .message)
     ∙ ap (received s (c .message)) (b .time)
 
-ran-played : {s : List ℕ} {cs : List Call} {rs : List (After Decoded)} → Ran s cs rs → Played bytes s cs rs
+ran-played : {s : List ℕ} {cs : List Call} {rs : List (After Decoded)} → Ran s cs rs → Played received s cs rs
 ran-played (stopped s) = tt
 ran-played (then b more) = (received-is b, ran-played more)
 
@@ -97,4 +97,4 @@ pub code-isolated : (key : ℕ) (site : Option Spot) → East (given site) → (
     → {xs ys : List Call} → Alike key xs ys → {ps qs : List (After Decoded)} → Ran (a .table) xs ps → Ran (b .table) ys qs
     → NotFull key xs ps → NotFull key ys qs → shown bytes key xs ps ≡ shown bytes key ys qs
 code-isolated key site east s t a b u v p q {xs} {ys} alike {ps} {qs} x y =
-    played-isolated bytes bytes bytes-lawful bytes-lawful key (given site) east s t a b (begun-is site s a u) (begun-is site t b v) p q xs ys alike ps qs (ran-played x) (ran-played y)
+    played-isolated bytes bytes bytes-isolated key (given site) east s t a b (begun-is site s a u) (begun-is site t b v) p q xs ys alike ps qs (ran-played x) (ran-played y)

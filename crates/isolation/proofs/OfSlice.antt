@@ -24,11 +24,11 @@ use Rattle.rules.specs.Rules.{setUp, received}
 use Rattle.slice_table.specs.Slice.{Slice, sliceOf, slice}
 use Rattle.slice_table.specs.Tracks.{After, after}
 use Rattle.refusals.proofs.Clauses.{so-too, both-say}
-use Rattle.slice_table.proofs.Lawful.{slice-lawful}
 use Rattle.slice_table.proofs.set_up as set-up
 use Rattle.slice_table.proofs.receive as receive
 use Rattle.isolation.specs.Runs.{Call, Alike, call}
 use Rattle.isolation.specs.Played.{Played, shown, NotFull}
+use Rattle.isolation.proofs.Both.{slice-isolated}
 use Rattle.isolation.proofs.Played.{played-isolated}
 
 module _ {M : Type 1} (𝓤 : URA M) (H : Heap 𝓤) (A : Atoms 𝓤) (mem : Memory → SProp 𝓤) (run : Routine → Fun 𝓤) where
@@ -75,10 +75,10 @@ module _ {M : Type 1} (𝓤 : URA M) (H : Heap 𝓤) (A : Atoms 𝓤) (mem : Mem
   begun-is : {site : Site} {s : Slice} {r : After SetUp} (b : Begun site s r) → ent 𝓤 (begun b) (fact 𝓤 (r ≡ setUp slice s site))
   begun-is b = so-too 𝓤 _ _ (λ p. sym (b .leaves) ∙ p ∙ ap₂ (setUp slice) (b .lent) (b .given))
 
-  ran-played : {s : Slice} {cs : List Call} {rs : List (After Decoded)} (w : Ran s cs rs) → ent 𝓤 (ran w) (fact 𝓤 (Played slice s cs rs))
+  ran-played : {s : Slice} {cs : List Call} {rs : List (After Decoded)} (w : Ran s cs rs) → ent 𝓤 (ran w) (fact 𝓤 (Played (received slice) s cs rs))
   ran-played (stopped s) = factI 𝓤 _ (emp 𝓤) tt
   ran-played (then {s} {c} {r} {cs} {rs} b more) =
-      both-say 𝓤 _ (ran more) _ (Played slice (r .table) cs rs) _
+      both-say 𝓤 _ (ran more) _ (Played (received slice) (r .table) cs rs) _
       (so-too 𝓤 _ (r ≡ call (received slice) s c)
       (λ p. sym (b .leaves) ∙ p ∙ ap₂ (λ (x : Slice) (m : List ℕ). received slice x m (b .args .1 .1 .1 .0)) (b .lent) (b .message) ∙ ap (received slice s (c .message)) (b .time)))
       (ran-played more) (λ p q. (p, q))
@@ -88,7 +88,7 @@ module _ {M : Type 1} (𝓤 : URA M) (H : Heap 𝓤) (A : Atoms 𝓤) (mem : Mem
       → {xs ys : List Call} → Alike key xs ys → {rs zs : List (After Decoded)} (x : Ran (a .table) xs rs) (y : Ran (b .table) ys zs) → NotFull key xs rs → NotFull key ys zs
       → ent 𝓤 (sep 𝓤 (sep 𝓤 (begun u) (ran x)) (sep 𝓤 (begun v) (ran y))) (fact 𝓤 (shown slice key xs rs ≡ shown slice key ys zs))
   slice-code-isolated key site east s t a b u v d e {xs} {ys} alike {rs} {zs} x y f g =
-      both-say 𝓤 (sep 𝓤 (begun u) (ran x)) (sep 𝓤 (begun v) (ran y)) ((a ≡ setUp slice s site) × Played slice (a .table) xs rs) ((b ≡ setUp slice t site) × Played slice (b .table) ys zs) _
+      both-say 𝓤 (sep 𝓤 (begun u) (ran x)) (sep 𝓤 (begun v) (ran y)) ((a ≡ setUp slice s site) × Played (received slice) (a .table) xs rs) ((b ≡ setUp slice t site) × Played (received slice) (b .table) ys zs) _
       (both-say 𝓤 (begun u) (ran x) _ _ _ (begun-is u) (ran-played x) (λ p q. (p, q)))
       (both-say 𝓤 (begun v) (ran y) _ _ _ (begun-is v) (ran-played y) (λ p q. (p, q)))
-      (λ p q. played-isolated slice slice slice-lawful slice-lawful key site east s t a b (p .0) (q .0) d e xs ys alike rs zs (p .1) (q .1) f g)
+      (λ p q. played-isolated slice slice slice-isolated key site east s t a b (p .0) (q .0) d e xs ys alike rs zs (p .1) (q .1) f g)

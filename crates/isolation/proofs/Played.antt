@@ -1,4 +1,4 @@
--- Demand 3 of a run as it was played: what its calls answered and left is what the rules give, so the theorem over the rules carries over.
+-- Demand 3 of a run as it was played: what its calls answered and left is what a rule gives, so a theorem over the rule carries over.
 -- Assumes nothing.
 use Prim.Native.Nat.{ℕ}
 use mathlib.Core.Path.{_≡_, refl, ap, ap₂, sym, _∙_, subst}
@@ -7,38 +7,38 @@ use Rattle.messages.specs.declared.Decoded.{Decoded}
 use Rattle.whereabouts.specs.declared.Site.{Site}
 use Rattle.rules.specs.declared.answers.SetUp.{SetUp}
 use Rattle.rules.specs.declared.answers.SetUp.the-variants.{Done}
-use Rattle.rules.specs.Form.{Form, East, Lawful}
-use Rattle.rules.specs.Rules.{After, setUp, received}
-use Rattle.isolation.specs.Runs.{Call, Alike, NeverFull, Seen, saw, seen}
+use Rattle.rules.specs.Form.{Form, East}
+use Rattle.rules.specs.Rules.{After, setUp}
+use Rattle.isolation.specs.Runs.{Call, Alike, Rule, NeverFull, Seen, saw, seen, Isolation}
 use Rattle.isolation.specs.Played.{Played, shown, NotFull}
-use Rattle.isolation.proofs.Isolated.{isolation}
 
-played-seen : {S : Type 0} (F : Form S) (key : ℕ) (s : S) (cs : List Call) (rs : List (After S Decoded)) → Played F s cs rs → shown F key cs rs ≡ seen F (received F) key s cs
-played-seen F key s [] [] p = refl
-played-seen {S} F key s (c ∷ cs) (r ∷ rs) p =
-    ap₂ (λ (x : Seen) (xs : List Seen). x ∷ xs) (ap (saw F key c) (p .0))
-    (played-seen F key (r .table) cs rs (p .1) ∙ ap (λ (x : After S Decoded). seen F (received F) key (x .table) cs) (p .0))
-played-seen F key s [] (r ∷ rs) p = absurd p
-played-seen F key s (c ∷ cs) [] p = absurd p
+module _ {S : Type 0} (F : Form S) (rule : Rule S) (key : ℕ) where
+  played-seen : (s : S) (cs : List Call) (rs : List (After S Decoded)) → Played rule s cs rs → shown F key cs rs ≡ seen F rule key s cs
+  played-seen s [] [] p = refl
+  played-seen s (c ∷ cs) (r ∷ rs) p =
+      ap₂ (λ (x : Seen) (xs : List Seen). x ∷ xs) (ap (saw F key c) (p .0))
+      (played-seen (r .table) cs rs (p .1) ∙ ap (λ (x : After S Decoded). seen F rule key (x .table) cs) (p .0))
+  played-seen s [] (r ∷ rs) p = absurd p
+  played-seen s (c ∷ cs) [] p = absurd p
 
-played-never : {S : Type 0} (F : Form S) (key : ℕ) (s : S) (cs : List Call) (rs : List (After S Decoded)) → Played F s cs rs → NotFull key cs rs → NeverFull (received F) key s cs
-played-never F key s [] [] p n = tt
-played-never {S} F key s (c ∷ cs) (r ∷ rs) p n = (
-  λ o a. n .0 o (ap (λ (x : After S Decoded). x .answer) (p .0) ∙ a),
-  subst (λ (x : After S Decoded). NeverFull (received F) key (x .table) cs) (p .0) (played-never F key (r .table) cs rs (p .1) (n .1)),
-)
-played-never F key s [] (r ∷ rs) p n = absurd p
-played-never F key s (c ∷ cs) [] p n = absurd p
+  played-never : (s : S) (cs : List Call) (rs : List (After S Decoded)) → Played rule s cs rs → NotFull key cs rs → NeverFull rule key s cs
+  played-never s [] [] p n = tt
+  played-never s (c ∷ cs) (r ∷ rs) p n = (
+    λ o a. n .0 o (ap (λ (x : After S Decoded). x .answer) (p .0) ∙ a),
+    subst (λ (x : After S Decoded). NeverFull rule key (x .table) cs) (p .0) (played-never (r .table) cs rs (p .1) (n .1)),
+  )
+  played-never s [] (r ∷ rs) p n = absurd p
+  played-never s (c ∷ cs) [] p n = absurd p
 
 -- two runs from a set-up each, alike for an aircraft, show it the same
-module _ {S T : Type 0} (F : Form S) (G : Form T) (L : Lawful F) (M : Lawful G) where
+module _ {S T : Type 0} (F : Form S) (G : Form T) {rule : Rule S} {rule′ : Rule T} (isolated : Isolation F G rule rule′) where
   pub played-isolated : (key : ℕ) (site : Site) → East site → (s : S) (t : T) (a : After S SetUp) (b : After T SetUp) → a ≡ setUp F s site → b ≡ setUp G t site → a .answer ≡ Done → b .answer ≡ Done
-      → (xs ys : List Call) → Alike key xs ys → (ps : List (After S Decoded)) (qs : List (After T Decoded)) → Played F (a .table) xs ps → Played G (b .table) ys qs
+      → (xs ys : List Call) → Alike key xs ys → (ps : List (After S Decoded)) (qs : List (After T Decoded)) → Played rule (a .table) xs ps → Played rule′ (b .table) ys qs
       → NotFull key xs ps → NotFull key ys qs → shown F key xs ps ≡ shown G key ys qs
   played-isolated key site east s t a b d e p q xs ys alike ps qs x y f g =
-      let x′ : Played F (setUp F s site .table) xs ps = subst (λ (z : After S SetUp). Played F (z .table) xs ps) d x in
-      let y′ : Played G (setUp G t site .table) ys qs = subst (λ (z : After T SetUp). Played G (z .table) ys qs) e y in
-      played-seen F key _ xs ps x′
-      ∙ isolation F G L M key site east s t (sym (ap (λ (z : After S SetUp). z .answer) d) ∙ p) (sym (ap (λ (z : After T SetUp). z .answer) e) ∙ q) xs ys alike
-      (played-never F key _ xs ps x′ f) (played-never G key _ ys qs y′ g)
-      ∙ sym (played-seen G key _ ys qs y′)
+      let x′ : Played rule (setUp F s site .table) xs ps = subst (λ (z : After S SetUp). Played rule (z .table) xs ps) d x in
+      let y′ : Played rule′ (setUp G t site .table) ys qs = subst (λ (z : After T SetUp). Played rule′ (z .table) ys qs) e y in
+      played-seen F rule key _ xs ps x′
+      ∙ isolated key site east s t (sym (ap (λ (z : After S SetUp). z .answer) d) ∙ p) (sym (ap (λ (z : After T SetUp). z .answer) e) ∙ q) xs ys alike
+      (played-never F rule key _ xs ps x′ f) (played-never G rule′ key _ ys qs y′ g)
+      ∙ sym (played-seen G rule′ key _ ys qs y′)

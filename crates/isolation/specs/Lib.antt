@@ -3,3 +3,4 @@ pub mod Alone
 pub mod Wrong
 pub mod Played
 pub mod Twin
+pub mod Stamped

@@ -7,15 +7,15 @@ use Rattle.refusals.specs.declared.Refusal.the-variants.{Full}
 use Rattle.messages.specs.declared.Decoded.{Decoded}
 use Rattle.messages.specs.declared.Decoded.the-variants as decode
 use Rattle.rules.specs.Form.{Form}
-use Rattle.rules.specs.Rules.{After, received}
-use Rattle.isolation.specs.Runs.{Call, own, call, Seen, saw}
+use Rattle.rules.specs.Rules.{After}
+use Rattle.isolation.specs.Runs.{Call, own, Rule, call, Seen, saw}
 
--- each call did what the rule says, to the table that the one before it left
-abbrev pub Played : {S : Type 0} → Form S → S → List Call → List (After S Decoded) → Type 0
-Played F s [] [] = Unit {0}
-Played F s (c ∷ cs) (r ∷ rs) = (r ≡ call (received F) s c) × Played F (r .table) cs rs
-Played F s [] (r ∷ rs) = ⊥
-Played F s (c ∷ cs) [] = ⊥
+-- each call did what a rule says, to the table that the one before it left
+abbrev pub Played : {S : Type 0} → Rule S → S → List Call → List (After S Decoded) → Type 0
+Played rule s [] [] = Unit {0}
+Played rule s (c ∷ cs) (r ∷ rs) = (r ≡ call rule s c) × Played rule (r .table) cs rs
+Played rule s [] (r ∷ rs) = ⊥
+Played rule s (c ∷ cs) [] = ⊥
 
 -- what an aircraft sees of it, and that 6 was answered to none of its messages
 abbrev pub shown : {S : Type 0} → Form S → ℕ → List Call → List (After S Decoded) → List Seen

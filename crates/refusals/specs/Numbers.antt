@@ -1,7 +1,7 @@
 -- The numbers that come back, as document 01's table has them, and document 02.
 use Prim.Native.Nat.{ℕ}
 use Rattle.refusals.specs.declared.Refusal.{Refusal}
-use Rattle.refusals.specs.declared.Refusal.the-variants.{Length, Late, Parity, Format, TypeCode, Full, Places, Field, Latitude, Zones, Block, NoTrack}
+use Rattle.refusals.specs.declared.Refusal.the-variants.{Length, Late, Parity, Format, TypeCode, Full, Places, Field, Latitude, Zones, Block, NoTrack, Overrun}
 
 abbrev pub numberOf : Refusal → ℕ
 numberOf Length = 1
@@ -16,3 +16,4 @@ numberOf Latitude = 9
 numberOf Zones = 10
 numberOf Block = 11
 numberOf NoTrack = 12
+numberOf Overrun = 13

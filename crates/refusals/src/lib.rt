@@ -27,6 +27,8 @@ pub enum Refusal {
     Block,
     // a key that is not held, and a message that starts no track
     NoTrack,
+    // a stamp whose time would pass 2^64 - 1
+    Overrun,
 }
 
 // The paper's number of a refusal.
@@ -46,5 +48,6 @@ pub fn number(r: Refusal) -> u32
         Refusal::Zones => 10,
         Refusal::Block => 11,
         Refusal::NoTrack => 12,
+        Refusal::Overrun => 13,
     }
 }

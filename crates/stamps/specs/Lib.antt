@@ -1,0 +1,4 @@
+pub mod Heard
+pub mod Said
+pub mod Stamps
+pub mod Times
