@@ -1,5 +1,5 @@
 /*
- * The loop in which both decoders are counted, so that it costs both the same and is taken off both.
+ * The loop in which all decoders are counted, so that it costs each the same and is taken off each.
  */
 #ifndef BENCH_HARNESS_H
 #define BENCH_HARNESS_H

@@ -35,7 +35,7 @@ static uint32_t receive(const struct record *record) {
 }
 
 static uint32_t flood(const struct record *record) {
-    return receive(record) != ADDERCOIL_FULL;
+    return receive(record) != ADDERCOIL_REFUSED_FULL;
 }
 
 static uint32_t list(uint32_t all) {
@@ -66,7 +66,7 @@ static uint32_t note_position(const struct record *record) {
     uint32_t number = receive(record);
     addercoil_decode(record->message, MESSAGE, fields, ADDERCOIL_FIELDS);
     addercoil_look_up(table, length, (uint32_t)fields[ADDERCOIL_KEY], track, ADDERCOIL_TRACK);
-    if (fields[ADDERCOIL_LAYOUT] == ADDERCOIL_SURFACE || fields[ADDERCOIL_LAYOUT] == ADDERCOIL_AIRBORNE) {
+    if (fields[ADDERCOIL_LAYOUT] == ADDERCOIL_LAYOUT_SURFACE || fields[ADDERCOIL_LAYOUT] == ADDERCOIL_LAYOUT_AIRBORNE) {
         position_messages++;
         positions_given +=
             track[ADDERCOIL_TRACK_POSITION_KNOWN] && track[ADDERCOIL_TRACK_POSITION_TIME] == record->time;

@@ -12,10 +12,10 @@
  *     for one table. Two tables may be used at once.
  *
  * Results
- *   - A function answers 0, or a number that says why it refused (ADDERCOIL_LENGTH and so on). Where it could refuse for
- *     several reasons, it says the first in the order in which its comment lists them.
+ *   - A function answers 0, or a number that says why it refused (ADDERCOIL_REFUSED_LENGTH and so on). Where it could
+ *     refuse for several reasons, it says the first in the order in which its comment lists them.
  *   - A result goes into a lent array that has just as many elements as its comment says. An array of another length is
- *     refused with ADDERCOIL_LENGTH. A call that refuses leaves its result array as it was. The state of
+ *     refused with ADDERCOIL_REFUSED_LENGTH. A call that refuses leaves its result array as it was. The state of
  *     addercoil_receive_stamp is no result: see there.
  *   - A number that can be below zero stands in a uint64_t in two's complement: (int64_t)out[i] is the number.
  *   - Unused entries are 0.
@@ -24,9 +24,10 @@
  *   - Latitude and longitude are in 2^-32 of a turn of 360 degrees. Latitude is signed, -2^30 (south pole) to 2^30.
  *     Longitude runs from 0 to the east, so that 2^31 is 180 degrees.
  *   - Times are in milliseconds, from whatever start the caller likes.
- *   - A key is an aircraft: its kind times 2^24, plus the 24 bits of AA. Of what aircraft send themselves the kinds are 1,
- *     I: an ICAO address, and 2, O: another one. Of what a ground station's traffic service sends (DF 18 with CF 2 or 5)
- *     they are 3, T: an ICAO address; 4, M: a Mode A code of 12 bits, then a track number of 12; 5, N: another address.
+ *   - A key is an aircraft: its kind times 2^24, plus the 24 bits of AA (ADDERCOIL_KEY_OF). Of what aircraft send
+ *     themselves the kinds are 1, I: an ICAO address, and 2, O: another one. Of what a ground station's traffic
+ *     service sends (DF 18 with CF 2 or 5) they are 3, T: an ICAO address; 4, M: a Mode A code of 12 bits, then a
+ *     track number of 12; 5, N: another address.
  *
  * Link with libaddercoil.a, which `tools/staticlib` writes to target/staticlib/, for x86-64 or for 64-bit ARM.
  */
@@ -44,22 +45,70 @@
 extern "C" {
 #endif
 
+/*
+ * 10,000 times the major number, 100 times the minor one, and the patch: this is 0.2.0. addercoil_version() says that
+ * of the archive; where the two differ, the program was built with another header. The bytes of a table may change with
+ * it.
+ */
+#define ADDERCOIL_VERSION 200
+
+/* The version of the archive, as ADDERCOIL_VERSION has it. */
+uint32_t addercoil_version(void);
+
 /* The numbers that come back. */
 enum {
     ADDERCOIL_OK = 0,
-    ADDERCOIL_LENGTH = 1,    /* a message that is not of 14 bytes, or a result or state array of a wrong length */
-    ADDERCOIL_LATE = 2,      /* a time below the table's clock, or a stamp 2^31 or more past the last one */
-    ADDERCOIL_PARITY = 3,    /* a parity remainder that is not 0 */
-    ADDERCOIL_FORMAT = 4,    /* a DF or CF that is not taken: only DF 17, and DF 18 with CF 0, 1, 2 or 5, are */
-    ADDERCOIL_TYPE = 5,      /* a TYPE or subtype that is not taken, or CF 5 with the flag of its address set */
-    ADDERCOIL_FULL = 6,      /* a new aircraft, and no place is free */
-    ADDERCOIL_PLACES = 7,    /* a table that is not of 1 to 1,024 whole places */
-    ADDERCOIL_FIELD = 8,     /* a field wider than its bits or that no such message has, a latitude beyond a pole, a choice above 1 */
-    ADDERCOIL_LATITUDE = 9,  /* a decoded latitude beyond a pole */
-    ADDERCOIL_ZONES = 10,    /* two latitudes in different longitude zones */
-    ADDERCOIL_NO_TRACK = 12, /* an aircraft that is not held, and a message that starts no track: see addercoil_receive */
-    ADDERCOIL_OVERRUN = 13   /* a stamp whose time would pass 2^64 - 1: see addercoil_receive_stamp */
+    ADDERCOIL_REFUSED_LENGTH = 1,    /* a message that is not of 14 bytes, or an array of a wrong length */
+    ADDERCOIL_REFUSED_LATE = 2,      /* a time below the table's clock, or a stamp 2^31 or more past the last one */
+    ADDERCOIL_REFUSED_PARITY = 3,    /* a parity remainder that is not 0 */
+    ADDERCOIL_REFUSED_FORMAT = 4,    /* a DF or CF that is not taken: DF 17 is, and DF 18 with CF 0, 1, 2 or 5 */
+    ADDERCOIL_REFUSED_TYPE = 5,      /* a TYPE or subtype that is not taken, or CF 5 with the flag of its address set */
+    ADDERCOIL_REFUSED_FULL = 6,      /* a new aircraft, and no place is free */
+    ADDERCOIL_REFUSED_PLACES = 7,    /* a table that is not of 1 to 1,024 whole places */
+    ADDERCOIL_REFUSED_FIELD = 8,     /* a field wider than its bits or that no such message has, a latitude beyond a
+                                        pole, a choice above 1 */
+    ADDERCOIL_REFUSED_LATITUDE = 9,  /* a decoded latitude beyond a pole */
+    ADDERCOIL_REFUSED_ZONES = 10,    /* two latitudes in different longitude zones */
+    ADDERCOIL_REFUSED_NO_TRACK = 12, /* an aircraft that is not held, and a message that starts no track */
+    ADDERCOIL_REFUSED_OVERRUN = 13,  /* a stamp whose time would pass 2^64 - 1 */
+    ADDERCOIL_NUMBERS                /* one more than the largest */
 };
+
+/*
+ * The numbers in words, so that a log can say them: static const char *const words[] = ADDERCOIL_NUMBER_WORDS; then
+ * words[number] is what the number means. No call answers 11: addercoil_feed_block counts bad blocks.
+ */
+#define ADDERCOIL_NUMBER_WORDS                                                  \
+    {                                                                           \
+        "accepted",                                                             \
+        "a message that is not of 14 bytes, or an array of a wrong length",     \
+        "a time below the table's clock, or a stamp too far past the last one", \
+        "a parity remainder that is not 0",                                     \
+        "a DF or CF that is not taken",                                         \
+        "a TYPE or subtype that is not taken, or a reserved flag",              \
+        "a new aircraft, and no place is free",                                 \
+        "a table that is not of 1 to 1,024 whole places",                       \
+        "a number out of its range: a field, a latitude, a choice",             \
+        "a decoded latitude beyond a pole",                                     \
+        "two latitudes in different longitude zones",                           \
+        "a block of a capture that fails its rules",                            \
+        "an aircraft that is not held, and a message that starts no track",     \
+        "a stamp whose time would pass 2^64 - 1"                                \
+    }
+
+/* The kinds of aircraft, in the order of the listing. What they are stands above, under Units. */
+enum {
+    ADDERCOIL_KIND_I = 1,
+    ADDERCOIL_KIND_O = 2,
+    ADDERCOIL_KIND_T = 3,
+    ADDERCOIL_KIND_M = 4,
+    ADDERCOIL_KIND_N = 5
+};
+
+/* The key of a kind with the 24 bits of AA, and either of them back. */
+#define ADDERCOIL_KEY_OF(kind, aa) ((uint32_t)(kind) << 24 | ((uint32_t)(aa) & 0xFFFFFFu))
+#define ADDERCOIL_KEY_KIND(key) ((uint32_t)(key) >> 24)
+#define ADDERCOIL_KEY_AA(key) ((uint32_t)(key) & 0xFFFFFFu)
 
 /* ---- The table: tracks in bytes that the caller lends ---- */
 
@@ -71,25 +120,26 @@ size_t addercoil_table_bytes(size_t places);
 
 /*
  * Empties the table: no track, no site, clock 0. Bytes that never were a table may be handed over.
- * Or ADDERCOIL_PLACES, which leaves the table as it was.
+ * Or ADDERCOIL_REFUSED_PLACES, which leaves the table as it was.
  */
 uint32_t addercoil_set_up(uint8_t *table, size_t table_len);
 
 /*
  * The same, with the site of the receiver: surface positions are read against it where the aircraft has no position of
  * its own of the last 120,000 ms.
- * Or ADDERCOIL_PLACES, ADDERCOIL_FIELD for the latitude; each leaves the table as it was.
+ * Or ADDERCOIL_REFUSED_PLACES, ADDERCOIL_REFUSED_FIELD for the latitude; each leaves the table as it was.
  */
 uint32_t addercoil_set_up_at(uint8_t *table, size_t table_len, int32_t latitude, uint32_t longitude);
 
 /*
- * A message of 14 bytes received at a time: starts or updates its aircraft's track, and moves the clock to the time.
- * A track goes when it was last heard 125,000 ms ago. TYPE 0 starts no track, and of one that is held it updates when it
+ * A message of 14 bytes received at a time: starts or updates its aircraft's track, and moves the clock to the time. A
+ * track goes when it was last heard 125,000 ms ago. TYPE 0 starts no track, and of one that is held it updates when it
  * was last heard and, unless the altitude code is 0, the pressure altitude. A track of kind T, M or N is started by a
  * position message alone, of TYPE 5-18 or 20-22.
- * Or ADDERCOIL_LENGTH, ADDERCOIL_PLACES, ADDERCOIL_LATE, which leave the table as it was;
- * or ADDERCOIL_PARITY, ADDERCOIL_FORMAT, ADDERCOIL_TYPE, and last ADDERCOIL_FULL, or of a message that starts no track
- * ADDERCOIL_NO_TRACK, which move the clock, so that tracks out of date go, and leave the other tracks as they were.
+ * Or ADDERCOIL_REFUSED_LENGTH, ADDERCOIL_REFUSED_PLACES, ADDERCOIL_REFUSED_LATE, which leave the table as it was;
+ * or ADDERCOIL_REFUSED_PARITY, ADDERCOIL_REFUSED_FORMAT, ADDERCOIL_REFUSED_TYPE, and last ADDERCOIL_REFUSED_FULL, or of
+ * a message that starts no track ADDERCOIL_REFUSED_NO_TRACK, which move the clock, so that tracks out of date go, and
+ * leave the other tracks as they were.
  */
 uint32_t addercoil_receive(uint8_t *table, size_t table_len, const uint8_t *message, size_t message_len, uint64_t time);
 
@@ -101,20 +151,21 @@ enum {
 };
 
 /*
- * The same for a receiver that stamps messages with a millisecond counter of 32 bits, which starts again from 0. Until a
- * stamp is accepted, the time is the stamp. Then it is the table's clock and how far the stamp is past the last accepted
- * one, counted around the circle, if that is below 2^31. state has ADDERCOIL_STAMPS entries; a call whose stamp is
- * accepted leaves 1 and the stamp there, and any other leaves them as they were.
- * Or ADDERCOIL_LENGTH for the message or state, ADDERCOIL_PLACES, ADDERCOIL_FIELD for STARTED above 1 or LAST above
- * 2^32 - 1, ADDERCOIL_LATE for a stamp 2^31 or more past the last, or a first one below the clock, ADDERCOIL_OVERRUN,
- * which leave the table and state as they were, so that the stamp is not accepted;
- * or ADDERCOIL_PARITY, ADDERCOIL_FORMAT, ADDERCOIL_TYPE, and last ADDERCOIL_FULL or ADDERCOIL_NO_TRACK, as above, whose
- * stamp is accepted: noise counts as heard.
+ * The same for a receiver that stamps messages with a millisecond counter of 32 bits, which starts again from 0. Until
+ * a stamp is accepted, the time is the stamp. Then it is the table's clock and how far the stamp is past the last
+ * accepted one, counted around the circle, if that is below 2^31. state has ADDERCOIL_STAMPS entries; a call whose
+ * stamp is accepted leaves 1 and the stamp there, and any other leaves them as they were.
+ * Or ADDERCOIL_REFUSED_LENGTH for the message or state, ADDERCOIL_REFUSED_PLACES, ADDERCOIL_REFUSED_FIELD for STARTED
+ * above 1 or LAST above 2^32 - 1, ADDERCOIL_REFUSED_LATE for a stamp 2^31 or more past the last, or a first one below
+ * the clock, ADDERCOIL_REFUSED_OVERRUN, which leave the table and state as they were, so that the stamp is not
+ * accepted;
+ * or ADDERCOIL_REFUSED_PARITY, ADDERCOIL_REFUSED_FORMAT, ADDERCOIL_REFUSED_TYPE, and last ADDERCOIL_REFUSED_FULL or
+ * ADDERCOIL_REFUSED_NO_TRACK, as above, whose stamp is accepted: noise counts as heard.
  */
 uint32_t addercoil_receive_stamp(uint8_t *table, size_t table_len, const uint8_t *message, size_t message_len,
                                  uint32_t stamp, uint64_t *state, size_t state_len);
 
-/* The clock: the latest time, into out of 1 entry. Or ADDERCOIL_LENGTH, ADDERCOIL_PLACES. */
+/* The clock: the latest time, into out of 1 entry. Or ADDERCOIL_REFUSED_LENGTH, ADDERCOIL_REFUSED_PLACES. */
 uint32_t addercoil_clock(const uint8_t *table, size_t table_len, uint64_t *out, size_t out_len);
 
 /* The entries of addercoil_site. */
@@ -125,12 +176,12 @@ enum {
     ADDERCOIL_SITE            /* how many there are */
 };
 
-/* The site, into out of ADDERCOIL_SITE entries. Or ADDERCOIL_LENGTH, ADDERCOIL_PLACES. */
+/* The site, into out of ADDERCOIL_SITE entries. Or ADDERCOIL_REFUSED_LENGTH, ADDERCOIL_REFUSED_PLACES. */
 uint32_t addercoil_site(const uint8_t *table, size_t table_len, uint64_t *out, size_t out_len);
 
 /*
  * The smallest key that is held above the given one, or 0 if there is none, into out of 1 entry. From key 0 on, this
- * walks the table in the order of its keys. Or ADDERCOIL_LENGTH, ADDERCOIL_PLACES.
+ * walks the table in the order of its keys. Or ADDERCOIL_REFUSED_LENGTH, ADDERCOIL_REFUSED_PLACES.
  */
 uint32_t addercoil_next(const uint8_t *table, size_t table_len, uint32_t key, uint64_t *out, size_t out_len);
 
@@ -151,11 +202,11 @@ enum {
     ADDERCOIL_TRACK_POSITION_KNOWN,        /* 0 or 1 */
     ADDERCOIL_TRACK_LATITUDE,              /* signed */
     ADDERCOIL_TRACK_LONGITUDE,
-    ADDERCOIL_TRACK_POSITION_TIME,
+    ADDERCOIL_TRACK_POSITION_TIME,         /* when it was heard */
     ADDERCOIL_TRACK_EVEN_KNOWN,            /* the latest even encoded position: 0 or 1 */
-    ADDERCOIL_TRACK_EVEN_LATITUDE_COUNT,
+    ADDERCOIL_TRACK_EVEN_LATITUDE_COUNT,   /* 17 bits, as of addercoil_encode_position */
     ADDERCOIL_TRACK_EVEN_LONGITUDE_COUNT,
-    ADDERCOIL_TRACK_EVEN_TIME,
+    ADDERCOIL_TRACK_EVEN_TIME,             /* when it was heard */
     ADDERCOIL_TRACK_ODD_KNOWN,             /* the latest odd one: 0 or 1 */
     ADDERCOIL_TRACK_ODD_LATITUDE_COUNT,
     ADDERCOIL_TRACK_ODD_LONGITUDE_COUNT,
@@ -202,8 +253,8 @@ enum {
 };
 
 /*
- * The track of a key, into out of ADDERCOIL_TRACK entries: all 0 if it is not held. Or ADDERCOIL_LENGTH,
- * ADDERCOIL_PLACES.
+ * The track of a key, into out of ADDERCOIL_TRACK entries: all 0 if it is not held. Or ADDERCOIL_REFUSED_LENGTH,
+ * ADDERCOIL_REFUSED_PLACES.
  */
 uint32_t addercoil_look_up(const uint8_t *table, size_t table_len, uint32_t key, uint64_t *out, size_t out_len);
 
@@ -217,18 +268,18 @@ uint32_t addercoil_look_up(const uint8_t *table, size_t table_len, uint32_t key,
 #define ADDERCOIL_LINE 129
 
 /*
- * The listing's first line, "clock C tracks T bad-blocks B" and a newline, then zeros, into out of ADDERCOIL_LINE bytes;
- * T is how many lines the listing has below it, bad is the number B. Or ADDERCOIL_LENGTH, ADDERCOIL_PLACES,
- * ADDERCOIL_FIELD for all above 1.
+ * The listing's first line, "clock C tracks T bad-blocks B" and a newline, then zeros, into out of ADDERCOIL_LINE
+ * bytes; T is how many lines the listing has below it, bad is the number B. Or ADDERCOIL_REFUSED_LENGTH,
+ * ADDERCOIL_REFUSED_PLACES, ADDERCOIL_REFUSED_FIELD for all above 1.
  */
 uint32_t addercoil_header(const uint8_t *table, size_t table_len, uint64_t bad, uint32_t all, uint8_t *out,
                           size_t out_len);
 
 /*
- * The line of a key, "I ABCDEF 1400 536870912 1073741824 10000 25" and a newline, then zeros, into out of ADDERCOIL_LINE
- * bytes: kind I, O, T, M or N, AA, last heard, latitude, longitude, pressure altitude and its step, which is 25 or 100;
- * "-" for what is unknown. All zeros, the empty string, if the key is not held or its track is not shown. Or
- * ADDERCOIL_LENGTH, ADDERCOIL_PLACES, ADDERCOIL_FIELD for all above 1.
+ * The line of a key, "I ABCDEF 1400 536870912 1073741824 10000 25" and a newline, then zeros, into out of
+ * ADDERCOIL_LINE bytes: kind I, O, T, M or N, AA, last heard, latitude, longitude, pressure altitude and its step,
+ * which is 25 or 100; "-" for what is unknown. All zeros, the empty string, if the key is not held or its track is not
+ * shown. Or ADDERCOIL_REFUSED_LENGTH, ADDERCOIL_REFUSED_PLACES, ADDERCOIL_REFUSED_FIELD for all above 1.
  */
 uint32_t addercoil_line(const uint8_t *table, size_t table_len, uint32_t key, uint32_t all, uint8_t *out,
                         size_t out_len);
@@ -243,7 +294,7 @@ uint32_t addercoil_line(const uint8_t *table, size_t table_len, uint32_t key, ui
  * Each of its records is received, and what is refused of them is passed over. bad is the number of bad blocks before
  * it, and that number after it goes into out of 1 entry; a block that fails its rules, also one that is not of
  * ADDERCOIL_BLOCK bytes, counts one more (never above 2^64 - 1) and leaves the table as it was.
- * Or ADDERCOIL_LENGTH, ADDERCOIL_PLACES, which leave the table as it was.
+ * Or ADDERCOIL_REFUSED_LENGTH, ADDERCOIL_REFUSED_PLACES, which leave the table as it was.
  */
 uint32_t addercoil_feed_block(uint8_t *table, size_t table_len, const uint8_t *block, size_t block_len, uint64_t bad,
                               uint64_t *out, size_t out_len);
@@ -255,24 +306,25 @@ enum { ADDERCOIL_SPOT_LATITUDE /* signed */, ADDERCOIL_SPOT_LONGITUDE, ADDERCOIL
 enum { ADDERCOIL_COUNT_LATITUDE, ADDERCOIL_COUNT_LONGITUDE, ADDERCOIL_COUNTS /* how many there are */ };
 
 /*
- * The counts that a message says of a spot, into out of ADDERCOIL_COUNTS entries. surface: 0 airborne, 1 surface.
- * odd: 0 even, 1 odd. Or ADDERCOIL_LENGTH, ADDERCOIL_FIELD for surface or odd above 1 or a latitude beyond a pole.
+ * The counts that a message says of a spot, into out of ADDERCOIL_COUNTS entries. surface: 0 airborne, 1 surface. odd:
+ * 0 even, 1 odd. Or ADDERCOIL_REFUSED_LENGTH, ADDERCOIL_REFUSED_FIELD for surface or odd above 1 or a latitude beyond a
+ * pole.
  */
 uint32_t addercoil_encode_position(int32_t latitude, uint32_t longitude, uint32_t surface, uint32_t odd, uint64_t *out,
                                    size_t out_len);
 
 /*
- * The spot of two airborne messages, an even and an odd one, into out of ADDERCOIL_SPOT entries: that of the later
- * one, which is the odd one if later_odd is 1. Or ADDERCOIL_LENGTH, ADDERCOIL_FIELD for a count above 131,071 or
- * later_odd above 1, ADDERCOIL_LATITUDE, ADDERCOIL_ZONES.
+ * The spot of two airborne messages, an even and an odd one, into out of ADDERCOIL_SPOT entries: that of the later one,
+ * which is the odd one if later_odd is 1. Or ADDERCOIL_REFUSED_LENGTH, ADDERCOIL_REFUSED_FIELD for a count above
+ * 131,071 or later_odd above 1, ADDERCOIL_REFUSED_LATITUDE, ADDERCOIL_REFUSED_ZONES.
  */
 uint32_t addercoil_pair(uint32_t even_latitude, uint32_t even_longitude, uint32_t odd_latitude, uint32_t odd_longitude,
                         uint32_t later_odd, uint64_t *out, size_t out_len);
 
 /*
  * The spot of one message near a reference, latitude and longitude, into out of ADDERCOIL_SPOT entries. Or
- * ADDERCOIL_LENGTH, ADDERCOIL_FIELD for a count above 131,071, surface or odd above 1 or a latitude beyond a pole,
- * ADDERCOIL_LATITUDE.
+ * ADDERCOIL_REFUSED_LENGTH, ADDERCOIL_REFUSED_FIELD for a count above 131,071, surface or odd above 1 or a latitude
+ * beyond a pole, ADDERCOIL_REFUSED_LATITUDE.
  */
 uint32_t addercoil_single(int32_t latitude, uint32_t longitude, uint32_t count_latitude, uint32_t count_longitude,
                           uint32_t surface, uint32_t odd, uint64_t *out, size_t out_len);
@@ -293,11 +345,11 @@ enum {
 
 /* The layouts, in entry 0 of the fields. */
 enum {
-    ADDERCOIL_IDENTIFICATION = 1,  /* TYPE 1-4 */
-    ADDERCOIL_SURFACE = 2,         /* TYPE 5-8 */
-    ADDERCOIL_AIRBORNE = 3,        /* TYPE 9-18 and 20-22; TYPE 0, whose F and counts mean nothing */
-    ADDERCOIL_GROUND = 4,          /* TYPE 19, subtypes 1 and 2: velocity over ground */
-    ADDERCOIL_AIR = 5              /* TYPE 19, subtypes 3 and 4: velocity through air */
+    ADDERCOIL_LAYOUT_IDENTIFICATION = 1,  /* TYPE 1-4 */
+    ADDERCOIL_LAYOUT_SURFACE = 2,         /* TYPE 5-8 */
+    ADDERCOIL_LAYOUT_AIRBORNE = 3,        /* TYPE 9-18 and 20-22; TYPE 0, whose F and counts mean nothing */
+    ADDERCOIL_LAYOUT_GROUND = 4,          /* TYPE 19, subtypes 1 and 2: velocity over ground */
+    ADDERCOIL_LAYOUT_AIR = 5              /* TYPE 19, subtypes 3 and 4: velocity through air */
 };
 
 /* How many entries the fields of a message have. */
@@ -314,117 +366,118 @@ enum {
 };
 
 /*
- * From entry 5 on the fields of ME in the order of their bits, each with how many bits it has, 1 bit where nothing
- * is said; from entry 20 on readings, which say what the codes mean, and which the encoder does not read.
+ * From entry 5 on the fields of ME in the order of their bits, each with how many bits it has, 1 bit where nothing is
+ * said; from entry 20 on readings, which say what the codes mean, and which the encoder does not read.
  *
  * Under DF 18 with CF 2 or 5, a ground station's traffic service, the same bits stand under the same names, and some
  * mean something else:
  *   - SURFACE_T, AIRBORNE_BIT8, GROUND_BIT9 and AIR_BIT9 are the flag of the address. Under CF 2 the kind is T if it is
- *     0, and M if it is 1; under CF 5 it is N if it is 0, and 1 is reserved. An identification has none: that counts as 0.
- *   - Of a velocity NACp is 8 * BIT10 + NACV, and VERTICAL_SOURCE is the GEO flag. If that is 1, the height difference is
- *     as elsewhere. If it is 0, there is none, and its reading is unknown: of ME bits 47 to 56, which stand in
+ *     0, and M if it is 1; under CF 5 it is N if it is 0, and 1 is reserved. An identification has none: that counts as
+ *     0.
+ *   - Of a velocity NACp is 8 * BIT10 + NACV, and VERTICAL_SOURCE is the GEO flag. If that is 1, the height difference
+ *     is as elsewhere. If it is 0, there is none, and its reading is unknown: of ME bits 47 to 56, which stand in
  *     VERTICAL_RESERVED (2 bits), _BELOW (1) and _DIFFERENCE_CODE (7), 48-50 are then NACv, 51-52 SIL and, through air,
  *     55 whether the heading is true or magnetic. Bit 47 is the NIC supplement either way. Which source the vertical
  *     rate has is not sent.
  */
 enum {
     ADDERCOIL_IDENTIFICATION_CATEGORY = 6,    /* 3 bits */
-    ADDERCOIL_IDENTIFICATION_CHARACTERS = 7,  /* eight of 6 bits, the first the highest: 1-26 A-Z, 32 space, 48-57 0-9 */
+    ADDERCOIL_IDENTIFICATION_CHARACTERS = 7,  /* eight of 6 bits: 1-26 A-Z, 32 space, 48-57 0-9, others "?" */
     ADDERCOIL_IDENTIFICATION_SET_IS = 20,     /* category set: 'A' to 'D' */
     ADDERCOIL_IDENTIFICATION_SET = 21,
     ADDERCOIL_IDENTIFICATION_TEXT_IS = 22,    /* eight bytes of ASCII as one number, the first the highest */
     ADDERCOIL_IDENTIFICATION_TEXT = 23
 };
 enum {
-    ADDERCOIL_SURFACE_MOVEMENT = 6,          /* 7 bits: 0 unknown, 1 stopped, 2-123 rising speeds, 124 over */
+    ADDERCOIL_SURFACE_MOVEMENT_CODE = 6,     /* 7 bits: 0 unknown, 1 stopped, 2-123 rising speeds, 124 over */
     ADDERCOIL_SURFACE_STATUS = 7,            /* 1 if the heading is valid */
-    ADDERCOIL_SURFACE_HEADING = 8,           /* 7 bits: 128ths of a turn */
-    ADDERCOIL_SURFACE_T = 9,                 /* under CF 2 and 5 the flag of the address */
+    ADDERCOIL_SURFACE_HEADING_CODE = 8,      /* 7 bits: 128ths of a turn */
+    ADDERCOIL_SURFACE_T = 9,                 /* 1 if its time is tied to UTC; under CF 2 and 5 the address flag */
     ADDERCOIL_SURFACE_F = 10,                /* 0 even, 1 odd */
     ADDERCOIL_SURFACE_LATITUDE_COUNT = 11,   /* 17 bits, as of addercoil_encode_position */
     ADDERCOIL_SURFACE_LONGITUDE_COUNT = 12,  /* 17 bits */
-    ADDERCOIL_SURFACE_SPEED_IS = 20,  /* 48ths of a knot, the lower edge */
+    ADDERCOIL_SURFACE_SPEED_IS = 20,         /* 48ths of a knot, the lower edge */
     ADDERCOIL_SURFACE_SPEED = 21,
-    ADDERCOIL_SURFACE_TURN_IS = 22,  /* heading in 2^-32 of a turn, whatever the status says */
+    ADDERCOIL_SURFACE_TURN_IS = 22,          /* heading in 2^-32 of a turn, whatever the status says */
     ADDERCOIL_SURFACE_TURN = 23
 };
 enum {
     ADDERCOIL_AIRBORNE_SURVEILLANCE = 6,      /* 2 bits */
     ADDERCOIL_AIRBORNE_BIT8 = 7,              /* under CF 2 and 5 the flag of the address */
     ADDERCOIL_AIRBORNE_ALTITUDE_CODE = 8,     /* 12 bits: 0 unknown; if 16 is set, N of the others is 25 N - 1,000 ft */
-    ADDERCOIL_AIRBORNE_T = 9,
+    ADDERCOIL_AIRBORNE_T = 9,                 /* 1 if its time is tied to UTC */
     ADDERCOIL_AIRBORNE_F = 10,                /* 0 even, 1 odd */
     ADDERCOIL_AIRBORNE_LATITUDE_COUNT = 11,   /* 17 bits, as of addercoil_encode_position */
     ADDERCOIL_AIRBORNE_LONGITUDE_COUNT = 12,  /* 17 bits */
-    ADDERCOIL_AIRBORNE_ALTITUDE_IS = 20,  /* feet, signed */
+    ADDERCOIL_AIRBORNE_ALTITUDE_IS = 20,      /* feet, signed */
     ADDERCOIL_AIRBORNE_ALTITUDE = 21,
-    ADDERCOIL_AIRBORNE_GNSS_IS = 22,  /* always known: 1 if the altitude is a GNSS height, 0 if by pressure */
+    ADDERCOIL_AIRBORNE_GNSS_IS = 22,          /* always known: 1 if the altitude is a GNSS height, 0 if by pressure */
     ADDERCOIL_AIRBORNE_GNSS = 23,
-    ADDERCOIL_AIRBORNE_STEP_IS = 24,  /* how coarse the altitude is, in feet: 25 or 100, known just when it is */
+    ADDERCOIL_AIRBORNE_STEP_IS = 24,          /* how coarse that is, in feet: 25 or 100, known just when it is */
     ADDERCOIL_AIRBORNE_STEP = 25
 };
 enum {
-    ADDERCOIL_GROUND_SUBTYPE = 6,  /* 3 bits: 1, or 2 for speeds in 4 knots */
-    ADDERCOIL_GROUND_BIT9 = 7,        /* under CF 2 and 5 the flag of the address */
-    ADDERCOIL_GROUND_BIT10 = 8,       /* under CF 2 and 5 the first bit of NACp */
-    ADDERCOIL_GROUND_NACV = 9,        /* 3 bits; under CF 2 and 5 the other three of NACp */
-    ADDERCOIL_GROUND_WEST = 10,       /* 1 if the next is to the west */
-    ADDERCOIL_GROUND_EASTWARD = 11,   /* 10 bits: 0 unknown, n is n - 1 knots, 1023 over */
-    ADDERCOIL_GROUND_SOUTH = 12,      /* 1 if the next is to the south */
-    ADDERCOIL_GROUND_NORTHWARD = 13,  /* 10 bits: likewise */
-    ADDERCOIL_GROUND_EAST_IS = 20,  /* knots, signed: west is below zero */
+    ADDERCOIL_GROUND_SUBTYPE = 6,          /* 3 bits: 1, or 2 for speeds in 4 knots */
+    ADDERCOIL_GROUND_BIT9 = 7,             /* under CF 2 and 5 the flag of the address */
+    ADDERCOIL_GROUND_BIT10 = 8,            /* under CF 2 and 5 the first bit of NACp */
+    ADDERCOIL_GROUND_NACV = 9,             /* 3 bits; under CF 2 and 5 the other three of NACp */
+    ADDERCOIL_GROUND_WEST = 10,            /* 1 if the next is to the west */
+    ADDERCOIL_GROUND_EASTWARD_CODE = 11,   /* 10 bits: 0 unknown, n is n - 1 knots, 1023 over */
+    ADDERCOIL_GROUND_SOUTH = 12,           /* 1 if the next is to the south */
+    ADDERCOIL_GROUND_NORTHWARD_CODE = 13,  /* 10 bits: likewise */
+    ADDERCOIL_GROUND_EAST_IS = 20,         /* knots, signed: west is below zero */
     ADDERCOIL_GROUND_EAST = 21,
-    ADDERCOIL_GROUND_NORTH_IS = 22,  /* knots, signed: south is below zero */
+    ADDERCOIL_GROUND_NORTH_IS = 22,        /* knots, signed: south is below zero */
     ADDERCOIL_GROUND_NORTH = 23
 };
 enum {
-    ADDERCOIL_AIR_SUBTYPE = 6,  /* 3 bits: 3, or 4 for a speed in 4 knots */
+    ADDERCOIL_AIR_SUBTYPE = 6,         /* 3 bits: 3, or 4 for a speed in 4 knots */
     ADDERCOIL_AIR_BIT9 = 7,            /* under CF 2 and 5 the flag of the address */
     ADDERCOIL_AIR_BIT10 = 8,           /* under CF 2 and 5 the first bit of NACp */
     ADDERCOIL_AIR_NACV = 9,            /* 3 bits; under CF 2 and 5 the other three of NACp */
     ADDERCOIL_AIR_STATUS = 10,         /* 1 if the heading is valid */
-    ADDERCOIL_AIR_HEADING = 11,        /* 10 bits: 1,024ths of a turn */
+    ADDERCOIL_AIR_HEADING_CODE = 11,   /* 10 bits: 1,024ths of a turn */
     ADDERCOIL_AIR_AIRSPEED_KIND = 12,  /* 0 indicated, 1 true */
-    ADDERCOIL_AIR_AIRSPEED = 13,       /* 10 bits: 0 unknown, n is n - 1 knots, 1023 over */
-    ADDERCOIL_AIR_TURN_IS = 20,  /* heading in 2^-32 of a turn, whatever the status says */
+    ADDERCOIL_AIR_AIRSPEED_CODE = 13,  /* 10 bits: 0 unknown, n is n - 1 knots, 1023 over */
+    ADDERCOIL_AIR_TURN_IS = 20,        /* heading in 2^-32 of a turn, whatever the status says */
     ADDERCOIL_AIR_TURN = 21,
-    ADDERCOIL_AIR_SPEED_IS = 22,  /* knots */
+    ADDERCOIL_AIR_SPEED_IS = 22,       /* knots */
     ADDERCOIL_AIR_SPEED = 23
 };
 /* Both velocities end alike. */
 enum {
-    ADDERCOIL_VERTICAL_SOURCE = 14,           /* under CF 2 and 5 the GEO flag: 1 if there is a height difference */
+    ADDERCOIL_VERTICAL_SOURCE = 14,           /* 0 geometric, 1 barometric; under CF 2 and 5 the GEO flag: see above */
     ADDERCOIL_VERTICAL_DOWN = 15,             /* 1 if the rate is downwards */
     ADDERCOIL_VERTICAL_RATE_CODE = 16,        /* 9 bits: 0 unknown, n is 64 (n - 1) feet per minute, 511 over */
     ADDERCOIL_VERTICAL_RESERVED = 17,         /* 2 bits */
     ADDERCOIL_VERTICAL_BELOW = 18,            /* 1 if the GNSS height is below the pressure altitude */
     ADDERCOIL_VERTICAL_DIFFERENCE_CODE = 19,  /* 7 bits: 0 unknown, n is 25 (n - 1) feet, 127 over */
-    ADDERCOIL_VERTICAL_RATE_IS = 24,  /* feet per minute, signed: down is below zero */
+    ADDERCOIL_VERTICAL_RATE_IS = 24,          /* feet per minute, signed: down is below zero */
     ADDERCOIL_VERTICAL_RATE = 25,
-    ADDERCOIL_VERTICAL_DIFFERENCE_IS = 26,  /* feet, signed: GNSS height less pressure altitude; see the GEO flag */
+    ADDERCOIL_VERTICAL_DIFFERENCE_IS = 26,    /* feet, signed: GNSS height less pressure altitude; see the GEO flag */
     ADDERCOIL_VERTICAL_DIFFERENCE = 27
 };
 
 /*
- * What a message of ADDERCOIL_MESSAGE bytes says, into fields of ADDERCOIL_FIELDS entries. Or ADDERCOIL_LENGTH,
- * ADDERCOIL_PARITY, ADDERCOIL_FORMAT, ADDERCOIL_TYPE.
+ * What a message of ADDERCOIL_MESSAGE bytes says, into fields of ADDERCOIL_FIELDS entries. Or ADDERCOIL_REFUSED_LENGTH,
+ * ADDERCOIL_REFUSED_PARITY, ADDERCOIL_REFUSED_FORMAT, ADDERCOIL_REFUSED_TYPE.
  */
 uint32_t addercoil_decode(const uint8_t *message, size_t message_len, uint64_t *fields, size_t fields_len);
 
 /*
  * What an ME says, as ADDERCOIL_TRACK_IDENTIFICATION, _VELOCITY and _SURFACE have it, into fields of ADDERCOIL_FIELDS
  * entries, as addercoil_decode gives them; what stands before ME, which are entries 1 to 4, is 0. key is that of the
- * track: its kind tells what the height difference means, and no more of it is asked. An ME of 0, which a track has where
- * it heard none, reads as TYPE 0: look at the ME first, or at ADDERCOIL_LAYOUT. Or ADDERCOIL_LENGTH, ADDERCOIL_FIELD for
- * an ME of more than 56 bits or what is no key, ADDERCOIL_TYPE.
+ * track: its kind tells what the height difference means, and no more of it is asked. An ME of 0, which a track has
+ * where it heard none, reads as TYPE 0: look at the ME first, or at ADDERCOIL_LAYOUT. Or ADDERCOIL_REFUSED_LENGTH,
+ * ADDERCOIL_REFUSED_FIELD for an ME of more than 56 bits or what is no key, ADDERCOIL_REFUSED_TYPE.
  */
 uint32_t addercoil_me(uint64_t me, uint32_t key, uint64_t *fields, size_t fields_len);
 
 /*
  * The message that says the fields, its parity included, into message of ADDERCOIL_MESSAGE bytes. It reads the layout,
- * DF, CA or CF, AA and the fields of ME of that layout, and no other entry. Or ADDERCOIL_LENGTH for either array,
- * ADDERCOIL_FIELD for a layout that is not 1 to 5, a field wider than its bits, or fields that addercoil_decode would
- * refuse; each leaves message as it was.
+ * DF, CA or CF, AA and the fields of ME of that layout, and no other entry. Or ADDERCOIL_REFUSED_LENGTH for either
+ * array, ADDERCOIL_REFUSED_FIELD for a layout that is not 1 to 5, a field wider than its bits, or fields that
+ * addercoil_decode would refuse; each leaves message as it was.
  */
 uint32_t addercoil_encode(const uint64_t *fields, size_t fields_len, uint8_t *message, size_t message_len);
 

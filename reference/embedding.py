@@ -101,7 +101,7 @@ def shown(track, traffic):
     entries = {}
     for number in filter(None, (track.identification, track.velocity, track.surface)):
         said = me_row(number, traffic)
-        layout = next(name for name in LAYOUTS if AT[name] == said["LAYOUT"])
+        layout = next(name for name in LAYOUTS if AT[f"LAYOUT_{name}"] == said["LAYOUT"])
         for name, of in SHOWN[layout].items():
             if traffic and name == "RATE_SOURCE":
                 continue  # not sent
@@ -120,10 +120,10 @@ VERTICAL = ["SOURCE", "DOWN", "RATE_CODE", "RESERVED", "BELOW", "DIFFERENCE_CODE
 VELOCITY = ["SUBTYPE", "BIT9", "BIT10", "NACV"]
 LAYOUTS = {
     "IDENTIFICATION": (messages.IDENTIFICATION, ["CATEGORY", "CHARACTERS"]),
-    "SURFACE": (messages.SURFACE, ["MOVEMENT", "STATUS", "HEADING", *PLACE]),
+    "SURFACE": (messages.SURFACE, ["MOVEMENT_CODE", "STATUS", "HEADING_CODE", *PLACE]),
     "AIRBORNE": (messages.AIRBORNE, ["SURVEILLANCE", "BIT8", "ALTITUDE_CODE", *PLACE]),
-    "GROUND": (messages.OVER_GROUND, [*VELOCITY, "WEST", "EASTWARD", "SOUTH", "NORTHWARD"]),
-    "AIR": (messages.THROUGH_AIR, [*VELOCITY, "STATUS", "HEADING", "AIRSPEED_KIND", "AIRSPEED"]),
+    "GROUND": (messages.OVER_GROUND, [*VELOCITY, "WEST", "EASTWARD_CODE", "SOUTH", "NORTHWARD_CODE"]),
+    "AIR": (messages.THROUGH_AIR, [*VELOCITY, "STATUS", "HEADING_CODE", "AIRSPEED_KIND", "AIRSPEED_CODE"]),
 }
 
 
@@ -183,7 +183,7 @@ HEAD = {"DF": "DF", "CA or CF": "CA", "AA": "AA", "TYPE": "TYPECODE"}  # the mod
 def message_row(message):
     """The entries of a decoded message."""
     layout = layout_of(message)
-    entries = {"LAYOUT": AT[layout], "KEY": key_of(message)}
+    entries = {"LAYOUT": AT[f"LAYOUT_{layout}"], "KEY": key_of(message)}
     entries |= {ours: message[name] for name, ours in HEAD.items()}
     entries |= {ours: message[name] for name, ours in entry_names(layout)}
     return entries | layout_readings(layout, message, messages.is_traffic(message))
@@ -198,13 +198,13 @@ def me_row(number, traffic):
         raise Refused(5)
     said = {"TYPE": type_code} | {name: messages.field(string, first, last) for name, first, last in fields}
     layout = layout_of(said)
-    entries = {"LAYOUT": AT[layout], "TYPECODE": type_code} | {ours: said[name] for name, ours in entry_names(layout)}
+    entries = {"LAYOUT": AT[f"LAYOUT_{layout}"], "TYPECODE": type_code} | {ours: said[name] for name, ours in entry_names(layout)}
     return entries | layout_readings(layout, said, traffic)
 
 
 def message_from(fields):
     """The message that an array of fields says, by its layout; 8 for a layout that is none."""
-    layout = next((name for name in LAYOUTS if AT[name] == fields[AT["LAYOUT"]]), None)
+    layout = next((name for name in LAYOUTS if AT[f"LAYOUT_{name}"] == fields[AT["LAYOUT"]]), None)
     if layout is None:
         raise Refused(8)
     message = {name: fields[AT[ours]] for name, ours in HEAD.items()}
@@ -212,6 +212,11 @@ def message_from(fields):
 
 
 # Calls: each gives its result array, as numbers or as bytes, or raises Refused
+
+
+def version():
+    """That of the header: a program whose header and archive differ can see it."""
+    return AT["VERSION"]
 
 
 def table_bytes(places):
@@ -396,6 +401,7 @@ class Function(NamedTuple):
 
 
 FUNCTIONS = {
+    "version": Function(version),
     "table_bytes": Function(table_bytes),
     "set_up": Function(set_up, WRITES),
     "set_up_at": Function(set_up_at, WRITES),
@@ -415,6 +421,7 @@ FUNCTIONS = {
     "encode": Function(encode, None, WORDS, AT["MESSAGE"], BYTES),
     "me": Function(me, None, None, AT["FIELDS"], WORDS),
 }
+NUMBERS = "version", "table_bytes"  # whose answer is no refusal, but a number
 
 
 # Lines
@@ -467,7 +474,7 @@ def outcome_text(call):
     arguments += [array_of(next(words), function.given)] if function.given else []
     length = int(next(words)) if function.result else 0
     arguments += map(int, words)
-    if name == "table_bytes":
+    if name in NUMBERS:
         return f"= {function.answer(*arguments)}"
     answer, left = answered(function, length, arguments)
     words = ["=", str(answer)]

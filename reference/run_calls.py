@@ -2,7 +2,8 @@
 
     python3 reference/run_calls.py
 
-tools/build-c must have built target/c/PROCESSOR/calls. Among the arguments are wrong lengths, damaged messages, tables of random
+tools/build-c must have built target/c/PROCESSOR/calls, and easy, which makes the same calls by the second header, with structs,
+and of which there is one in C++ too for x86-64. Among the arguments are wrong lengths, damaged messages, tables of random
 bytes, and tables whose values are just out of their ranges. The first difference is named, and the status is 1.
 """
 
@@ -13,6 +14,7 @@ import messages
 import table as tables
 import traffic
 from captures import BLOCK, MOST_RECORDS, block
+from captures import KINDS as LETTERS
 from embedding import AT, BYTES, FUNCTIONS, WORDS, WRITES, array_of, call_text, message_from, message_row, outcome_text, row
 from positions import AIRBORNE, EVEN, ODD
 from positions import encode as counts_of
@@ -188,8 +190,8 @@ def some_me(chance):
     return chance.choice((*[of_message] * 8, chance.getrandbits(56), 2**56 + of_message, number(chance)))
 
 
-FLAG = {AT["SURFACE"]: AT["SURFACE_T"], AT["AIRBORNE"]: AT["AIRBORNE_BIT8"]}  # the entry of the flag by the layout
-FLAG |= {AT["GROUND"]: AT["GROUND_BIT9"], AT["AIR"]: AT["AIR_BIT9"]}
+FLAGS = {"SURFACE": "SURFACE_T", "AIRBORNE": "AIRBORNE_BIT8", "GROUND": "GROUND_BIT9", "AIR": "AIR_BIT9"}
+FLAG = {AT[f"LAYOUT_{layout}"]: AT[flag] for layout, flag in FLAGS.items()}  # the entry of the flag by the layout
 
 
 def some_fields(chance):
@@ -273,11 +275,12 @@ def given_for(name, chance, table):
 def named(chance):
     """The functions, in any order, each with a table; then those of a listing, with tables of many places and few keys; then stamps."""
     pool = Tables(chance)
-    names = [*(name for name in FUNCTIONS if name != "receive_stamp"), "decode", *["receive"] * RECEIVED] * CALLS
+    names = [*(name for name in FUNCTIONS if name not in ("version", "receive_stamp")), "decode", *["receive"] * RECEIVED] * CALLS
     chance.shuffle(names)
     yield from ((name, pool.choose()) for name in names)
     yield from ((name, random_tracks(chance, 9, 40)) for name in LISTED * DOUBLED)
     yield from (("receive_stamp", pool.choose()) for _ in range(STAMPED))
+    yield "version", pool.choose()
 
 
 def answered(chance, name, table, length):
@@ -309,7 +312,7 @@ def difference(asked, given):
 
 # What must have been tried
 
-PAPER = dict(enumerate("OK LENGTH LATE PARITY FORMAT TYPE FULL PLACES FIELD LATITUDE ZONES".split()))  # by the header's names
+PAPER = dict(enumerate("LENGTH LATE PARITY FORMAT TYPE FULL PLACES FIELD LATITUDE ZONES".split(), 1))  # by the header's names
 PAPER |= {12: "NO_TRACK", 13: "OVERRUN"}
 READS = {0, 1, 7}
 NUMBERS = {
@@ -335,7 +338,8 @@ KINDS = {
 
 def header_faults():
     """The header's numbers that are not the paper's."""
-    wrong = [name for number, name in PAPER.items() if AT[name] != number]
+    wrong = [name for number, name in PAPER.items() if AT[f"REFUSED_{name}"] != number]
+    wrong += [name for number, name in LETTERS.items() if AT[f"KIND_{name}"] != number]
     return wrong + [name for name, size in (("BLOCK", BLOCK), ("MESSAGE", 14)) if AT[name] != size]
 
 
@@ -353,7 +357,7 @@ def kinds_missing(asked):
     return {
         (layout, name, kind)
         for layout, name, kind in promised
-        if not any(one[AT["LAYOUT"]] == AT[layout] and one[AT[name]] == AT[kind] for one in rows)
+        if not any(one[AT["LAYOUT"]] == AT[f"LAYOUT_{layout}"] and one[AT[name]] == AT[kind] for one in rows)
     }
 
 
@@ -433,7 +437,7 @@ def steps_missing(asked):
             seen |= {(name, sort, entries[AT[f"TRACK_{sort}_STEP"]]) for sort in ("ALTITUDE", "GNSS_HEIGHT") if held}
         elif name == "decode" and number == "0":
             entries = array_of(arrays[0], WORDS)
-            if entries[AT["LAYOUT"]] == AT["AIRBORNE"]:
+            if entries[AT["LAYOUT"]] == AT["LAYOUT_AIRBORNE"]:
                 seen.add((name, ("ALTITUDE", "GNSS_HEIGHT")[entries[AT["AIRBORNE_GNSS"]]], entries[AT["AIRBORNE_STEP"]]))
     due = {(name, sort, step) for name in ("look_up", "decode") for sort in ("ALTITUDE", "GNSS_HEIGHT") for step in (0, 25, 100)}
     return (due | set(OLD_LENGTHS)) - seen
@@ -467,10 +471,10 @@ def me_missing(asked):
         if call.startswith("me ") and words[1] == "0":
             entries = array_of(words[2], WORDS)
             seen.add(entries[AT["LAYOUT"]])
-            if entries[AT["LAYOUT"]] in (AT["GROUND"], AT["AIR"]):
+            if entries[AT["LAYOUT"]] in (AT["LAYOUT_GROUND"], AT["LAYOUT_AIR"]):
                 traffic = int(call.split()[-1]) >> 24 > 2
                 seen.add((traffic, entries[AT["VERTICAL_SOURCE"]], entries[AT["VERTICAL_DIFFERENCE_IS"]]))
-    due = {AT[name] for name in ("IDENTIFICATION", "SURFACE", "AIRBORNE", "GROUND", "AIR")}
+    due = {AT[f"LAYOUT_{name}"] for name in ("IDENTIFICATION", "SURFACE", "AIRBORNE", "GROUND", "AIR")}
     due |= {(traffic, 1, AT[kind]) for traffic in (False, True) for kind in STEPPED}
     return (due | {(True, 0, AT["UNKNOWN"])} | {(False, 0, AT[kind]) for kind in STEPPED}) - seen
 
@@ -494,19 +498,40 @@ def doubled_missing(asked):
     return {"0", "1"} - seen
 
 
+def for_structs(call):
+    """Can structs say a call? The result array has its own length, and a state 32 bits."""
+    name, *words = call.split()
+    function = FUNCTIONS[name]
+    lent = len([one for one in (function.table, function.given) if one])
+    if function.given == WORDS and len(array_of(words[lent - 1], WORDS)) != AT["FIELDS"]:
+        return False
+    if name == "receive_stamp" and any(int(word) >= 2**32 for word in words[-AT["STAMPS"] :]):
+        return False
+    return not function.result or int(words[lent]) == function.length
+
+
+def answers_otherwise(program, asked):
+    """What a program of C does that the model does not: a fault, or the first difference. None if there is nothing."""
+    done = ran(f"{C}/{program}", given="".join(f"{call}\n" for call, _ in asked).encode("ascii"))
+    found = difference(asked, done.stdout.decode("ascii").splitlines())
+    return f"{program}: status {done.returncode} {done.stderr.decode()}\n{found}" if done.returncode != 0 or found else None
+
+
 def main():
     asked = list(calls(Random(12)))
-    done = ran(f"{C}/calls", given="".join(f"{call}\n" for call, _ in asked).encode("ascii"))
-    found = difference(asked, done.stdout.decode("ascii").splitlines())
-    if done.returncode != 0 or found:
-        print(f"status {done.returncode} {done.stderr.decode()}\n{found}")
-        return 1
+    said = [(call, outcome) for call, outcome in asked if for_structs(call)]
+    programs = {"calls": asked, "easy": said} | ({"easy-cpp": said} if C.endswith("x86_64") else {})
+    for program, lines in programs.items():
+        fault = answers_otherwise(program, lines)
+        if fault:
+            print(fault)
+            return 1
     untried = [header_faults(), numbers_missing(asked), kinds_missing(asked), lost_missing(asked), traffic_missing(asked)]
     untried += [steps_missing(asked), shown_missing(asked), me_missing(asked), full_missing(asked), doubled_missing(asked)]
     if any(untried):
         print(f"the header has other numbers than the paper, or these were never tried: {untried}")
         return 1
-    print(f"{len(asked)} calls of {len(FUNCTIONS)} functions: C answers and leaves what the model does")
+    print(f"{len(asked)} calls of {len(FUNCTIONS)} functions, and {len(said)} with structs: C answers and leaves what the model does")
     return 0
 
 

@@ -5,6 +5,7 @@
 #include <string.h>
 
 const struct shape shapes[FUNCTIONS] = {
+    {"version", NO_TABLE, NOTHING, 0, NOTHING},
     {"table_bytes", NO_TABLE, NOTHING, 1, NOTHING},
     {"set_up", WRITES_TABLE, NOTHING, 0, NOTHING},
     {"set_up_at", WRITES_TABLE, NOTHING, 2, NOTHING},
@@ -27,72 +28,10 @@ const struct shape shapes[FUNCTIONS] = {
 
 static struct lent table, given, result;
 
-/* The result array where its elements are of 64 bits. */
-static uint64_t *result_words(const struct call *call) {
-    return shapes[call->function].result == WORDS ? (uint64_t *)result.at : NULL;
-}
-
 void call_open(void) {
     lent_open(&table);
     lent_open(&given);
     lent_open(&result);
-}
-
-/* The calls that are lent a table. */
-static uint64_t with_table(const struct call *call) {
-    const uint64_t *n = call->numbers;
-    uint8_t *t = table.at;
-    size_t size = call->table_size, length = call->result_length;
-    uint64_t *words = result_words(call);
-    switch (call->function) {
-    case SET_UP:
-        return addercoil_set_up(t, size);
-    case SET_UP_AT:
-        return addercoil_set_up_at(t, size, (int32_t)n[0], (uint32_t)n[1]);
-    case RECEIVE:
-        return addercoil_receive(t, size, given.at, call->given_size, n[0]);
-    case RECEIVE_STAMP:
-        return addercoil_receive_stamp(t, size, given.at, call->given_size, (uint32_t)n[0], words, length);
-    case CLOCK:
-        return addercoil_clock(t, size, words, length);
-    case SITE:
-        return addercoil_site(t, size, words, length);
-    case NEXT:
-        return addercoil_next(t, size, (uint32_t)n[0], words, length);
-    case LOOK_UP:
-        return addercoil_look_up(t, size, (uint32_t)n[0], words, length);
-    case HEADER:
-        return addercoil_header(t, size, n[0], (uint32_t)n[1], result.at, length);
-    case LINE:
-        return addercoil_line(t, size, (uint32_t)n[0], (uint32_t)n[1], result.at, length);
-    default:
-        return addercoil_feed_block(t, size, given.at, call->given_size, n[0], words, length);
-    }
-}
-
-/* The calls that are not. */
-static uint64_t without_table(const struct call *call) {
-    const uint64_t *n = call->numbers;
-    size_t length = call->result_length;
-    uint64_t *words = result_words(call);
-    switch (call->function) {
-    case TABLE_BYTES:
-        return addercoil_table_bytes(n[0]);
-    case ENCODE_POSITION:
-        return addercoil_encode_position((int32_t)n[0], (uint32_t)n[1], (uint32_t)n[2], (uint32_t)n[3], words, length);
-    case PAIR:
-        return addercoil_pair((uint32_t)n[0], (uint32_t)n[1], (uint32_t)n[2], (uint32_t)n[3], (uint32_t)n[4], words,
-                              length);
-    case SINGLE:
-        return addercoil_single((int32_t)n[0], (uint32_t)n[1], (uint32_t)n[2], (uint32_t)n[3], (uint32_t)n[4],
-                                (uint32_t)n[5], words, length);
-    case DECODE:
-        return addercoil_decode(given.at, call->given_size, words, length);
-    case ME:
-        return addercoil_me(n[0], (uint32_t)n[1], words, length);
-    default:
-        return addercoil_encode((const uint64_t *)given.at, call->given_size / WORDS, result.at, length);
-    }
 }
 
 /* Lends a copy of the bytes. */
@@ -110,7 +49,7 @@ static int same(const struct lent *lent, const uint8_t *bytes, size_t size, size
 
 /* Whether an answer says that the clock moved, and nothing else of the table: 3 to 6 and 12. */
 static int clock_moved(uint64_t answer) {
-    return (answer >= ADDERCOIL_PARITY && answer <= ADDERCOIL_FULL) || answer == ADDERCOIL_NO_TRACK;
+    return (answer >= ADDERCOIL_REFUSED_PARITY && answer <= ADDERCOIL_REFUSED_FULL) || answer == ADDERCOIL_REFUSED_NO_TRACK;
 }
 
 /* What an answer leaves of the table: after 1, 2, 7, 8 and 13 all of it, after 3 to 6 and 12 all but the clock, its
@@ -173,7 +112,7 @@ struct outcome call_make(const struct call *call) {
     for (i = 0; i < size; i++) {
         result.at[i] = byte_before(call, i);
     }
-    outcome.answer = shape->table == NO_TABLE ? without_table(call) : with_table(call);
+    outcome.answer = call_by(call, table.at, given.at, result.at);
     outcome.table = table.at;
     outcome.result = result.at;
     outcome.fault = fault_of(call, outcome.answer);

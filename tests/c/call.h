@@ -14,7 +14,12 @@
 #include "lent.h"
 #include <stdio.h>
 
+#ifdef __cplusplus
+extern "C" {
+#endif
+
 enum function {
+    VERSION,
     TABLE_BYTES,
     SET_UP,
     SET_UP_AT,
@@ -75,6 +80,12 @@ struct outcome {
     const char *fault; /* what was touched that must not be, or null */
 };
 
+/*
+ * A call made with what is lent, and its answer: by the functions of addercoil.h (direct.c), or by those of
+ * addercoil_easy.h (easy.c), whose structs are then laid out as the entries of a result array.
+ */
+uint64_t call_by(const struct call *call, uint8_t *table, uint8_t *given, uint8_t *result);
+
 /* Gets the memory, once. */
 void call_open(void);
 
@@ -87,5 +98,9 @@ size_t call_byte_at(size_t i, size_t element);
 /* The two halves of the line, the second with its = and the end of the line. */
 void call_write(FILE *out, const struct call *call);
 void outcome_write(FILE *out, const struct call *call, const struct outcome *outcome);
+
+#ifdef __cplusplus
+}
+#endif
 
 #endif

@@ -375,7 +375,7 @@ static int every_length(void) {
     size_t length;
     for (length = 0; length <= sizeof strange; length++) {
         int whole = length >= 16 + 79 && length <= 16 + 79 * 1024 && (length - 16) % 79 == 0;
-        if (addercoil_clock(strange, length, clock, 1) != (whole ? ADDERCOIL_OK : ADDERCOIL_PLACES)) {
+        if (addercoil_clock(strange, length, clock, 1) != (whole ? ADDERCOIL_OK : ADDERCOIL_REFUSED_PLACES)) {
             fprintf(stderr, "a table of %zu bytes\n", length);
             return 0;
         }

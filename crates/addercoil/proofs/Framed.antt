@@ -19,7 +19,6 @@ use Rattle.layouts.specs.declared.bodies.Taken.the-variants as read
 use Rattle.layouts.specs.Bodies.{layoutOf, isTaken, layoutWidths, takenAs, taken, bodyLayout, bodyFields, flagOf}
 use Rattle.layouts.proofs.BothWays.{fields-read, flag-read}
 use Rattle.messages.specs.declared.Frame.{Frame}
-use Rattle.messages.specs.declared.Decoded.{Decoded}
 use Rattle.messages.specs.Message.{keyBy, keyOf, trafficBy, traffic, withBody}
 use Rattle.messages.specs.Accepted.{frameKey, frameSays}
 use Rattle.messages.proofs.Acceptance.{messageOf}

@@ -4,6 +4,8 @@ use mathlib.Core.Path.{sym, _∙_}
 use Rattle.refusals.specs.Answers.{OneAnswer, OneOutcome}
 use Rattle.addercoil.specs.Lines.{Both, both}
 use Rattle.addercoil.specs.Sent.{Sent, sent}
+use Rattle.addercoil.proofs.version.addercoil_version.Kinds as version-kinds
+use Rattle.addercoil.proofs.version.addercoil_version.Reads as version
 use Rattle.addercoil.proofs.tables.addercoil_table_bytes.Kinds as table-bytes-kinds
 use Rattle.addercoil.proofs.tables.addercoil_table_bytes.Reads as table-bytes
 use Rattle.addercoil.proofs.tables.addercoil_set_up.Kinds as set-up-kinds
@@ -40,6 +42,9 @@ use Rattle.addercoil.proofs.numbers.addercoil_encode.Kinds as encode-ki
 use Rattle.addercoil.proofs.numbers.addercoil_encode.Reads as encode
 use Rattle.addercoil.proofs.stamped.addercoil_receive_stamp.Kinds as receive-stamp-kinds
 use Rattle.addercoil.proofs.stamped.addercoil_receive_stamp.Reads as receive-stamp
+
+pub version-once : OneAnswer 0 version-kinds.ps version-kinds.r version.Post
+version-once κs args x y left left′ p q = p ∙ sym q
 
 pub table-bytes-once : OneAnswer 0 table-bytes-kinds.ps table-bytes-kinds.r table-bytes.Post
 table-bytes-once κs args x y left left′ p q = p ∙ sym q

@@ -5,3 +5,4 @@ pub mod Sent
 pub mod Spots
 pub mod Stamps
 pub mod Tables
+pub mod Version

@@ -6,3 +6,4 @@ mod numbers;
 mod spots;
 mod stamped;
 mod tables;
+mod version;

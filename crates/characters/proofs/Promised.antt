@@ -10,13 +10,13 @@ use lib.Dec.{leb, eqb}
 use contract.Lifetimes.{Lfts}
 use denote.Triple.Clauses.{AtExit}
 use borrow.Fn.Kinds.{Dens, resT, endedOf}
-use Rattle.refusals.specs.Said.{Said, number, gives}
+use Rattle.refusals.specs.Said.{number, gives}
 use Rattle.fields.specs.Packing.{wider}
 use Rattle.fields.specs.Bytes.{Bytes}
 use Rattle.fields.proofs.Bools.{and-right, by-test, through}
 use Rattle.fields.proofs.Bytes.{fit-bytes, bytes-number}
 use Rattle.characters.specs.Text.{shown, eightShown, categorySetOf, characterOf, textOf}
-use Rattle.characters.specs.Said.{SetName, categorySetSaid, characterSaid, textSaid, setMeans, textMeans}
+use Rattle.characters.specs.Said.{categorySetSaid, characterSaid, textSaid, setMeans, textMeans}
 use Rattle.characters.proofs.category_set_of.Kinds as category-set-of-kinds
 use Rattle.characters.proofs.category_set_of.Reads as category-set-of
 use Rattle.characters.proofs.character_of.Kinds as character-of-kinds

@@ -6,7 +6,6 @@ use mathlib.Core.Bool.{false}
 use mathlib.Core.List.{List, [], _∷_}
 use native.Mathlib.Omega.{arith}
 use borrow.Author.Tests.{lt-ltb, le-ltb, ne-eqb}
-use lib.Dec.{eqb}
 use Rattle.listing.specs.declared.words.Asked.the-variants.{Positioned, All, Unclear}
 use Rattle.listing.specs.Words.{isAll, askedBy}
 

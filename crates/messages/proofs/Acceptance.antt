@@ -13,7 +13,7 @@ use Rattle.refusals.specs.declared.Refusal.the-variants.{Length, Parity, Format
 use Rattle.refusals.specs.Said.{number}
 use Rattle.fields.specs.Bytes.{number as numeral}
 use Rattle.parity.specs.Parity.{remainder}
-use Rattle.layouts.specs.Bodies.{layoutOf, isTaken, flagIn, takenAs, taken, bodyMe, bodyFits}
+use Rattle.layouts.specs.Bodies.{layoutOf, isTaken, takenAs, taken, bodyMe, bodyFits}
 use Rattle.layouts.specs.declared.bodies.Body.{Body}
 use Rattle.layouts.specs.declared.bodies.Layout.{Layout}
 use Rattle.layouts.specs.declared.bodies.Layout.the-variants as layout

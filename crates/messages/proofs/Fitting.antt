@@ -1,7 +1,7 @@
 -- A message that fits: its fields before ME fit, DF and CF are taken with the flag, and its body fits. The one place that takes the conjunction apart.
 -- Assumes nothing.
 use mathlib.Core.Path.{_≡_}
-use mathlib.Core.Bool.{Bool, true, _&&_}
+use mathlib.Core.Bool.{true, _&&_}
 use Rattle.fields.specs.Packing.{fits}
 use Rattle.fields.proofs.Bools.{and-left, and-right}
 use Rattle.layouts.specs.Bodies.{bodyFits}

@@ -1,7 +1,7 @@
 -- TYPE, the subtype and the flag of ME are bits of the message. The flag decides only under DF 18: what asks for it there alone says the same of every message, and whether the traffic service sent a message is told by DF and CF.
 -- Assumes nothing.
 use Prim.Native.Nat.{ℕ, zero, suc, _<_}
-use mathlib.Core.Path.{_≡_, refl, ap, ap₂, _∙_}
+use mathlib.Core.Path.{_≡_, refl, ap₂, _∙_}
 use mathlib.Core.Bool.{Bool, true, false, cond, _&&_, _||_, true≢false}
 use mathlib.Core.List.{List}
 use native.Mathlib.Omega.{arith}
@@ -10,7 +10,6 @@ use borrow.Author.Tests.{ne-eqb}
 use Rattle.fields.specs.Bytes.{number}
 use Rattle.fields.specs.Packing.{field, me}
 use Rattle.keys.specs.Keys.{isTraffic}
-use Rattle.keys.specs.declared.Kind.{Kind}
 use Rattle.keys.specs.declared.Kind.the-variants.{I, T, M}
 use Rattle.layouts.specs.Bodies.{layoutAt, layoutOf, flagBy, flagIn}
 use Rattle.layouts.specs.declared.bodies.Layout.{Layout}

@@ -12,15 +12,13 @@ use borrow.Fn.Kinds.{Dens, resT, endedOf}
 use borrow.Author.Tests.{le-leb, lt-leb, lt-ltb, le-ltb}
 use lib.IntN.{natAbs}
 use Rattle.refusals.specs.declared.Refusal.the-variants.{Field, Latitude, Zones}
-use Rattle.refusals.specs.Said.{Said, number, gives}
+use Rattle.refusals.specs.Said.{number, gives}
 use Rattle.positions.specs.declared.Spot.{Spot}
 use Rattle.positions.specs.declared.Turn.{Turn}
 use Rattle.positions.specs.declared.Format.{Format}
 use Rattle.positions.specs.declared.Format.the-variants.{Even, Odd}
 use Rattle.positions.specs.declared.Counts.{Counts}
-use Rattle.positions.specs.declared.Encoded.{Encoded}
 use Rattle.positions.specs.declared.Encoded.the-variants as encoding
-use Rattle.positions.specs.declared.Found.{Found}
 use Rattle.positions.specs.declared.Found.the-variants as finding
 use Rattle.positions.specs.Positions.{latitudeZones, allRound, countsOf, poleToPole, encoded, inside, pairLatitude, pairNL, pairFound, fit, paired, near, nearFound, singly}
 use Rattle.positions.specs.Said.{encodedSaid, foundSaid, pastPole, tooHigh, encodeTable, pairTable, singleTable}

@@ -15,15 +15,13 @@ use Rattle.refusals.specs.declared.Refusal.the-variants.{Field}
 use Rattle.refusals.specs.Said.{Said, number, gives}
 use Rattle.fields.specs.Packing.{wider}
 use Rattle.fields.proofs.Bools.{by-test, through}
-use Rattle.characters.specs.Text.{categorySetOf, textOf}
-use Rattle.characters.specs.Said.{categorySetSaid, textSaid, setMeans, textMeans}
 use Rattle.characters.proofs.Promised.{set-says, text-says}
 use Rattle.layouts.specs.declared.velocity.Vertical.{Vertical}
 use Rattle.layouts.specs.declared.bodies.Body.{Body}
 use Rattle.layouts.specs.declared.bodies.Body.the-variants as body
 use Rattle.layouts.specs.Bodies.{bodyFits}
 use Rattle.layouts.proofs.BothWays.{fitting}
-use Rattle.readings.specs.Altitude.{bit, fiveHundreds, hundreds, altitudeOf}
+use Rattle.readings.specs.Altitude.{bit, hundreds, altitudeOf}
 use Rattle.readings.specs.Amounts.{Scale, stepped, amount, speeds, rates, differences, speedOf, rateOf, differenceOf}
 use Rattle.readings.specs.Bodies.{heightDifference, bodyReadings, readingsOf}
 use Rattle.readings.specs.Headings.{headingOf}

@@ -27,7 +27,6 @@ use Rattle.rules.specs.Rules as rules
 use Rattle.rules.specs.View.{trackIn, viewAt}
 use Rattle.table.specs.Bytes.{bytes}
 use Rattle.table.specs.Table.{lookedUp, clockIn}
-use Rattle.table.specs.View.{view}
 use Rattle.report.specs.declared.Printed.the-variants.{Text, Refused, Nothing}
 use Rattle.report.specs.declared.Report.{Report}
 use Rattle.report.specs.Listing.{rowOf, shown, rowFor, rowsIn, headerFor, without, with, headerIn, reported, lineIn}

@@ -3,7 +3,7 @@
 use Prim.Native.Nat.{ℕ}
 use mathlib.Core.Path.{_≡_, refl, sym, ap, _∙_}
 use mathlib.Core.Bool.{true}
-use mathlib.Core.List.{List, [], _∷_}
+use mathlib.Core.List.{[], _∷_}
 use borrow.Author.Tests.{eq-eqb}
 use Rattle.fields.specs.Packing.{fits}
 use Rattle.fields.proofs.Bools.{and-left}
@@ -13,7 +13,7 @@ use Rattle.layouts.specs.declared.bodies.Layout.{Layout}
 use Rattle.layouts.specs.declared.bodies.Layout.the-variants as layout
 use Rattle.layouts.specs.declared.bodies.Taken.the-variants as read
 use Rattle.layouts.specs.declared.bodies.Written.the-variants as write
-use Rattle.layouts.specs.Bodies.{layoutOf, taken, bodyLayout, bodyFields, bodyWidths, typeAgrees, bodyMe, bodyFits}
+use Rattle.layouts.specs.Bodies.{taken, bodyLayout, bodyFields, bodyWidths, typeAgrees, bodyMe, bodyFits}
 use Rattle.layouts.proofs.BothWays.{read-back, fields-read}
 use Rattle.messages.specs.declared.Message.{Message}
 use Rattle.messages.specs.declared.Decoded.the-variants as decode

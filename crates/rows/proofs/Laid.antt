@@ -2,16 +2,16 @@
 -- Assumes nothing.
 use Prim.Native.Nat.{ℕ}
 use mathlib.Core.Path.{_≡_, refl, sym, ap, ap₂, _∙_}
-use mathlib.Core.Bool.{Bool, true, false, cond}
+use mathlib.Core.Bool.{Bool, true, false}
 use mathlib.Core.List.{List, [], _∷_, _++_}
 use native.Mathlib.Omega.{arith}
 use lib.Dec.{eqb}
-use lib.ListN.{length, getD, length-append}
+use lib.ListN.{length, length-append}
 use borrow.Author.Tests.{eq-eqb, ne-eqb}
 use Rattle.fields.proofs.Bools.{by-test}
 use Rattle.entries.specs.Arrays.{filled}
 use Rattle.layouts.specs.declared.bodies.Layout.{Layout}
-use Rattle.layouts.specs.Bodies.{layoutOf, layoutWidths, takenAs}
+use Rattle.layouts.specs.Bodies.{layoutWidths, takenAs}
 use Rattle.fields.specs.Packing.{unpack}
 use Rattle.track.specs.declared.Track.{Track}
 use Rattle.rows.specs.declared.message.Four.{Four}

@@ -1,6 +1,7 @@
 pub mod BothWays
 pub mod Cutting
 pub mod Laid
+pub mod OnGround
 pub mod ReadBack
 pub mod Refusing
 pub mod Unique

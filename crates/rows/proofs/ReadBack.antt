@@ -17,7 +17,7 @@ use Rattle.layouts.specs.declared.bodies.Taken.{Taken}
 use Rattle.layouts.specs.declared.bodies.Taken.the-variants as read
 use Rattle.layouts.specs.declared.bodies.Written.{Written}
 use Rattle.layouts.specs.declared.bodies.Written.the-variants as write
-use Rattle.layouts.specs.Bodies.{layoutOf, isTaken, layoutWidths, taken, bodyLayout, bodyFields}
+use Rattle.layouts.specs.Bodies.{layoutOf, isTaken, layoutWidths, taken, bodyFields}
 use Rattle.layouts.proofs.BothWays.{fields-read}
 use Rattle.messages.specs.declared.Message.{Message}
 use Rattle.messages.specs.declared.Decoded.{Decoded}

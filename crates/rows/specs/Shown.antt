@@ -5,7 +5,6 @@ use mathlib.Core.List.{List, [], _∷_, _++_}
 use lib.Dec.{eqb}
 use lib.ListN.{getD, replicate}
 use Rattle.layouts.specs.Bodies.{layoutOf}
-use Rattle.whereabouts.specs.declared.Saved.{Saved}
 use Rattle.track.specs.declared.Track.{Track}
 use Rattle.track.specs.Track.{noSaved}
 use Rattle.rows.specs.Rows.{meRow}
@@ -57,7 +56,11 @@ taxiing row = cond (isOf 2 row) (readingAt row 20 ++ readingAt row 22 ++ knownAt
 abbrev pub isSaved : Track → Bool
 isSaved t = getD (t .saved) 0 noSaved .known || getD (t .saved) 1 noSaved .known
 
+-- whether it is on the ground
+abbrev pub groundOf : Bool → Track → List ℕ
+groundOf traffic t = onGround (isSaved t) (rowIn traffic (t .groups .surface))
+
 unfoldable pub shown : Bool → Track → List ℕ
 shown traffic t =
-    let surface : List ℕ = rowIn traffic (t .groups .surface) in
-    named (rowIn traffic (t .groups .identification)) ++ (moving traffic (rowIn traffic (t .groups .velocity)) ++ (onGround (isSaved t) surface ++ taxiing surface))
+    named (rowIn traffic (t .groups .identification))
+    ++ (moving traffic (rowIn traffic (t .groups .velocity)) ++ (groundOf traffic t ++ taxiing (rowIn traffic (t .groups .surface))))

@@ -8,7 +8,7 @@ use messages::Decoded;
 use messages::Message;
 use refusals::Refusal;
 ghost use mathlib.Core.Path.{_≡_};
-ghost use Prim.Native.Nat.{_<_, _^_};
+ghost use Prim.Native.Nat.{_<_};
 ghost use Rattle.rows.specs.From.{messageWith, headWith, messageBy, messageFrom};
 
 fn message_with(format: u8, control: u8, address: u32, taken: Taken) -> Decoded

@@ -1,4 +1,4 @@
--- Each of the three premises is needed: a run for each from a set-up, in any form of the table, in which the other two hold, and the clock is wrong or a message is late. The messages are 14 zero bytes, which earn 4: the stamps count all the same.
+-- Each of the three premises is needed: a run for each from a set-up, in any form of the table, in which the other two hold, and the clock is wrong or a message is late. And all three can hold where the counter starts again. The messages are 14 zero bytes, which earn 4: the stamps count all the same.
 -- Assumes nothing.
 use Prim.Native.Nat.{ℕ, _+_, _^_, _<_}
 use mathlib.Core.Bool.{Bool, false, cond, true≢false}
@@ -19,7 +19,7 @@ use Rattle.stamps.specs.declared.Extended.the-variants.{At, Refused}
 use Rattle.stamps.specs.Stamps.{fresh, lastIs, distance, extended, stamped}
 use Rattle.stamps.specs.Times.{isAccepted, IfElse, Call, stampOf, Played, FirstTrue, NeverBack, NoneFar, Right}
 use Rattle.stamps.proofs.Ways.{by-clock, stamped-by}
-use Rattle.stamps.proofs.Extension.{Moved, moves, first-is}
+use Rattle.stamps.proofs.Extension.{Moved, moves, first-is, right-from}
 
 pub wide : (t : ℕ) → t < 2 ^ 32 → t < 2 ^ 64
 wide t h = omega arith
@@ -31,7 +31,7 @@ at time fits = record { message = replicate 14 0; time = time; fits = fits }
 abbrev pair : (a b : ℕ) → a < 2 ^ 32 → b < 2 ^ 64 → List Call
 pair a b h g = at a (wide a h) ∷ at b g ∷ []
 
--- 2^32, whose stamp is 0; 5, then 4; 0, then 2^31
+-- 2^32, whose stamp is 0; 5, then 4; 0, then 2^31; 2^32 - 1, then 2^32 + 5, whose stamp is 5
 abbrev turned : List Call
 turned = at 4294967296 (lit< tt) ∷ []
 
@@ -40,6 +40,9 @@ back = pair 5 4 (lit< tt) (lit< tt)
 
 abbrev far : List Call
 far = pair 0 2147483648 (lit< tt) (lit< tt)
+
+abbrev again : List Call
+again = pair 4294967295 4294967301 (lit< tt) (lit< tt)
 
 back-late : extended (lastIs 5) 5 (stampOf 4) ≡ Refused Late
 unfolding extended distance
@@ -113,3 +116,12 @@ module _ {S : Type 0} (F : Form S) (L : Lawful F) (site : Site) (s : S) (x : Fre
   -- a true time is 2^31 past the last accepted one
   pub none-far-needed : Wrong far (λ rs. FirstTrue far rs × NeverBack 0 far)
   none-far-needed = second-wrong 0 2147483648 (lit< tt) (lit< tt) far-late _ (first-true 0 2147483648 (lit< tt) (lit< tt), (omega arith, (omega arith, tt)))
+
+  -- the counter starts again between two calls: the premises hold, and after the second call the clock is its true time
+  pub across-a-turn : (rs : List (After S Stamped)) × (Played F s fresh again rs × ((FirstTrue again rs × (NeverBack 0 again × NoneFar none again rs)) × Right F again rs))
+  across-a-turn =
+      let rs : List (After S Stamped) = run 4294967295 4294967301 (lit< tt) (lit< tt) in
+      let a : FirstTrue again rs = first-true 4294967295 4294967301 (lit< tt) (lit< tt) in
+      let b : NeverBack 0 again = (omega arith, (omega arith, tt)) in
+      let f : NoneFar none again rs = none-far 4294967295 4294967301 (lit< tt) (lit< tt) (omega arith) in
+      (rs, ((refl, (refl, tt)), ((a, (b, f)), right-from F L again rs s fresh 0 (x .table .size) (x .clock) refl (refl, (refl, tt)) a b f)))

@@ -125,7 +125,7 @@ module _ {S : Type 0} (F : Form S) (L : Lawful F) where
     first-moves : stampOf (c .time) ≡ c .time → Moved F L s w state c (stamped F s state (c .message) (stampOf (c .time)))
     first-moves h = moves F L s w state c e (omega (arith, k)) (at-stamp ∙ ap At h)
 
-  right-from : (cs : List Call) (rs : List (After S Stamped)) (s : S) (state : Stamps) (before : ℕ) → F .whole s ≡ true → F .clock s ≡ 0 → state ≡ fresh
+  pub right-from : (cs : List Call) (rs : List (After S Stamped)) (s : S) (state : Stamps) (before : ℕ) → F .whole s ≡ true → F .clock s ≡ 0 → state ≡ fresh
       → Played F s state cs rs → FirstTrue cs rs → NeverBack before cs → NoneFar none cs rs → Right F cs rs
   right-from [] rs s state before w k st p a b f = tt
   right-from (c ∷ cs) [] s state before w k st p a b f = absurd p

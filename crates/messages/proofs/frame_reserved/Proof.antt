@@ -1,7 +1,7 @@
 -- `messages::frame_reserved` meets its contract: its first test is the definition's, and the other that of `is_reserved`.
 -- Assumes nothing.
 use mathlib.Core.Path.{ap, _∙_}
-use borrow.Author.Tests.{eq-eqb, ne-eqb}
+use borrow.Author.Tests.{ne-eqb}
 use Rattle.messages.specs.Message.{isReserved}
 use borrow.Author.Needs.{needs}
 use Rattle.messages.proofs.frame_reserved.Statement.{statement}

@@ -1,9 +1,8 @@
 -- `messages::framed_as` meets its contract: its tests are those of the definition.
 -- Assumes nothing.
 use mathlib.Core.Path.{_≡_, sym, ap₂, _∙_}
-use mathlib.Core.Bool.{Bool, true, false, not, _||_}
-use Rattle.layouts.specs.Bodies.{layoutOf, isTaken}
-use Rattle.messages.specs.Accepted.{framed, frameReserved}
+use mathlib.Core.Bool.{Bool, not, _||_}
+use Rattle.messages.specs.Accepted.{framed}
 use borrow.Author.Needs.{needs}
 use Rattle.messages.proofs.framed_as.Statement.{statement}
 use Rattle.messages.proofs.framed_as.Tie as tie

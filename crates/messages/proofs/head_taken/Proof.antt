@@ -1,6 +1,5 @@
 -- `messages::head_taken` meets its contract: DF and CF are taken, and the flag of its body is not reserved.
 -- Assumes nothing.
-use Prim.Native.Nat.{ℕ}
 use mathlib.Core.Bool.{Bool, not, _&&_}
 use mathlib.Core.Path.{ap, ap₂, _∙_}
 use Rattle.messages.specs.Message.{isReserved}

@@ -1,7 +1,7 @@
 -- `positions::zone_count_at` meets its contract: the distance from the equator comes to the table's unit, and the search there is the zone count.
 -- Assumes nothing.
 use Prim.Native.Nat.{ℕ, _*_}
-use mathlib.Core.Path.{sym, ap, ap₂, _∙_}
+use mathlib.Core.Path.{sym, ap, _∙_}
 use native.Mathlib.Omega.{arith}
 use lib.IntN.{subℕ}
 use Rattle.positions.specs.Code.{edges}

@@ -1,7 +1,8 @@
 /*
- * dump1090-mutability's side of the bench: peer MODE CORPUS WARM COUNT. bench/run builds it with that decoder's own
+ * dump1090-mutability's side of the bench: dump1090 MODE CORPUS WARM COUNT. bench/run builds it with that decoder's own
  * sources, which bench/fetch-peer fetches, and counts its instructions. The modes empty, decode, receive and positions
- * are those of bench/measure.c.
+ * are those of bench/measure.c. Its listing is its JSON of all aircraft, made and thrown away; shown prints it, for
+ * bench/run to look at.
  *
  * The decoder is set up as its main function does for `--lat --lon --quiet --no-fix`: the site is known, nothing is
  * printed, no bit is mended and there is no network.
@@ -15,14 +16,6 @@ static uint64_t now; /* the time of the message in hand */
 /* The decoder asks for the time of day. It gets the message's time, which is cheaper than to ask the system. */
 uint64_t mstime(void) {
     return now;
-}
-
-/* The decoder's output to the network, which is not on and so never called. */
-void modesQueueOutput(struct modesMessage *mm, struct aircraft *a) {
-    (void)mm;
-    (void)a;
-    fprintf(stderr, "peer: output to the network\n");
-    exit(1);
 }
 
 /* Its callers clear a message before each decoding: it sets only the fields that it finds. */
@@ -41,6 +34,26 @@ static uint32_t receive(const struct record *record) {
         useModesMessage(&message);
     }
     return answer;
+}
+
+static uint32_t list(FILE *out) {
+    int length = 0;
+    char *text = generateAircraftJson("", &length);
+    if (out != NULL) {
+        fwrite(text, 1, (size_t)length, out);
+    }
+    free(text);
+    return length == 0;
+}
+
+static uint32_t listing(const struct record *record) {
+    (void)record;
+    return list(NULL);
+}
+
+static uint32_t shown(const struct record *record) {
+    (void)record;
+    return list(stdout);
 }
 
 /* The bytes held, the share of positions, then address, latitude and longitude of each aircraft that has a position. */
@@ -72,9 +85,10 @@ static void set_up(void) {
 
 int main(int count, char **arguments) {
     static const struct mode modes[] = {
-        {"empty", do_nothing}, {"decode", decode}, {"receive", receive}, {"positions", receive}, {NULL, NULL}};
+        {"empty", do_nothing}, {"decode", decode}, {"receive", receive}, {"positions", receive},
+        {"listing", listing},  {"shown", shown},   {NULL, NULL}};
     if (count != 5) {
-        fprintf(stderr, "peer MODE CORPUS WARM COUNT\n");
+        fprintf(stderr, "dump1090 MODE CORPUS WARM COUNT\n");
         return 2;
     }
     set_up();

@@ -1,0 +1,73 @@
+/* A call made by the functions of addercoil.h: see call.h. */
+#include "call.h"
+#include <addercoil.h>
+
+/* The result array where its elements are of 64 bits. */
+static uint64_t *words_of(const struct call *call, uint8_t *result) {
+    return shapes[call->function].result == WORDS ? (uint64_t *)result : NULL;
+}
+
+/* The calls that are lent a table. */
+static uint64_t with_table(const struct call *call, uint8_t *t, const uint8_t *given, uint8_t *result) {
+    const uint64_t *n = call->numbers;
+    size_t size = call->table_size, length = call->result_length;
+    uint64_t *words = words_of(call, result);
+    switch (call->function) {
+    case SET_UP:
+        return addercoil_set_up(t, size);
+    case SET_UP_AT:
+        return addercoil_set_up_at(t, size, (int32_t)n[0], (uint32_t)n[1]);
+    case RECEIVE:
+        return addercoil_receive(t, size, given, call->given_size, n[0]);
+    case RECEIVE_STAMP:
+        return addercoil_receive_stamp(t, size, given, call->given_size, (uint32_t)n[0], words, length);
+    case CLOCK:
+        return addercoil_clock(t, size, words, length);
+    case SITE:
+        return addercoil_site(t, size, words, length);
+    case NEXT:
+        return addercoil_next(t, size, (uint32_t)n[0], words, length);
+    case LOOK_UP:
+        return addercoil_look_up(t, size, (uint32_t)n[0], words, length);
+    case HEADER:
+        return addercoil_header(t, size, n[0], (uint32_t)n[1], result, length);
+    case LINE:
+        return addercoil_line(t, size, (uint32_t)n[0], (uint32_t)n[1], result, length);
+    default:
+        return addercoil_feed_block(t, size, given, call->given_size, n[0], words, length);
+    }
+}
+
+/* The calls that are not. */
+static uint64_t without_table(const struct call *call, const uint8_t *given, uint8_t *result) {
+    const uint64_t *n = call->numbers;
+    size_t length = call->result_length;
+    uint64_t *words = words_of(call, result);
+    switch (call->function) {
+    case VERSION:
+        return addercoil_version();
+    case TABLE_BYTES:
+        return addercoil_table_bytes(n[0]);
+    case ENCODE_POSITION:
+        return addercoil_encode_position((int32_t)n[0], (uint32_t)n[1], (uint32_t)n[2], (uint32_t)n[3], words, length);
+    case PAIR:
+        return addercoil_pair((uint32_t)n[0], (uint32_t)n[1], (uint32_t)n[2], (uint32_t)n[3], (uint32_t)n[4], words,
+                              length);
+    case SINGLE:
+        return addercoil_single((int32_t)n[0], (uint32_t)n[1], (uint32_t)n[2], (uint32_t)n[3], (uint32_t)n[4],
+                                (uint32_t)n[5], words, length);
+    case DECODE:
+        return addercoil_decode(given, call->given_size, words, length);
+    case ME:
+        return addercoil_me(n[0], (uint32_t)n[1], words, length);
+    default:
+        return addercoil_encode((const uint64_t *)given, call->given_size / WORDS, result, length);
+    }
+}
+
+uint64_t call_by(const struct call *call, uint8_t *table, uint8_t *given, uint8_t *result) {
+    if (shapes[call->function].table == NO_TABLE) {
+        return without_table(call, given, result);
+    }
+    return with_table(call, table, given, result);
+}

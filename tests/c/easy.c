@@ -1,0 +1,336 @@
+/*
+ * A call made by the functions of addercoil_easy.h, in C or in C++: see call.h. What a struct has is laid out as the
+ * entries of the result array, by what the comments of both headers say, and not by what the wrappers do. A call whose
+ * result array has another length cannot be said with structs, nor can a state of more than 32 bits.
+ */
+#include "call.h"
+#include <addercoil_easy.h>
+#include <string.h>
+
+#define NO_NUMBER 99 /* what no function answers: the struct is wrong */
+
+static struct addercoil_spot spot(uint64_t latitude, uint64_t longitude) {
+    struct addercoil_spot made = {(int32_t)latitude, (uint32_t)longitude};
+    return made;
+}
+
+static struct addercoil_counts counts(uint64_t latitude, uint64_t longitude) {
+    struct addercoil_counts made = {(uint32_t)latitude, (uint32_t)longitude};
+    return made;
+}
+
+/* The entries of a reading, of a spot, of a saved position. */
+static void put(uint64_t *row, int at, struct addercoil_reading reading) {
+    row[at] = reading.is;
+    row[at + 1] = (uint64_t)reading.value;
+}
+
+static void put_spot(uint64_t *row, int at, struct addercoil_spot from) {
+    row[at] = (uint64_t)(int64_t)from.latitude;
+    row[at + 1] = from.longitude;
+}
+
+static void put_saved(uint64_t *row, int at, struct addercoil_saved saved) {
+    row[at] = (uint64_t)saved.known;
+    row[at + 1] = saved.counts.latitude;
+    row[at + 2] = saved.counts.longitude;
+    row[at + 3] = saved.time;
+}
+
+/* A known callsign: its characters, and the spaces behind them, of which the text has none. */
+static void put_callsign(uint64_t *row, int at, const char *callsign) {
+    size_t i, length = strlen(callsign);
+    row[at] = length > 0 && callsign[length - 1] == ' ' ? NO_NUMBER : ADDERCOIL_KNOWN;
+    row[at + 1] = 0;
+    for (i = 0; i < 8; i++) {
+        row[at + 1] = row[at + 1] << 8 | (uint8_t)(i < length ? callsign[i] : ' ');
+    }
+}
+
+/* What a track has of an identification; a callsign of spaces is known, and as text it is empty too. */
+static void put_identification(uint64_t *row, const struct addercoil_track *track) {
+    if (track->category[0] == '\0') {
+        return;
+    }
+    put_callsign(row, ADDERCOIL_TRACK_CALLSIGN_IS, track->callsign);
+    row[ADDERCOIL_TRACK_CATEGORY_SET_IS] = row[ADDERCOIL_TRACK_CATEGORY_IS] = ADDERCOIL_KNOWN;
+    row[ADDERCOIL_TRACK_CATEGORY_SET] = (uint64_t)track->category[0];
+    row[ADDERCOIL_TRACK_CATEGORY] = (uint64_t)(track->category[1] - '0');
+}
+
+static void put_readings(uint64_t *row, const struct addercoil_track *track) {
+    put(row, ADDERCOIL_TRACK_ALTITUDE_IS, track->altitude);
+    put(row, ADDERCOIL_TRACK_ALTITUDE_STEP_IS, track->altitude_step);
+    put(row, ADDERCOIL_TRACK_GNSS_HEIGHT_IS, track->gnss_height);
+    put(row, ADDERCOIL_TRACK_GNSS_HEIGHT_STEP_IS, track->gnss_height_step);
+    put(row, ADDERCOIL_TRACK_EAST_IS, track->east);
+    put(row, ADDERCOIL_TRACK_NORTH_IS, track->north);
+    put(row, ADDERCOIL_TRACK_HEADING_IS, track->heading);
+    put(row, ADDERCOIL_TRACK_HEADING_STATUS_IS, track->heading_status);
+    put(row, ADDERCOIL_TRACK_AIRSPEED_IS, track->airspeed);
+    put(row, ADDERCOIL_TRACK_AIRSPEED_KIND_IS, track->airspeed_kind);
+    put(row, ADDERCOIL_TRACK_RATE_IS, track->rate);
+    put(row, ADDERCOIL_TRACK_RATE_SOURCE_IS, track->rate_source);
+    put(row, ADDERCOIL_TRACK_ON_GROUND_IS, track->on_ground);
+    put(row, ADDERCOIL_TRACK_MOVEMENT_IS, track->movement);
+    put(row, ADDERCOIL_TRACK_SURFACE_HEADING_IS, track->surface_heading);
+    put(row, ADDERCOIL_TRACK_SURFACE_STATUS_IS, track->surface_status);
+}
+
+/* Whether a struct is as it was filled before the call. */
+static int left(const void *made, size_t size) {
+    const uint8_t *bytes = (const uint8_t *)made;
+    size_t i;
+    for (i = 0; i < size; i++) {
+        if (bytes[i] != FRESH) {
+            return 0;
+        }
+    }
+    return 1;
+}
+
+static uint32_t look_up(struct addercoil_table table, uint32_t key, uint64_t *row) {
+    struct addercoil_track track;
+    uint32_t number;
+    memset(&track, FRESH, sizeof track);
+    number = addercoil_easy_look_up(table, key, &track);
+    if (number != ADDERCOIL_OK) {
+        return left(&track, sizeof track) ? number : NO_NUMBER;
+    }
+    memset(row, 0, ADDERCOIL_TRACK * sizeof *row);
+    row[ADDERCOIL_TRACK_HELD] = (uint64_t)track.held;
+    row[ADDERCOIL_TRACK_HEARD] = track.heard;
+    row[ADDERCOIL_TRACK_IDENTIFICATION] = track.identification;
+    row[ADDERCOIL_TRACK_VELOCITY] = track.velocity;
+    row[ADDERCOIL_TRACK_SURFACE] = track.surface;
+    row[ADDERCOIL_TRACK_PRESSURE_CODE] = track.pressure_code;
+    row[ADDERCOIL_TRACK_HEIGHT_CODE] = track.height_code;
+    row[ADDERCOIL_TRACK_POSITION_KNOWN] = (uint64_t)track.position_known;
+    put_spot(row, ADDERCOIL_TRACK_LATITUDE, track.position);
+    row[ADDERCOIL_TRACK_POSITION_TIME] = track.position_time;
+    put_saved(row, ADDERCOIL_TRACK_EVEN_KNOWN, track.even);
+    put_saved(row, ADDERCOIL_TRACK_ODD_KNOWN, track.odd);
+    put_identification(row, &track);
+    put_readings(row, &track);
+    return number;
+}
+
+/* The readings of a message, by its layout. */
+static void put_meant(uint64_t *row, const struct addercoil_message *m) {
+    switch (m->layout) {
+    case ADDERCOIL_LAYOUT_IDENTIFICATION:
+        put_callsign(row, ADDERCOIL_IDENTIFICATION_TEXT_IS, m->callsign);
+        row[ADDERCOIL_IDENTIFICATION_SET_IS] = ADDERCOIL_KNOWN;
+        row[ADDERCOIL_IDENTIFICATION_SET] = (uint64_t)m->category[0];
+        row[ADDERCOIL_IDENTIFICATION_CATEGORY] = (uint64_t)(m->category[1] - '0');
+        return;
+    case ADDERCOIL_LAYOUT_SURFACE:
+        put(row, ADDERCOIL_SURFACE_SPEED_IS, m->movement);
+        put(row, ADDERCOIL_SURFACE_TURN_IS, m->surface_heading);
+        row[ADDERCOIL_SURFACE_STATUS] = (uint64_t)m->surface_status;
+        return;
+    case ADDERCOIL_LAYOUT_AIRBORNE:
+        put(row, ADDERCOIL_AIRBORNE_ALTITUDE_IS, m->altitude);
+        put(row, ADDERCOIL_AIRBORNE_STEP_IS, m->altitude_step);
+        put(row, ADDERCOIL_AIRBORNE_GNSS_IS, m->gnss);
+        return;
+    case ADDERCOIL_LAYOUT_GROUND:
+        put(row, ADDERCOIL_GROUND_EAST_IS, m->east);
+        put(row, ADDERCOIL_GROUND_NORTH_IS, m->north);
+        break;
+    default:
+        put(row, ADDERCOIL_AIR_TURN_IS, m->heading);
+        put(row, ADDERCOIL_AIR_SPEED_IS, m->airspeed);
+        row[ADDERCOIL_AIR_STATUS] = (uint64_t)m->heading_status;
+    }
+    put(row, ADDERCOIL_VERTICAL_RATE_IS, m->rate);
+    put(row, ADDERCOIL_VERTICAL_DIFFERENCE_IS, m->difference);
+}
+
+/* Whether the readings that its layout has not are unknown, which is 0. */
+static int others_unknown(const struct addercoil_message *m) {
+    uint32_t is = m->layout;
+    int named = is == ADDERCOIL_LAYOUT_IDENTIFICATION, airborne = is == ADDERCOIL_LAYOUT_AIRBORNE;
+    int surface = is == ADDERCOIL_LAYOUT_SURFACE, ground = is == ADDERCOIL_LAYOUT_GROUND, air = is == ADDERCOIL_LAYOUT_AIR;
+    return (named || (m->callsign[0] | m->category[0]) == 0) &&
+           (surface || ((m->movement.is | m->surface_heading.is) == 0 && !m->surface_status)) &&
+           (airborne || (m->altitude.is | m->altitude_step.is | m->gnss.is) == 0) &&
+           (ground || (m->east.is | m->north.is) == 0) &&
+           (air || ((m->heading.is | m->airspeed.is) == 0 && !m->heading_status)) &&
+           (ground || air || (m->rate.is | m->difference.is) == 0);
+}
+
+/* Whether a key, if there is one, is made of its kind and the address, and comes apart. */
+static int key_is(uint32_t key, uint32_t aa) {
+    return key == 0 || (key == ADDERCOIL_KEY_OF(ADDERCOIL_KEY_KIND(key), aa) && ADDERCOIL_KEY_AA(key) == aa);
+}
+
+/* The entries of a message's struct: what has no name there is taken from its own entries. */
+static uint32_t put_message(uint32_t number, const struct addercoil_message *m, uint64_t *row) {
+    if (number != ADDERCOIL_OK) {
+        return left(m, sizeof *m) ? number : NO_NUMBER;
+    }
+    memset(row, 0, ADDERCOIL_FIELDS * sizeof *row);
+    memcpy(row + ADDERCOIL_TYPECODE, m->fields + ADDERCOIL_TYPECODE,
+           ((int)ADDERCOIL_IDENTIFICATION_SET_IS - (int)ADDERCOIL_TYPECODE) * sizeof *row);
+    row[ADDERCOIL_LAYOUT] = m->layout;
+    row[ADDERCOIL_DF] = m->df;
+    row[ADDERCOIL_CA] = m->ca;
+    row[ADDERCOIL_AA] = m->aa;
+    row[ADDERCOIL_KEY] = m->key;
+    row[ADDERCOIL_TYPECODE] = m->type;
+    put_meant(row, m);
+    return others_unknown(m) && key_is(m->key, m->aa) ? 0 : NO_NUMBER;
+}
+
+static uint32_t put_pair(uint32_t number, uint64_t *row, struct addercoil_spot from) {
+    if (number == ADDERCOIL_OK) {
+        put_spot(row, ADDERCOIL_SPOT_LATITUDE, from);
+    }
+    return number;
+}
+
+static uint32_t encode_position(const uint64_t *n, uint64_t *row) {
+    struct addercoil_counts made;
+    uint32_t number = addercoil_easy_encode_position(spot(n[0], n[1]), (int)n[2], (int)n[3], &made);
+    if (number == ADDERCOIL_OK) {
+        row[ADDERCOIL_COUNT_LATITUDE] = made.latitude;
+        row[ADDERCOIL_COUNT_LONGITUDE] = made.longitude;
+    }
+    return number;
+}
+
+static uint32_t site(struct addercoil_table table, uint64_t *row) {
+    struct addercoil_site from;
+    uint32_t number = addercoil_easy_site(table, &from);
+    if (number == ADDERCOIL_OK) {
+        row[ADDERCOIL_SITE_KNOWN] = (uint64_t)from.known;
+        put_spot(row, ADDERCOIL_SITE_LATITUDE, from.spot);
+    }
+    return number;
+}
+
+/* The walk says whether there is a key, and no number: that of a table that is refused is the clock's. */
+static uint32_t next(struct addercoil_table table, uint32_t key, uint64_t *row) {
+    uint64_t clock;
+    uint32_t above = key, number = addercoil_easy_clock(table, &clock);
+    int found = addercoil_easy_next(table, &above);
+    if (number == ADDERCOIL_OK) {
+        *row = found ? above : 0;
+    }
+    return found == (above != key) && (number == ADDERCOIL_OK || !found) ? number : NO_NUMBER;
+}
+
+static uint32_t receive_stamp(const struct call *call, struct addercoil_table table, const uint8_t *given,
+                              uint64_t *row) {
+    struct addercoil_stamps stamps = {(uint32_t)row[ADDERCOIL_STAMP_STARTED], (uint32_t)row[ADDERCOIL_STAMP_LAST]};
+    uint32_t number =
+        addercoil_easy_receive_stamp(table, given, call->given_size, (uint32_t)call->numbers[0], &stamps);
+    row[ADDERCOIL_STAMP_STARTED] = stamps.started;
+    row[ADDERCOIL_STAMP_LAST] = stamps.last;
+    return number;
+}
+
+static uint32_t feed_block(const struct call *call, struct addercoil_table table, const uint8_t *given, uint64_t *row) {
+    uint64_t bad = call->numbers[0];
+    uint32_t number = addercoil_easy_feed_block(table, given, call->given_size, &bad);
+    if (number == ADDERCOIL_OK) {
+        *row = bad;
+    }
+    return number;
+}
+
+static uint32_t encode(const uint8_t *given, uint8_t *bytes) {
+    struct addercoil_message message;
+    memcpy(message.fields, given, sizeof message.fields);
+    return addercoil_easy_encode(&message, bytes);
+}
+
+/* A line begins with the letter of the key's kind and the address in hex. */
+static uint32_t line(struct addercoil_table table, uint32_t key, int all, char *text) {
+    char begins[16];
+    uint32_t number = addercoil_easy_line(table, key, all, text);
+    sprintf(begins, "%c %06X ", addercoil_easy_kind_letter(key), (unsigned)ADDERCOIL_KEY_AA(key));
+    return number != ADDERCOIL_OK || text[0] == '\0' || strncmp(text, begins, strlen(begins)) == 0 ? number : NO_NUMBER;
+}
+
+/* The version, if each number has words of its own, and what is no number has none. */
+static uint64_t version(void) {
+    uint32_t i, j;
+    for (i = 0; i < ADDERCOIL_NUMBERS; i++) {
+        for (j = 0; j < i; j++) {
+            if (strcmp(addercoil_easy_number_words(i), addercoil_easy_number_words(j)) == 0) {
+                return NO_NUMBER;
+            }
+        }
+    }
+    return addercoil_easy_number_words(ADDERCOIL_NUMBERS)[0] == '\0' ? addercoil_version() : NO_NUMBER;
+}
+
+static uint32_t with_table(const struct call *call, struct addercoil_table t, const uint8_t *given, uint8_t *result) {
+    const uint64_t *n = call->numbers;
+    uint64_t *row = (uint64_t *)result;
+    switch (call->function) {
+    case SET_UP:
+        return addercoil_easy_set_up(t);
+    case SET_UP_AT:
+        return addercoil_easy_set_up_at(t, spot(n[0], n[1]));
+    case RECEIVE:
+        return addercoil_easy_receive(t, given, call->given_size, n[0]);
+    case RECEIVE_STAMP:
+        return receive_stamp(call, t, given, row);
+    case CLOCK:
+        return addercoil_easy_clock(t, row);
+    case SITE:
+        return site(t, row);
+    case NEXT:
+        return next(t, (uint32_t)n[0], row);
+    case LOOK_UP:
+        return look_up(t, (uint32_t)n[0], row);
+    case HEADER:
+        return addercoil_easy_header(t, n[0], (int)n[1], (char *)result);
+    case LINE:
+        return line(t, (uint32_t)n[0], (int)n[1], (char *)result);
+    default:
+        return feed_block(call, t, given, row);
+    }
+}
+
+static uint64_t without_table(const struct call *call, const uint8_t *given, uint8_t *result) {
+    const uint64_t *n = call->numbers;
+    uint64_t *row = (uint64_t *)result;
+    struct addercoil_message message;
+    struct addercoil_spot from = {0, 0};
+    uint32_t number;
+    memset(&message, FRESH, sizeof message);
+    switch (call->function) {
+    case VERSION:
+        return version();
+    case TABLE_BYTES:
+        return addercoil_table_bytes(n[0]);
+    case ENCODE_POSITION:
+        return encode_position(n, row);
+    case PAIR:
+        number = addercoil_easy_pair(counts(n[0], n[1]), counts(n[2], n[3]), (int)n[4], &from);
+        return put_pair(number, row, from);
+    case SINGLE:
+        number = addercoil_easy_single(spot(n[0], n[1]), counts(n[2], n[3]), (int)n[4], (int)n[5], &from);
+        return put_pair(number, row, from);
+    case DECODE:
+        number = addercoil_easy_decode(given, call->given_size, &message);
+        return put_message(number, &message, row);
+    case ME:
+        number = addercoil_easy_me(n[0], (uint32_t)n[1], &message);
+        return put_message(number, &message, row);
+    default:
+        return encode(given, result);
+    }
+}
+
+uint64_t call_by(const struct call *call, uint8_t *table, uint8_t *given, uint8_t *result) {
+    struct addercoil_table lent = {table, call->table_size};
+    if (shapes[call->function].table == NO_TABLE) {
+        return without_table(call, given, result);
+    }
+    return with_table(call, lent, given, result);
+}
