@@ -22,7 +22,7 @@
  *
  * Units
  *   - Latitude and longitude are in 2^-32 of a turn of 360 degrees. Latitude is signed, -2^30 (south pole) to 2^30.
- *     Longitude runs from 0 to the east, so that 2^31 is 180 degrees.
+ *     Longitude runs from 0 to the east, so that 2^31 is 180 degrees. addercoil_degrees gives both in degrees.
  *   - Times are in milliseconds, from whatever start the caller likes.
  *   - A key is an aircraft: its kind times 2^24, plus the 24 bits of AA (ADDERCOIL_KEY_OF). Of what aircraft send
  *     themselves the kinds are 1, I: an ICAO address, and 2, O: another one. Of what a ground station's traffic
@@ -46,11 +46,11 @@ extern "C" {
 #endif
 
 /*
- * 10,000 times the major number, 100 times the minor one, and the patch: this is 0.2.0. addercoil_version() says that
+ * 10,000 times the major number, 100 times the minor one, and the patch: this is 0.3.0. addercoil_version() says that
  * of the archive; where the two differ, the program was built with another header. The bytes of a table may change with
  * it.
  */
-#define ADDERCOIL_VERSION 200
+#define ADDERCOIL_VERSION 300
 
 /* The version of the archive, as ADDERCOIL_VERSION has it. */
 uint32_t addercoil_version(void);
@@ -71,12 +71,13 @@ enum {
     ADDERCOIL_REFUSED_ZONES = 10,    /* two latitudes in different longitude zones */
     ADDERCOIL_REFUSED_NO_TRACK = 12, /* an aircraft that is not held, and a message that starts no track */
     ADDERCOIL_REFUSED_OVERRUN = 13,  /* a stamp whose time would pass 2^64 - 1 */
+    ADDERCOIL_REFUSED_DEGREES = 15,  /* a double that is no spot's latitude or longitude in degrees */
     ADDERCOIL_NUMBERS                /* one more than the largest */
 };
 
 /*
  * The numbers in words, so that a log can say them: static const char *const words[] = ADDERCOIL_NUMBER_WORDS; then
- * words[number] is what the number means. No call answers 11: addercoil_feed_block counts bad blocks.
+ * words[number] is what the number means. No call answers 11: addercoil_feed_block counts bad blocks. 14 is not in use.
  */
 #define ADDERCOIL_NUMBER_WORDS                                                  \
     {                                                                           \
@@ -93,7 +94,9 @@ enum {
         "two latitudes in different longitude zones",                           \
         "a block of a capture that fails its rules",                            \
         "an aircraft that is not held, and a message that starts no track",     \
-        "a stamp whose time would pass 2^64 - 1"                                \
+        "a stamp whose time would pass 2^64 - 1",                               \
+        "",                                                                     \
+        "a double that is no spot's latitude or longitude in degrees"           \
     }
 
 /* The kinds of aircraft, in the order of the listing. What they are stands above, under Units. */
@@ -328,6 +331,23 @@ uint32_t addercoil_pair(uint32_t even_latitude, uint32_t even_longitude, uint32_
  */
 uint32_t addercoil_single(int32_t latitude, uint32_t longitude, uint32_t count_latitude, uint32_t count_longitude,
                           uint32_t surface, uint32_t odd, uint64_t *out, size_t out_len);
+
+/* The entries of a spot in degrees. */
+enum { ADDERCOIL_DEGREES_LATITUDE, ADDERCOIL_DEGREES_LONGITUDE, ADDERCOIL_DEGREES /* how many there are */ };
+
+/*
+ * A spot in degrees, into out of ADDERCOIL_DEGREES doubles: each is exactly the whole number times 360 over 2^32, and
+ * nothing is rounded. Longitude is from -180, which is 2^31, up to below 180. Different spots have different doubles,
+ * and zero is positive zero. Or ADDERCOIL_REFUSED_LENGTH, ADDERCOIL_REFUSED_FIELD for a latitude beyond a pole.
+ */
+uint32_t addercoil_degrees(int32_t latitude, uint32_t longitude, double *out, size_t out_len);
+
+/*
+ * Back: the spot that two doubles exactly are, into out of ADDERCOIL_SPOT entries. Any other double is refused and not
+ * rounded: 180.0, a latitude beyond a pole, as a rule what was typed in decimal, not-a-number, infinities, minus zero.
+ * Or ADDERCOIL_REFUSED_LENGTH, ADDERCOIL_REFUSED_DEGREES.
+ */
+uint32_t addercoil_from_degrees(double latitude, double longitude, uint64_t *out, size_t out_len);
 
 /* ---- Messages ---- */
 

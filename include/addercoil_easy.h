@@ -2,8 +2,8 @@
  * Addercoil with structs: the functions of addercoil.h for those who don't want arrays of numbers. Each that is lent
  * something has its twin here, which calls it with the lengths filled in and hands its answer on: 0, or a number that
  * says why it refused; addercoil_easy_next says whether there is one more. A call that refuses leaves what it was to
- * fill as it was, but for the state of stamps, as addercoil_receive_stamp says. In C++ too the struct of a site is
- * named with the word struct, since a function has its name.
+ * fill as it was, but for the state of stamps, as addercoil_receive_stamp says. In C++ too the structs of a site and of
+ * degrees are named with the word struct, since functions have their names.
  *
  * addercoil.h says what each call does, what the caller must keep, and what the units are. A struct has its entries by
  * name; a reading is what it is, ADDERCOIL_KNOWN or another, and its value. Text is empty where it is unknown.
@@ -23,7 +23,7 @@ struct addercoil_table {
     size_t length;
 };
 
-/* A spot on the earth, the two counts that a message says of it, and a site. */
+/* A spot on the earth, the two counts that a message says of it, the spot in degrees, and a site. */
 struct addercoil_spot {
     int32_t latitude;
     uint32_t longitude;
@@ -31,6 +31,10 @@ struct addercoil_spot {
 struct addercoil_counts {
     uint32_t latitude;
     uint32_t longitude;
+};
+struct addercoil_degrees {
+    double latitude;
+    double longitude;
 };
 struct addercoil_site {
     int known;
@@ -376,6 +380,25 @@ static inline uint32_t addercoil_easy_single(struct addercoil_spot about, struct
     uint64_t row[ADDERCOIL_SPOT];
     uint32_t number = addercoil_single(about.latitude, about.longitude, counts.latitude, counts.longitude,
                                        (uint32_t)surface, (uint32_t)odd, row, ADDERCOIL_SPOT);
+    if (number == ADDERCOIL_OK) {
+        *spot = addercoil_easy_spot(row);
+    }
+    return number;
+}
+
+static inline uint32_t addercoil_easy_degrees(struct addercoil_spot spot, struct addercoil_degrees *degrees) {
+    double row[ADDERCOIL_DEGREES];
+    uint32_t number = addercoil_degrees(spot.latitude, spot.longitude, row, ADDERCOIL_DEGREES);
+    if (number == ADDERCOIL_OK) {
+        degrees->latitude = row[ADDERCOIL_DEGREES_LATITUDE];
+        degrees->longitude = row[ADDERCOIL_DEGREES_LONGITUDE];
+    }
+    return number;
+}
+
+static inline uint32_t addercoil_easy_from_degrees(struct addercoil_degrees degrees, struct addercoil_spot *spot) {
+    uint64_t row[ADDERCOIL_SPOT];
+    uint32_t number = addercoil_from_degrees(degrees.latitude, degrees.longitude, row, ADDERCOIL_SPOT);
     if (number == ADDERCOIL_OK) {
         *spot = addercoil_easy_spot(row);
     }

@@ -10,6 +10,7 @@ from pathlib import Path
 from typing import NamedTuple
 
 import captures
+import degrees
 import messages
 import positions
 import readings
@@ -366,6 +367,17 @@ def single(latitude, longitude, count_latitude, count_longitude, surface, odd):
     return place_row(positions.single(*turn_and_i(surface, odd), *counts, *reference))
 
 
+def to_degrees(latitude, longitude):
+    """The bit patterns of both figures."""
+    figures = degrees.to_degrees(signed(latitude % 2**32), longitude % 2**32)
+    return row(AT["DEGREES"], {"DEGREES_LATITUDE": figures[0], "DEGREES_LONGITUDE": figures[1]})
+
+
+def from_degrees(latitude, longitude):
+    """The place of two bit patterns."""
+    return place_row(degrees.from_degrees(latitude, longitude))
+
+
 def decode(message):
     """What a message says."""
     return row(AT["FIELDS"], message_row(messages.decode(message)))
@@ -417,6 +429,8 @@ FUNCTIONS = {
     "encode_position": Function(encode_position, None, None, AT["COUNTS"], WORDS),
     "pair": Function(pair, None, None, AT["SPOT"], WORDS),
     "single": Function(single, None, None, AT["SPOT"], WORDS),
+    "degrees": Function(to_degrees, None, None, AT["DEGREES"], WORDS),
+    "from_degrees": Function(from_degrees, None, None, AT["SPOT"], WORDS),
     "decode": Function(decode, None, BYTES, AT["FIELDS"], WORDS),
     "encode": Function(encode, None, WORDS, AT["MESSAGE"], BYTES),
     "me": Function(me, None, None, AT["FIELDS"], WORDS),

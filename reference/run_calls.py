@@ -25,6 +25,7 @@ from run_captures import damaged, message
 from tracks import KINDS as KIND_NUMBERS
 from tracks import I, Track
 from traffic import GROUND, OTHER, TRANSPONDER
+from vectors import figures
 from vectors.message_vectors import random_acceptable, random_reserved, sealed_message
 from vectors.position_vectors import random_counts, random_latitude, random_longitude
 from vectors.table_vectors import random_track
@@ -34,7 +35,7 @@ RECEIVED = 20  # times as many of receive, so that tracks grow; and twice as man
 LISTED = ["header", "next", "line"]  # what a listing calls
 DOUBLED = 150  # of each of these, on tables that hold keys twice
 OLD_LENGTHS = [("header", 97), ("line", 97), ("look_up", 23), ("look_up", 27)]  # of results in older headers, which are refused with 1
-STAMPED = 4_000  # of receive_stamp, behind all others
+LATER = {"receive_stamp": 4_000, "degrees": 1_000, "from_degrees": 3_000, "version": 1}  # so many of these, behind all others
 LAST = 2**64 - 1
 FIRST_READING = 20  # from this entry on fields are readings
 KEYS = [kind << 24 | aa for kind in KIND_NUMBERS for aa in (0, 1, 0xABCDEF, 2**24 - 1)]  # those of run_captures.message
@@ -230,6 +231,13 @@ def pair_counts(chance):
     return [*counts_of(AIRBORNE, EVEN, *place), *counts_of(AIRBORNE, ODD, *place)]
 
 
+def some_figure(chance, whole):
+    """The bit pattern of a number's figure, rarely one of its neighbours, of another sort, or any."""
+    near = figures.figure(whole) + chance.choice((-1, 1, 2**63))
+    odd = chance.choice((*figures.ODD, *map(figures.bits, figures.WHOLE)))
+    return chance.choice((*[figures.figure(whole)] * 12, near, odd, chance.getrandbits(64))) % 2**64
+
+
 def numbers_for(name, chance, table):
     """The plain numbers of a call."""
     if name in ("next", "look_up"):
@@ -246,10 +254,12 @@ def numbers_for(name, chance, table):
         return [number(chance)]
     if name == "table_bytes":
         return [chance.choice((chance.randrange(1_100), 1, 1_024, 1_025, number(chance)))]
-    if name == "set_up_at":
+    if name in ("set_up_at", "degrees"):
         return [latitude(chance), random_longitude(chance)]
     if name == "encode_position":
         return [latitude(chance), random_longitude(chance), bit(chance), bit(chance)]
+    if name == "from_degrees":
+        return [some_figure(chance, random_latitude(chance)), some_figure(chance, chance.getrandbits(32) - 2**31)]
     if name == "me":
         return [some_me(chance), key(chance, table)]
     if name == "pair":
@@ -273,14 +283,13 @@ def given_for(name, chance, table):
 
 
 def named(chance):
-    """The functions, in any order, each with a table; then those of a listing, with tables of many places and few keys; then stamps."""
+    """The functions, in any order, each with a table; then those of a listing, with tables of many places and few keys; then the later ones."""
     pool = Tables(chance)
-    names = [*(name for name in FUNCTIONS if name not in ("version", "receive_stamp")), "decode", *["receive"] * RECEIVED] * CALLS
+    names = [*(name for name in FUNCTIONS if name not in LATER), "decode", *["receive"] * RECEIVED] * CALLS
     chance.shuffle(names)
     yield from ((name, pool.choose()) for name in names)
     yield from ((name, random_tracks(chance, 9, 40)) for name in LISTED * DOUBLED)
-    yield from (("receive_stamp", pool.choose()) for _ in range(STAMPED))
-    yield "version", pool.choose()
+    yield from ((name, pool.choose()) for name, count in LATER.items() for _ in range(count))
 
 
 def answered(chance, name, table, length):
@@ -313,7 +322,7 @@ def difference(asked, given):
 # What must have been tried
 
 PAPER = dict(enumerate("LENGTH LATE PARITY FORMAT TYPE FULL PLACES FIELD LATITUDE ZONES".split(), 1))  # by the header's names
-PAPER |= {12: "NO_TRACK", 13: "OVERRUN"}
+PAPER |= {12: "NO_TRACK", 13: "OVERRUN", 15: "DEGREES"}
 READS = {0, 1, 7}
 NUMBERS = {
     **{name: READS for name in ("clock", "site", "next", "look_up", "feed_block")},
@@ -321,6 +330,7 @@ NUMBERS = {
     **{"set_up": {0, 7}, "set_up_at": {0, 7, 8}, "receive": {0, 1, 2, 3, 4, 5, 6, 7, 12}},
     **{"receive_stamp": {0, 1, 2, 3, 4, 5, 6, 7, 8, 12, 13}},
     **{"encode_position": {0, 1, 8}, "pair": {0, 1, 8, 9, 10}, "single": {0, 1, 8, 9}},
+    **{"degrees": {0, 1, 8}, "from_degrees": {0, 1, 15}},
     **{"decode": {0, 1, 3, 4, 5}, "encode": {0, 1, 8}, "me": {0, 1, 5, 8}},
 }
 STEPPED = {"UNKNOWN", "KNOWN", "OVER"}

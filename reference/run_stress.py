@@ -17,7 +17,7 @@ from tracks import kind_of
 
 SEED, CALLS, EVERY = 16, 600_000, 100
 MOST_SECONDS = 120  # for so many calls
-NUMBERS = {*map(str, (*range(11), 12, 13))}  # the paper's, 12 and 13; 11 is answered by no C function, a bad block is counted
+NUMBERS = {*map(str, (*range(11), 12, 13, 15))}  # the paper's, 12, 13 and 15; 11 is answered by no C function, a bad block is counted
 
 
 def kind(call, outcome):

@@ -13,6 +13,7 @@ from pathlib import Path
 from random import Random
 
 import captures
+import degrees
 import embedding
 import make_samples
 import messages
@@ -29,7 +30,7 @@ from positions import AIRBORNE, COUNTS, EVEN, FIGURES, ODD, STEP, SURFACE, UNIT,
 from refusals import Refused, answer
 from tracks import Position, Saved, Track
 from traffic import ANOTHER, GROUND, ICAO, MODE_A, OTHER, TRANSPONDER
-from vectors import message_vectors, position_vectors, readings_vectors, table_vectors
+from vectors import figures, message_vectors, position_vectors, readings_vectors, table_vectors
 
 assertions = 0
 failures = []
@@ -986,6 +987,38 @@ def true_times():
             time += chance.choice((0, 400, 2**31 - 1, chance.randrange(2**31))) if len(string) == 14 else 0
 
 
+# Degrees
+
+
+def degree_edges():
+    """R-9: the ends of both ranges, zero, and the doubles that are no place's."""
+    known = {(0, 0): (0.0, 0.0), (2**30, 2**31): (90.0, -180.0), (-(2**30), 2**30): (-90.0, 90.0), (2**29, 3 * 2**30): (45.0, -90.0)}
+    for place, due in known.items():
+        equal(f"{place} in degrees", degrees.to_degrees(*place), tuple(map(figures.bits, due)))
+        equal(f"{due} as a place", degrees.from_degrees(*map(figures.bits, due)), place)
+    for latitude in (2**30 + 1, -(2**30) - 1, 2**31 - 1, -(2**31)):
+        refused(8, degrees.to_degrees, latitude, 0)
+    past = figures.bits(90.00000008381903)
+    equal("a unit past 90 degrees", degrees.from_degrees(0, past), (0, 2**30 + 1))
+    for latitude, longitude in ((past, 0), (0, figures.bits(180.0)), (0, figures.bits(270.0)), (0, figures.bits(0.1)), (0, 1), (2**63, 0)):
+        refused(15, degrees.from_degrees, latitude, longitude)
+    for pattern in (figures.NAN, figures.NAN | 1, figures.INFINITY, figures.INFINITY | figures.SIGN, figures.SIGN):
+        refused(15, degrees.from_degrees, pattern, 0)
+        refused(15, degrees.from_degrees, 0, pattern)
+
+
+def degree_laws():
+    """R-9: there and back, different doubles for neighbours, and none between two of them."""
+    chance = Random(91)
+    for _ in range(500):
+        place = chance.randint(-(2**30), 2**30), chance.getrandbits(32)
+        north, east = degrees.to_degrees(*place)
+        equal("there and back", degrees.from_degrees(north, east), place)
+        true("different doubles", degrees.to_degrees(place[0], place[1] ^ 1)[1] != east)
+        for step in (-1, 1):
+            refused(15, degrees.from_degrees, north, (east + step) % 2**64)
+
+
 TESTS = [
     parity_rows,
     parity_laws,
@@ -1019,6 +1052,8 @@ TESTS = [
     receiver_lines,
     stamp_edges,
     true_times,
+    degree_edges,
+    degree_laws,
 ]
 
 

@@ -1,7 +1,8 @@
 """Cases of position_vectors.
 
 A record of 18 bytes: question, F (for a pair that of the later message), four numbers of 4 bytes,
-high byte first. A line: two numbers, or `refused N`.
+high byte first; from degrees two numbers are a bit pattern. A line: two numbers, in degrees two bit
+patterns in hex, or `refused N`.
 """
 
 import struct
@@ -9,6 +10,7 @@ from fractions import Fraction
 from math import floor
 from random import Random
 
+import degrees
 import published
 from positions import (
     AIRBORNE,
@@ -28,6 +30,7 @@ from positions import (
     zones,
 )
 from refusals import answer
+from vectors import figures
 
 PAIR = 2
 ENCODE = {AIRBORNE: 0, SURFACE: 1}
@@ -381,6 +384,7 @@ def asked():
         refused(chance),
         random_cases(chance),
         other_roundings(chance),
+        figures.cases(chance),
     ]
     return dict.fromkeys(tuple(question) for family in families for question in family)
 
@@ -391,6 +395,10 @@ def answered(question, i, first, second, third, fourth):
         return encode(AIRBORNE if question == ENCODE[AIRBORNE] else SURFACE, i, first, second)
     if question == PAIR:
         return pair(i, first, second, third, fourth)
+    if question == figures.THERE:
+        return [f"{pattern:016x}" for pattern in degrees.to_degrees(first, second)]
+    if question == figures.BACK:
+        return degrees.from_degrees(first << 32 | second, third << 32 | fourth)
     return single(AIRBORNE if question == SINGLE[AIRBORNE] else SURFACE, i, first, second, third, fourth)
 
 

@@ -21,6 +21,8 @@ const struct shape shapes[FUNCTIONS] = {
     {"encode_position", NO_TABLE, NOTHING, 4, WORDS},
     {"pair", NO_TABLE, NOTHING, 5, WORDS},
     {"single", NO_TABLE, NOTHING, 6, WORDS},
+    {"degrees", NO_TABLE, NOTHING, 2, WORDS},
+    {"from_degrees", NO_TABLE, NOTHING, 2, WORDS},
     {"decode", NO_TABLE, BYTES, 0, WORDS},
     {"encode", NO_TABLE, WORDS, 0, BYTES},
     {"me", NO_TABLE, NOTHING, 2, WORDS},

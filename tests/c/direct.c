@@ -1,6 +1,7 @@
 /* A call made by the functions of addercoil.h: see call.h. */
 #include "call.h"
 #include <addercoil.h>
+#include <string.h>
 
 /* The result array where its elements are of 64 bits. */
 static uint64_t *words_of(const struct call *call, uint8_t *result) {
@@ -38,6 +39,13 @@ static uint64_t with_table(const struct call *call, uint8_t *t, const uint8_t *g
     }
 }
 
+/* The double of a bit pattern. */
+static double double_of(uint64_t pattern) {
+    double made;
+    memcpy(&made, &pattern, sizeof made);
+    return made;
+}
+
 /* The calls that are not. */
 static uint64_t without_table(const struct call *call, const uint8_t *given, uint8_t *result) {
     const uint64_t *n = call->numbers;
@@ -56,6 +64,10 @@ static uint64_t without_table(const struct call *call, const uint8_t *given, uin
     case SINGLE:
         return addercoil_single((int32_t)n[0], (uint32_t)n[1], (uint32_t)n[2], (uint32_t)n[3], (uint32_t)n[4],
                                 (uint32_t)n[5], words, length);
+    case DEGREES:
+        return addercoil_degrees((int32_t)n[0], (uint32_t)n[1], (double *)words, length);
+    case FROM_DEGREES:
+        return addercoil_from_degrees(double_of(n[0]), double_of(n[1]), words, length);
     case DECODE:
         return addercoil_decode(given, call->given_size, words, length);
     case ME:

@@ -190,6 +190,25 @@ static uint32_t put_pair(uint32_t number, uint64_t *row, struct addercoil_spot f
     return number;
 }
 
+/* Doubles stand as their bit patterns. */
+static uint32_t degrees(const uint64_t *n, uint64_t *row) {
+    struct addercoil_degrees made;
+    uint32_t number = addercoil_easy_degrees(spot(n[0], n[1]), &made);
+    if (number == ADDERCOIL_OK) {
+        memcpy(row + ADDERCOIL_DEGREES_LATITUDE, &made.latitude, sizeof *row);
+        memcpy(row + ADDERCOIL_DEGREES_LONGITUDE, &made.longitude, sizeof *row);
+    }
+    return number;
+}
+
+static uint32_t from_degrees(const uint64_t *n, uint64_t *row) {
+    struct addercoil_degrees given;
+    struct addercoil_spot from = {0, 0};
+    memcpy(&given.latitude, n, sizeof *n);
+    memcpy(&given.longitude, n + 1, sizeof *n);
+    return put_pair(addercoil_easy_from_degrees(given, &from), row, from);
+}
+
 static uint32_t encode_position(const uint64_t *n, uint64_t *row) {
     struct addercoil_counts made;
     uint32_t number = addercoil_easy_encode_position(spot(n[0], n[1]), (int)n[2], (int)n[3], &made);
@@ -316,6 +335,10 @@ static uint64_t without_table(const struct call *call, const uint8_t *given, uin
     case SINGLE:
         number = addercoil_easy_single(spot(n[0], n[1]), counts(n[2], n[3]), (int)n[4], (int)n[5], &from);
         return put_pair(number, row, from);
+    case DEGREES:
+        return degrees(n, row);
+    case FROM_DEGREES:
+        return from_degrees(n, row);
     case DECODE:
         number = addercoil_easy_decode(given, call->given_size, &message);
         return put_message(number, &message, row);

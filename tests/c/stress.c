@@ -234,6 +234,8 @@ static size_t result_length(enum function function) {
     case ENCODE_POSITION:
     case PAIR:
     case SINGLE:
+    case DEGREES:
+    case FROM_DEGREES:
         return about(ADDERCOIL_SPOT);
     case DECODE:
     case ME:
@@ -296,6 +298,25 @@ static uint64_t make_stamp(int i, uint64_t time) {
     return i == 0 ? (time + steps) % 0x100000000 : i == 1 ? below(8) != 0 : time % 0x100000000;
 }
 
+/* The bit pattern of a figure in degrees, of a latitude or of any number of 32 bits; now and then a pattern beside it, of
+ * the other sign, or any. */
+static uint64_t make_figure(int i) {
+    int32_t number = (int32_t)(any() >> 32);
+    double figure = (i == 0 ? number / 2 : number) * 360.0 / 4294967296.0;
+    uint64_t pattern;
+    memcpy(&pattern, &figure, sizeof pattern);
+    switch (below(16)) {
+    case 0:
+        return pattern + ONE_OF(1, 0 - (uint64_t)1, (uint64_t)1 << 63);
+    case 1:
+        return ONE_OF(0, (uint64_t)1 << 63, 0x7FFull << 52, 0xFFFull << 52, 0x7FF8ull << 48, (0x7FFull << 52) + 1);
+    case 2:
+        return any();
+    default:
+        return pattern;
+    }
+}
+
 static uint64_t make_number(enum function function, int i, uint64_t time) {
     uint64_t kind = 1 + below(5), key = kind << 24 | below(4) * 0x010101;
     switch (function) {
@@ -319,6 +340,9 @@ static uint64_t make_number(enum function function, int i, uint64_t time) {
         return below(8) == 0 ? number() : key;
     case PAIR:
         return below(32) == 0 ? number() : below(i == 4 ? 2 : 131072);
+    case FROM_DEGREES:
+        return make_figure(i);
+    case DEGREES:
     case ENCODE_POSITION:
     case SINGLE:
         if (below(32) == 0) {

@@ -1,4 +1,5 @@
 pub mod Encoding
+pub mod Figured
 pub mod Framed
 pub mod Laws
 pub mod Placed

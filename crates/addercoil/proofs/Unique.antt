@@ -2,6 +2,7 @@
 -- Assumes nothing.
 use mathlib.Core.Path.{sym, _∙_}
 use Rattle.refusals.specs.Answers.{OneAnswer, OneOutcome}
+use Rattle.addercoil.specs.Figures.{Plotted, plotted}
 use Rattle.addercoil.specs.Lines.{Both, both}
 use Rattle.addercoil.specs.Sent.{Sent, sent}
 use Rattle.addercoil.proofs.version.addercoil_version.Kinds as version-kinds
@@ -32,6 +33,10 @@ use Rattle.addercoil.proofs.spots.addercoil_pair.Kinds as pair-kinds
 use Rattle.addercoil.proofs.spots.addercoil_pair.Reads as pair
 use Rattle.addercoil.proofs.spots.addercoil_single.Kinds as single-kinds
 use Rattle.addercoil.proofs.spots.addercoil_single.Reads as single
+use Rattle.addercoil.proofs.figures.addercoil_degrees.Kinds as degrees-kinds
+use Rattle.addercoil.proofs.figures.addercoil_degrees.Reads as degrees
+use Rattle.addercoil.proofs.figures.addercoil_from_degrees.Kinds as from-degrees-kinds
+use Rattle.addercoil.proofs.figures.addercoil_from_degrees.Reads as from-degrees
 use Rattle.addercoil.proofs.numbers.addercoil_look_up.Kinds as look-up-kinds
 use Rattle.addercoil.proofs.numbers.addercoil_look_up.Reads as look-up
 use Rattle.addercoil.proofs.numbers.addercoil_decode.Kinds as decode-kinds
@@ -81,6 +86,12 @@ pair-once κs args x y left left′ p q = p ∙ sym q
 
 pub single-once : OneOutcome 1 single-kinds.ps single-kinds.r Sent (λ κs x left. sent x (left .1 .1 .1 .1 .1 .1 .0 .now)) single.Post
 single-once κs args x y left left′ p q = p ∙ sym q
+
+pub degrees-once : OneOutcome 1 degrees-kinds.ps degrees-kinds.r Plotted (λ κs x left. plotted x (left .1 .1 .0 .now)) degrees.Post
+degrees-once κs args x y left left′ p q = p ∙ sym q
+
+pub from-degrees-once : OneOutcome 1 from-degrees-kinds.ps from-degrees-kinds.r Sent (λ κs x left. sent x (left .1 .1 .0 .now)) from-degrees.Post
+from-degrees-once κs args x y left left′ p q = p ∙ sym q
 
 pub feed-block-once : OneOutcome 3 feed-block-kinds.ps feed-block-kinds.r Both (λ κs x left. both (sent x (left .1 .1 .1 .0 .now)) (left .0 .now)) feed-block.Post
 feed-block-once κs args x y left left′ p q = p ∙ sym q

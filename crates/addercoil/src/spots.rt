@@ -45,7 +45,7 @@ fn give_at(out: &mut [u64], spot: Spot) -> u32
     give(out, &[latitude, longitude])
 }
 
-fn give_spot(out: &mut [u64], answer: Found) -> u32
+pub(crate) fn give_spot(out: &mut [u64], answer: Found) -> u32
     ensures { λ r. ⌜ sent r (now (out .exit)) ≡ given (now (out .entry)) (spotSaid answer) ⌝ }
 {
     match answer {

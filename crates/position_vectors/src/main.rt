@@ -1,11 +1,14 @@
 // Answers questions about positions from standard input, 18 bytes each, with a line each.
 //
-// Byte 0 is the question: 0 encode airborne, 1 encode surface, 2 pair, 3 single airborne, 4 single surface. Byte 1 is F; for a
-// pair it is F of the later message. Four numbers of four bytes follow, high byte first:
-//   encode: latitude and longitude; pair: the even counts, then the odd ones; single: the counts, then the reference.
-// A latitude of a spot is signed, in two's complement.
+// Byte 0 is the question: 0 encode airborne, 1 encode surface, 2 pair, 3 single airborne, 4 single surface, 5 to degrees,
+// 6 from degrees. Byte 1 is F; for a pair it is F of the later message. Four numbers of four bytes follow, high byte first:
+//   encode and to degrees: latitude and longitude; pair: the even counts, then the odd ones; single: the counts, then the
+//   reference; from degrees: the bit patterns of latitude and longitude, of two numbers each.
+// A latitude of a spot is signed, in two's complement. Degrees are written as bit patterns in hex.
 use counts::LatitudeCount;
 use counts::LongitudeCount;
+use degrees::Degrees;
+use degrees::InDegrees;
 use libc::STDIN_FILENO;
 use libc::STDOUT_FILENO;
 use positions::Counts;
@@ -63,6 +66,33 @@ fn counts_at(record: &[u8; 18], at: usize) -> Counts
     }
 }
 
+// The double of a bit pattern. Of all those that are not a number Rattle has one.
+fn double_of(pattern: u64) -> f64 {
+    if 0x7ff0_0000_0000_0000 < pattern % 0x8000_0000_0000_0000 {
+        let zero = 0.0;
+        zero / zero
+    } else {
+        f64::from_bits(pattern)
+    }
+}
+
+fn double_at(record: &[u8; 18], at: usize) -> f64
+    requires { ⌜ at ≤ 10 ⌝ }
+{
+    let high = number(record, at) as u64;
+    let low = number(record, at + 4) as u64;
+    double_of(high * 4294967296 + low)
+}
+
+fn degrees_at(record: &[u8; 18]) -> Degrees {
+    let latitude = double_at(record, 2);
+    let longitude = double_at(record, 10);
+    Degrees {
+        latitude,
+        longitude,
+    }
+}
+
 fn format_of(f: u8) -> Format {
     if f == 0 { Format::Even } else { Format::Odd }
 }
@@ -102,6 +132,25 @@ fn say_found(f: Found) {
     }
 }
 
+fn say_double(x: f64) {
+    if x != x {
+        io::write_all(STDOUT_FILENO, b"nan");
+    } else {
+        io::print_hex(STDOUT_FILENO, f64::to_bits(x), 16);
+    }
+}
+
+fn say_degrees(a: InDegrees) {
+    match a {
+        InDegrees::Degrees(d) => {
+            say_double(d.latitude);
+            io::write_all(STDOUT_FILENO, b" ");
+            say_double(d.longitude);
+        }
+        InDegrees::Refused(r) => say_refusal(r),
+    }
+}
+
 fn answer(record: &[u8; 18]) {
     let question = record[0];
     let format = format_of(record[1]);
@@ -115,12 +164,14 @@ fn answer(record: &[u8; 18]) {
             Turn::Airborne,
             format,
         )),
-        _ => say_found(positions::single(
+        4 => say_found(positions::single(
             spot_at(record, 10),
             counts_at(record, 2),
             Turn::Surface,
             format,
         )),
+        5 => say_degrees(degrees::to_degrees(spot_at(record, 2))),
+        _ => say_found(degrees::from_degrees(degrees_at(record))),
     }
     io::write_all(STDOUT_FILENO, b"\n");
 }

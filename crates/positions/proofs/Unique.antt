@@ -4,6 +4,8 @@ use mathlib.Core.Path.{sym, _∙_}
 use Rattle.refusals.specs.Answers.{OneAnswer}
 use Rattle.positions.proofs.encode.Kinds as encode-kinds
 use Rattle.positions.proofs.encode.Reads as encode
+use Rattle.positions.proofs.pole_to_pole.Kinds as pole-to-pole-kinds
+use Rattle.positions.proofs.pole_to_pole.Reads as pole-to-pole
 use Rattle.positions.proofs.pair.Kinds as pair-kinds
 use Rattle.positions.proofs.pair.Reads as pair
 use Rattle.positions.proofs.single.Kinds as single-kinds
@@ -17,3 +19,6 @@ pair-once κs args x y left left′ p q = p ∙ sym q
 
 pub single-once : OneAnswer 0 single-kinds.ps single-kinds.r single.Post
 single-once κs args x y left left′ p q = p ∙ sym q
+
+pub pole-to-pole-once : OneAnswer 0 pole-to-pole-kinds.ps pole-to-pole-kinds.r pole-to-pole.Post
+pole-to-pole-once κs args x y left left′ p q = p ∙ sym q

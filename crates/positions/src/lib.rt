@@ -171,13 +171,14 @@ fn fits(c: Counts) -> bool
     (c.latitude.0 < 131072) & (c.longitude.0 < 131072)
 }
 
-// Whether a latitude, held one whole turn up, is in range; and back down.
-fn pole_to_pole(up: u64) -> bool
+// Whether a latitude, held one whole turn up, is in range.
+pub fn pole_to_pole(up: u64) -> bool
     ensures { λ r. ⌜ r ≡ (leb 3221225472 up && leb up 5368709120) ⌝ }
 {
     (SOUTH <= up) & (up <= NORTH)
 }
 
+// .. and back down.
 fn lower(up: u64) -> i32
     requires { ⌜ (3221225472 ≤ up) × (up ≤ 5368709120) ⌝ }
     ensures { λ r. ⌜ r ≡ subℕ up 4294967296 ⌝ }

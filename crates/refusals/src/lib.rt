@@ -29,6 +29,8 @@ pub enum Refusal {
     NoTrack,
     // a stamp whose time would pass 2^64 - 1
     Overrun,
+    // a double that is no place's figure in degrees
+    Degrees,
 }
 
 // The paper's number of a refusal.
@@ -49,5 +51,6 @@ pub fn number(r: Refusal) -> u32
         Refusal::Block => 11,
         Refusal::NoTrack => 12,
         Refusal::Overrun => 13,
+        Refusal::Degrees => 15,
     }
 }

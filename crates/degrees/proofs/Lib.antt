@@ -1,0 +1,11 @@
+pub mod Exact
+pub mod Steps
+pub mod Alone
+pub mod Return
+pub mod Signed
+pub mod Sides
+pub mod Divided
+pub mod Places
+pub mod Laws
+pub mod Promised
+pub mod Unique

@@ -1,0 +1,4 @@
+pub mod Value
+pub mod Ways
+pub mod Said
+pub mod Code
