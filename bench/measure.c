@@ -89,9 +89,9 @@ static void print_positions(void) {
 }
 
 int main(int count, char **arguments) {
-    static const struct mode modes[] = {{"empty", do_nothing}, {"decode", decode},   {"receive", receive},
-                                        {"flood", flood},      {"listing", listing}, {"positioned", positioned},
-                                        {"positions", note_position}, {NULL, NULL}};
+    static const struct mode modes[] = {
+        {"empty", do_nothing}, {"decode", decode},         {"receive", receive},         {"flood", flood},
+        {"listing", listing},  {"positioned", positioned}, {"positions", note_position}, {NULL, NULL}};
     if (count != 6) {
         fprintf(stderr, "measure MODE CORPUS WARM COUNT PLACES\n");
         return 2;

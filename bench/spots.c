@@ -41,7 +41,8 @@ int main(int argc, char **argv) {
         if (mode == 's')
             number = addercoil_single(latitude, longitude, (uint32_t)counts[odd][0], (uint32_t)counts[odd][1], surface,
                                       odd, out, ADDERCOIL_SPOT);
-        if (number != ADDERCOIL_OK && number != ADDERCOIL_REFUSED_ZONES) /* the latitudes of a pair may lie in different zones */
+        if (number != ADDERCOIL_OK &&
+            number != ADDERCOIL_REFUSED_ZONES) /* the latitudes of a pair may lie in different zones */
             return 1;
     }
     return 0;

@@ -46,11 +46,11 @@ extern "C" {
 #endif
 
 /*
- * 10,000 times the major number, 100 times the minor one, and the patch: this is 0.3.0. addercoil_version() says that
+ * 10,000 times the major number, 100 times the minor one, and the patch: this is 0.4.0. addercoil_version() says that
  * of the archive; where the two differ, the program was built with another header. The bytes of a table may change with
  * it.
  */
-#define ADDERCOIL_VERSION 300
+#define ADDERCOIL_VERSION 400
 
 /* The version of the archive, as ADDERCOIL_VERSION has it. */
 uint32_t addercoil_version(void);
@@ -71,13 +71,14 @@ enum {
     ADDERCOIL_REFUSED_ZONES = 10,    /* two latitudes in different longitude zones */
     ADDERCOIL_REFUSED_NO_TRACK = 12, /* an aircraft that is not held, and a message that starts no track */
     ADDERCOIL_REFUSED_OVERRUN = 13,  /* a stamp whose time would pass 2^64 - 1 */
+    ADDERCOIL_REFUSED_LOG = 14,      /* a log of more than 2,900 records, or not of whole ones */
     ADDERCOIL_REFUSED_DEGREES = 15,  /* a double that is no spot's latitude or longitude in degrees */
     ADDERCOIL_NUMBERS                /* one more than the largest */
 };
 
 /*
  * The numbers in words, so that a log can say them: static const char *const words[] = ADDERCOIL_NUMBER_WORDS; then
- * words[number] is what the number means. No call answers 11: addercoil_feed_block counts bad blocks. 14 is not in use.
+ * words[number] is what the number means. No call answers 11: addercoil_feed_block counts bad blocks.
  */
 #define ADDERCOIL_NUMBER_WORDS                                                  \
     {                                                                           \
@@ -95,7 +96,7 @@ enum {
         "a block of a capture that fails its rules",                            \
         "an aircraft that is not held, and a message that starts no track",     \
         "a stamp whose time would pass 2^64 - 1",                               \
-        "",                                                                     \
+        "a log of more than 2,900 records, or not of whole ones",               \
         "a double that is no spot's latitude or longitude in degrees"           \
     }
 
@@ -260,6 +261,33 @@ enum {
  * ADDERCOIL_REFUSED_PLACES.
  */
 uint32_t addercoil_look_up(const uint8_t *table, size_t table_len, uint32_t key, uint64_t *out, size_t out_len);
+
+/* ---- A doubted track: worked out again from a log, without a table ---- */
+
+/* Bytes of a record of a log, and how many records a log may have. */
+#define ADDERCOIL_RECORD 22
+#define ADDERCOIL_RECORDS 2900
+
+/*
+ * The track of one aircraft, by its kind, 1 to 5, and its address, after all that was received. The log is records of
+ * ADDERCOIL_RECORD bytes, as a block has them: a time in 8 bytes, high byte first, and a message. It is heard in order,
+ * from clock 0, and the clock moves at each record that is not late, whatever its message is. Into out of
+ * ADDERCOIL_TRACK entries, as those of addercoil_look_up: all 0 if it is not held. They are those that
+ * addercoil_look_up gives after addercoil_set_up and these records received one after the other, unless
+ * ADDERCOIL_REFUSED_FULL was answered to a message of this aircraft.
+ * Or ADDERCOIL_REFUSED_LENGTH, ADDERCOIL_REFUSED_LOG, ADDERCOIL_REFUSED_FIELD for a kind that is none or an address
+ * above 24 bits.
+ */
+uint32_t addercoil_replay(const uint8_t *log, size_t log_len, uint32_t kind, uint32_t address, uint64_t *out,
+                          size_t out_len);
+
+/*
+ * The same after addercoil_set_up_at, with that site.
+ * Or ADDERCOIL_REFUSED_LENGTH, ADDERCOIL_REFUSED_LOG, ADDERCOIL_REFUSED_FIELD for a kind that is none, an address above
+ * 24 bits or the latitude.
+ */
+uint32_t addercoil_replay_at(const uint8_t *log, size_t log_len, uint32_t kind, uint32_t address, int32_t latitude,
+                             uint32_t longitude, uint64_t *out, size_t out_len);
 
 /*
  * ---- The listing: a header, then a line for each key ----

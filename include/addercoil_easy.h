@@ -168,7 +168,11 @@ static inline void addercoil_easy_category(const uint64_t *set, uint64_t number,
     text[2] = '\0';
 }
 
-static inline void addercoil_easy_to_track(const uint64_t *row, struct addercoil_track *track) {
+/* A call that filled the row of a track answered so: the struct of it, if it did. */
+static inline uint32_t addercoil_easy_to_track(uint32_t number, const uint64_t *row, struct addercoil_track *track) {
+    if (number != ADDERCOIL_OK) {
+        return number;
+    }
     track->held = (int)row[ADDERCOIL_TRACK_HELD];
     track->heard = row[ADDERCOIL_TRACK_HEARD];
     track->identification = row[ADDERCOIL_TRACK_IDENTIFICATION];
@@ -199,6 +203,7 @@ static inline void addercoil_easy_to_track(const uint64_t *row, struct addercoil
     track->movement = addercoil_easy_reading(row + ADDERCOIL_TRACK_MOVEMENT_IS);
     track->surface_heading = addercoil_easy_reading(row + ADDERCOIL_TRACK_SURFACE_HEADING_IS);
     track->surface_status = addercoil_easy_reading(row + ADDERCOIL_TRACK_SURFACE_STATUS_IS);
+    return ADDERCOIL_OK;
 }
 
 /* Where the reading of a layout stands that begins at an entry; of a message of another layout, an unknown one. */
@@ -328,10 +333,25 @@ static inline uint32_t addercoil_easy_look_up(struct addercoil_table table, uint
                                               struct addercoil_track *track) {
     uint64_t row[ADDERCOIL_TRACK];
     uint32_t number = addercoil_look_up(table.bytes, table.length, key, row, ADDERCOIL_TRACK);
-    if (number == ADDERCOIL_OK) {
-        addercoil_easy_to_track(row, track);
-    }
-    return number;
+    return addercoil_easy_to_track(number, row, track);
+}
+
+/* ---- A doubted track, of a key, from a log; the second with a site ---- */
+
+static inline uint32_t addercoil_easy_replay(const uint8_t *log, size_t length, uint32_t key,
+                                             struct addercoil_track *track) {
+    uint64_t row[ADDERCOIL_TRACK];
+    uint32_t number =
+        addercoil_replay(log, length, ADDERCOIL_KEY_KIND(key), ADDERCOIL_KEY_AA(key), row, ADDERCOIL_TRACK);
+    return addercoil_easy_to_track(number, row, track);
+}
+
+static inline uint32_t addercoil_easy_replay_at(const uint8_t *log, size_t length, uint32_t key,
+                                                struct addercoil_spot site, struct addercoil_track *track) {
+    uint64_t row[ADDERCOIL_TRACK];
+    uint32_t number = addercoil_replay_at(log, length, ADDERCOIL_KEY_KIND(key), ADDERCOIL_KEY_AA(key), site.latitude,
+                                          site.longitude, row, ADDERCOIL_TRACK);
+    return addercoil_easy_to_track(number, row, track);
 }
 
 /* ---- The listing, each line into a buffer of ADDERCOIL_LINE chars ---- */

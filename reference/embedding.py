@@ -14,6 +14,7 @@ import degrees
 import messages
 import positions
 import readings
+import replay as plain_method
 import stamps
 import table as tables
 from refusals import Refused, fits
@@ -294,6 +295,23 @@ def look_up(table, key):
     return row(AT["TRACK"], {} if track is None else track_row(track, key >> 24 in GROUND_KINDS))
 
 
+def replayed(log, kind, address, site):
+    """The track of a key worked out again, all 0 if it is not held; 14, then 8 for a kind that is none too."""
+    kind, address = kind % 2**32, address % 2**32
+    track = plain_method.replay(log, kind, address if kind in KINDS else 2**24, site)
+    return row(AT["TRACK"], {} if track is None else track_row(track, kind in GROUND_KINDS))
+
+
+def replay(log, kind, address):
+    """Without a site."""
+    return replayed(log, kind, address, None)
+
+
+def replay_at(log, kind, address, latitude, longitude):
+    """With one."""
+    return replayed(log, kind, address, (signed(latitude % 2**32), longitude % 2**32))
+
+
 def text_bytes(text):
     """A line and its newline, then zeros."""
     return text.encode("ascii").ljust(AT["LINE"], b"\0")
@@ -423,6 +441,8 @@ FUNCTIONS = {
     "site": Function(site, READS, None, AT["SITE"], WORDS),
     "next": Function(next_key, READS, None, 1, WORDS),
     "look_up": Function(look_up, READS, None, AT["TRACK"], WORDS),
+    "replay": Function(replay, None, BYTES, AT["TRACK"], WORDS),
+    "replay_at": Function(replay_at, None, BYTES, AT["TRACK"], WORDS),
     "header": Function(header, READS, None, AT["LINE"], BYTES),
     "line": Function(line, READS, None, AT["LINE"], BYTES),
     "feed_block": Function(feed_block, WRITES, BYTES, 1, WORDS),

@@ -21,6 +21,8 @@ from positions import encode as counts_of
 from programs import C, ran
 from readings import UNKNOWN, altitude
 from refusals import Refused
+from replay import MOST_RECORDS as MOST_LOGGED
+from replay import RECORD
 from run_captures import damaged, message
 from tracks import KINDS as KIND_NUMBERS
 from tracks import I, Track
@@ -35,7 +37,9 @@ RECEIVED = 20  # times as many of receive, so that tracks grow; and twice as man
 LISTED = ["header", "next", "line"]  # what a listing calls
 DOUBLED = 150  # of each of these, on tables that hold keys twice
 OLD_LENGTHS = [("header", 97), ("line", 97), ("look_up", 23), ("look_up", 27)]  # of results in older headers, which are refused with 1
+REPLAYS = "replay", "replay_at"
 LATER = {"receive_stamp": 4_000, "degrees": 1_000, "from_degrees": 3_000, "version": 1}  # so many of these, behind all others
+LATER |= dict.fromkeys(REPLAYS, 1_500)
 LAST = 2**64 - 1
 FIRST_READING = 20  # from this entry on fields are readings
 KEYS = [kind << 24 | aa for kind in KIND_NUMBERS for aa in (0, 1, 0xABCDEF, 2**24 - 1)]  # those of run_captures.message
@@ -157,6 +161,28 @@ def some_block(chance, table):
     return made.ljust(about(chance, BLOCK), b"\0") if chance.randrange(8) else made[: about(chance, BLOCK)]
 
 
+def placed(chance):
+    """An airborne message of one place and one AA, even or odd, so that two of a kind pair."""
+    return traffic.airborne(chance.choice((TRANSPONDER, OTHER, *GROUND)), 0xABCDEF, chance.choice((EVEN, ODD)), (2**29, 2**30))
+
+
+def some_log(chance):
+    """A log of a few records, at times about a drop, or of positions close behind each other; rarely not of whole ones, or too long."""
+    time, log, close = chance.choice((0, 0, 10**6, LAST - 10**6)), b"", chance.randrange(3) == 0
+    for _ in range(chance.randrange(24)):
+        step = chance.choice((0, 1, 400) if close else (0, 1, 400, 400, 5_000, 10_001, 120_001, 124_999, 125_000, -1))
+        time = min(LAST, max(0, time + step))
+        log += time.to_bytes(8, "big") + chance.choice((placed,) if close else (message, message, edge_message))(chance)
+    most = MOST_LOGGED * RECORD
+    return log.ljust(chance.choice((*[len(log)] * 40, len(log) + 1, len(log) + 21, most, most + RECORD)), b"\0")
+
+
+def of_log(chance):
+    """A kind, rarely none, and an address, rarely of more than 24 bits."""
+    kind = chance.choice((*KIND_NUMBERS * 8, 0, 6, number(chance) % 2**32))
+    return [kind, chance.choice((*(one % 2**24 for one in KEYS), *[0xABCDEF] * 20, 2**24, number(chance) % 2**32))]
+
+
 def edge(chance, bits):
     """A code of so many bits, mostly at an end of its range, where readings change their kind."""
     last = 2**bits - 1
@@ -256,6 +282,10 @@ def numbers_for(name, chance, table):
         return [chance.choice((chance.randrange(1_100), 1, 1_024, 1_025, number(chance)))]
     if name in ("set_up_at", "degrees"):
         return [latitude(chance), random_longitude(chance)]
+    if name == "replay":
+        return of_log(chance)
+    if name == "replay_at":
+        return [*of_log(chance), latitude(chance), random_longitude(chance)]
     if name == "encode_position":
         return [latitude(chance), random_longitude(chance), bit(chance), bit(chance)]
     if name == "from_degrees":
@@ -276,6 +306,8 @@ def given_for(name, chance, table):
         return some_message(chance)
     if name == "feed_block":
         return some_block(chance, table)
+    if name in REPLAYS:
+        return some_log(chance)
     return some_fields(chance) if name == "encode" else b""
 
 
@@ -322,13 +354,14 @@ def difference(asked, given):
 # What must have been tried
 
 PAPER = dict(enumerate("LENGTH LATE PARITY FORMAT TYPE FULL PLACES FIELD LATITUDE ZONES".split(), 1))  # by the header's names
-PAPER |= {12: "NO_TRACK", 13: "OVERRUN", 15: "DEGREES"}
+PAPER |= {12: "NO_TRACK", 13: "OVERRUN", 14: "LOG", 15: "DEGREES"}
 READS = {0, 1, 7}
 NUMBERS = {
     **{name: READS for name in ("clock", "site", "next", "look_up", "feed_block")},
     **{name: {*READS, 8} for name in ("header", "line")},
     **{"set_up": {0, 7}, "set_up_at": {0, 7, 8}, "receive": {0, 1, 2, 3, 4, 5, 6, 7, 12}},
     **{"receive_stamp": {0, 1, 2, 3, 4, 5, 6, 7, 8, 12, 13}},
+    **{name: {0, 1, 8, 14} for name in REPLAYS},
     **{"encode_position": {0, 1, 8}, "pair": {0, 1, 8, 9, 10}, "single": {0, 1, 8, 9}},
     **{"degrees": {0, 1, 8}, "from_degrees": {0, 1, 15}},
     **{"decode": {0, 1, 3, 4, 5}, "encode": {0, 1, 8}, "me": {0, 1, 5, 8}},
@@ -350,7 +383,8 @@ def header_faults():
     """The header's numbers that are not the paper's."""
     wrong = [name for number, name in PAPER.items() if AT[f"REFUSED_{name}"] != number]
     wrong += [name for number, name in LETTERS.items() if AT[f"KIND_{name}"] != number]
-    return wrong + [name for name, size in (("BLOCK", BLOCK), ("MESSAGE", 14)) if AT[name] != size]
+    sizes = ("BLOCK", BLOCK), ("MESSAGE", 14), ("RECORD", RECORD), ("RECORDS", MOST_LOGGED)
+    return wrong + [name for name, size in sizes if AT[name] != size]
 
 
 def numbers_missing(asked):
@@ -489,6 +523,18 @@ def me_missing(asked):
     return (due | {(True, 0, AT["UNKNOWN"])} | {(False, 0, AT[kind]) for kind in STEPPED}) - seen
 
 
+def replays_missing(asked):
+    """Which kinds were never held, or never absent, after a log; with a position, too, with a site and without."""
+    seen = set()
+    for call, outcome in asked:
+        (name, *words), (_, answer, *arrays) = call.split(), outcome.split()
+        if name in REPLAYS and answer == "0":
+            entries, kind = array_of(arrays[0], WORDS), int(words[2])
+            seen |= {(name, kind, held) for held in ("held", "placed") if entries[AT[{"held": "TRACK_HELD", "placed": "TRACK_POSITION_KNOWN"}[held]]]}
+            seen |= {(name, kind, "absent")} if not entries[AT["TRACK_HELD"]] else set()
+    return {(name, kind, what) for name in REPLAYS for kind in KIND_NUMBERS for what in ("held", "placed", "absent")} - seen
+
+
 def full_missing(asked):
     """Whether a table of 1,024 places was never full for a stranger."""
     length = 2 * tables.length_of(1024)
@@ -509,7 +555,7 @@ def doubled_missing(asked):
 
 
 def for_structs(call):
-    """Can structs say a call? The result array has its own length, and a state 32 bits."""
+    """Can structs say a call? The result array has its own length, a state 32 bits, and a kind and an address make a key."""
     name, *words = call.split()
     function = FUNCTIONS[name]
     lent = len([one for one in (function.table, function.given) if one])
@@ -517,6 +563,8 @@ def for_structs(call):
         return False
     if name == "receive_stamp" and any(int(word) >= 2**32 for word in words[-AT["STAMPS"] :]):
         return False
+    if name.startswith("replay") and not (int(words[lent + 1]) < 2**8 and int(words[lent + 2]) < 2**24):
+        return False  # of a key
     return not function.result or int(words[lent]) == function.length
 
 
@@ -538,6 +586,7 @@ def main():
             return 1
     untried = [header_faults(), numbers_missing(asked), kinds_missing(asked), lost_missing(asked), traffic_missing(asked)]
     untried += [steps_missing(asked), shown_missing(asked), me_missing(asked), full_missing(asked), doubled_missing(asked)]
+    untried += [replays_missing(asked)]
     if any(untried):
         print(f"the header has other numbers than the paper, or these were never tried: {untried}")
         return 1

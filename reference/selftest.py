@@ -20,6 +20,8 @@ import messages
 import positions
 import published
 import readings
+import replay as plain_method
+import run_calls
 import run_captures
 import stamps as short_clock
 import table as lent_table
@@ -30,7 +32,7 @@ from positions import AIRBORNE, COUNTS, EVEN, FIGURES, ODD, STEP, SURFACE, UNIT,
 from refusals import Refused, answer
 from tracks import Position, Saved, Track
 from traffic import ANOTHER, GROUND, ICAO, MODE_A, OTHER, TRANSPONDER
-from vectors import figures, message_vectors, position_vectors, readings_vectors, table_vectors
+from vectors import figures, message_vectors, position_vectors, readings_vectors, replays, table_vectors
 
 assertions = 0
 failures = []
@@ -987,6 +989,50 @@ def true_times():
             time += chance.choice((0, 400, 2**31 - 1, chance.randrange(2**31))) if len(string) == 14 else 0
 
 
+# Replays
+
+
+def replay_edges():
+    """R-8: 14, then 8; a track goes at 125,000, by any record in time; a late one changes nothing."""
+    mine, other = traffic.velocity(TRANSPONDER, 5, 1, 2), traffic.velocity(OTHER, 5, 3, 4)
+    log = replays.log_of([(1_000, mine), (1_400, other)])
+    equal("an empty log", plain_method.replay(b"", tracks.I, 5), None)
+    for length in (1, 21, 43, 22 * 2_901):
+        refused(14, plain_method.replay, log.ljust(length, b"\0")[:length], tracks.I, 2**24)
+    refused(8, plain_method.replay, log, tracks.I, 2**24)
+    refused(8, plain_method.replay, log, tracks.I, 5, (2**30 + 1, 0))
+    equal("2,900 records", plain_method.replay(log.ljust(22 * 2_900, b"\0"), tracks.I, 5).heard, 1_000)
+    equal("kinds apart", plain_method.replay(log, tracks.O, 5).heard, 1_400)
+    damaged = message_vectors.flipped(mine, 60)
+    for time, heard in ((125_999, 1_000), (126_000, None), (2**64 - 1, None)):
+        track = plain_method.replay(log + replays.log_of([(time, damaged)]), tracks.I, 5)
+        equal("dropped by a damaged record", track and track.heard, heard)
+    late = plain_method.replay(log + replays.log_of([(126_000, damaged), (125_999, mine)]), tracks.I, 5)
+    equal("late, so not started again", late, None)
+
+
+def replay_is_the_table():
+    """R-8: what the plain method gives is what the table has, for each key to which 6 was not answered; for others it may not be."""
+    chance, differ = Random(88), 0
+    for _ in range(120):
+        table, site, records, full = bytearray(lent_table.length_of(chance.choice((1, 3, 12)))), chance.choice((None, (2**29, 7))), [], set()
+        lent_table.set_up(table, site)
+        time = 0
+        for _ in range(chance.randrange(30)):
+            time = max(0, time + chance.choice((0, 400, 10_001, 120_001, 125_000, -1)))
+            string = run_captures.message(chance)
+            records.append((time, string))
+            try:
+                lent_table.receive(table, string, time)
+            except Refused as refusal:
+                full |= {tracks.key_of(messages.decode(string))} if refusal.number == 6 else set()
+        for key in run_calls.KEYS:
+            same = plain_method.replay(replays.log_of(records), key >> 24, key % 2**24, site) == lent_table.look_up(table, key)
+            true("the table's track", same or key in full)
+            differ += not same
+    true("and with 6 another", differ)
+
+
 # Degrees
 
 
@@ -1052,6 +1098,8 @@ TESTS = [
     receiver_lines,
     stamp_edges,
     true_times,
+    replay_edges,
+    replay_is_the_table,
     degree_edges,
     degree_laws,
 ]

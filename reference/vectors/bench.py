@@ -12,8 +12,10 @@ A record is a letter and its arguments, numbers high byte first; an answer is a 
     N key                    the next key above                KEY, end, refused 7
     W                        walk: clock and site, then a line KEY LOOK-UP for each key, then as N
     B                        parity remainder of the whole table, six hex digits
+    J length kind address known latitude longitude   the first bytes as a log, replayed   as K, refused 8, refused 14
 
-Lengths, offsets, seeds, keys, latitude (two's complement) and longitude have 4 bytes, a time 8, a count 1.
+Lengths, offsets, seeds, keys, an address, latitude (two's complement) and longitude have 4 bytes, a time 8, a count, a kind and
+"known" 1.
 MESSAGE is the decoded message encoded again, in hex. TRACK is every value of the track; that of a key which is
 not held is a new track's.
 """
@@ -22,6 +24,7 @@ import table
 from messages import encode
 from parity import remainder
 from refusals import Refused, answer
+from replay import replay
 from tracks import Track, key_of
 
 SPACE = 81_000
@@ -45,6 +48,15 @@ def track_text(track):
     """Every value of a track."""
     groups = track[:6]  # heard, three groups, two heights
     return " ".join(str(value) for value in (*groups, *track.position, *track.saved[0], *track.saved[1]))
+
+
+def found_text(question, *arguments):
+    """The answer of what is asked for a track: whether it is held, and its values, a new track's where it is not."""
+    try:
+        track = question(*arguments)
+    except Refused as refusal:
+        return f"{refusal} {track_text(Track())}"
+    return f"unheld {track_text(Track())}" if track is None else f"held {track_text(track)}"
 
 
 class Bench:
@@ -133,16 +145,17 @@ class Bench:
 
     def looked(self, key):
         """The answer of a look-up."""
-        try:
-            track = self.ask(table.look_up, key)
-        except Refused as refusal:
-            return f"{refusal} {track_text(Track())}"
-        return f"unheld {track_text(Track())}" if track is None else f"held {track_text(track)}"
+        return found_text(self.ask, table.look_up, key)
 
     def look_up(self, *keys):
         """Look up each."""
         for key in keys:
             self.say(b"K" + fours(key), self.looked(key))
+
+    def replay(self, length, kind, address, site=None, spot=(0, 0)):
+        """The first bytes as a log; where there is no site, a spot that is not looked at."""
+        given = fours(length) + bytes([kind]) + fours(address) + bytes([site is not None]) + fours(*(site or spot))
+        self.say(b"J" + given, found_text(replay, bytes(self.buffer[:length]), kind, address, site))
 
     def following(self, above):
         """The answer of next."""

@@ -25,6 +25,7 @@ from traffic import (
     surface,
     velocity,
 )
+from vectors import replays
 from vectors.bench import SPACE, Bench
 from vectors.message_vectors import (
     FLAGS,
@@ -1183,5 +1184,7 @@ def run(bench):
 
 
 def cases():
-    """Records and their lines."""
-    return run(Bench()).cases
+    """Records and their lines; behind those of the table the logs that are replayed."""
+    bench = run(Bench())
+    replays.run(bench)
+    return bench.cases

@@ -15,6 +15,8 @@ const struct shape shapes[FUNCTIONS] = {
     {"site", READS_TABLE, NOTHING, 0, WORDS},
     {"next", READS_TABLE, NOTHING, 1, WORDS},
     {"look_up", READS_TABLE, NOTHING, 1, WORDS},
+    {"replay", NO_TABLE, BYTES, 2, WORDS},
+    {"replay_at", NO_TABLE, BYTES, 4, WORDS},
     {"header", READS_TABLE, NOTHING, 2, BYTES},
     {"line", READS_TABLE, NOTHING, 2, BYTES},
     {"feed_block", WRITES_TABLE, BYTES, 1, WORDS},
@@ -51,7 +53,8 @@ static int same(const struct lent *lent, const uint8_t *bytes, size_t size, size
 
 /* Whether an answer says that the clock moved, and nothing else of the table: 3 to 6 and 12. */
 static int clock_moved(uint64_t answer) {
-    return (answer >= ADDERCOIL_REFUSED_PARITY && answer <= ADDERCOIL_REFUSED_FULL) || answer == ADDERCOIL_REFUSED_NO_TRACK;
+    return (answer >= ADDERCOIL_REFUSED_PARITY && answer <= ADDERCOIL_REFUSED_FULL) ||
+           answer == ADDERCOIL_REFUSED_NO_TRACK;
 }
 
 /* What an answer leaves of the table: after 1, 2, 7, 8 and 13 all of it, after 3 to 6 and 12 all but the clock, its
@@ -82,7 +85,8 @@ static int result_left(const struct call *call) {
     return 1;
 }
 
-/* Whether a call that answers so may have written its result: an accepted stamp is written, whatever its message earns. */
+/* Whether a call that answers so may have written its result: an accepted stamp is written, whatever its message earns.
+ */
 static int result_written(const struct call *call, uint64_t answer) {
     return answer == 0 || (call->function == RECEIVE_STAMP && clock_moved(answer));
 }

@@ -30,6 +30,8 @@ enum function {
     SITE,
     NEXT,
     LOOK_UP,
+    REPLAY,
+    REPLAY_AT,
     HEADER,
     LINE,
     FEED_BLOCK,
@@ -59,8 +61,8 @@ struct shape {
 };
 extern const struct shape shapes[FUNCTIONS];
 
-/* What a result array holds before the call, byte by byte. The state of stamps is read too: its entries are the last two
- * NUMBERs. */
+/* What a result array holds before the call, byte by byte. The state of stamps is read too: its entries are the last
+ * two NUMBERs. */
 #define FRESH 0xA5
 
 struct call {

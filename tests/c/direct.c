@@ -56,6 +56,11 @@ static uint64_t without_table(const struct call *call, const uint8_t *given, uin
         return addercoil_version();
     case TABLE_BYTES:
         return addercoil_table_bytes(n[0]);
+    case REPLAY:
+        return addercoil_replay(given, call->given_size, (uint32_t)n[0], (uint32_t)n[1], words, length);
+    case REPLAY_AT:
+        return addercoil_replay_at(given, call->given_size, (uint32_t)n[0], (uint32_t)n[1], (int32_t)n[2],
+                                   (uint32_t)n[3], words, length);
     case ENCODE_POSITION:
         return addercoil_encode_position((int32_t)n[0], (uint32_t)n[1], (uint32_t)n[2], (uint32_t)n[3], words, length);
     case PAIR:

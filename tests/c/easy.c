@@ -89,30 +89,44 @@ static int left(const void *made, size_t size) {
     return 1;
 }
 
-static uint32_t look_up(struct addercoil_table table, uint32_t key, uint64_t *row) {
-    struct addercoil_track track;
-    uint32_t number;
-    memset(&track, FRESH, sizeof track);
-    number = addercoil_easy_look_up(table, key, &track);
+/* The entries of a track's struct. */
+static uint32_t put_track(uint32_t number, const struct addercoil_track *track, uint64_t *row) {
     if (number != ADDERCOIL_OK) {
-        return left(&track, sizeof track) ? number : NO_NUMBER;
+        return left(track, sizeof *track) ? number : NO_NUMBER;
     }
     memset(row, 0, ADDERCOIL_TRACK * sizeof *row);
-    row[ADDERCOIL_TRACK_HELD] = (uint64_t)track.held;
-    row[ADDERCOIL_TRACK_HEARD] = track.heard;
-    row[ADDERCOIL_TRACK_IDENTIFICATION] = track.identification;
-    row[ADDERCOIL_TRACK_VELOCITY] = track.velocity;
-    row[ADDERCOIL_TRACK_SURFACE] = track.surface;
-    row[ADDERCOIL_TRACK_PRESSURE_CODE] = track.pressure_code;
-    row[ADDERCOIL_TRACK_HEIGHT_CODE] = track.height_code;
-    row[ADDERCOIL_TRACK_POSITION_KNOWN] = (uint64_t)track.position_known;
-    put_spot(row, ADDERCOIL_TRACK_LATITUDE, track.position);
-    row[ADDERCOIL_TRACK_POSITION_TIME] = track.position_time;
-    put_saved(row, ADDERCOIL_TRACK_EVEN_KNOWN, track.even);
-    put_saved(row, ADDERCOIL_TRACK_ODD_KNOWN, track.odd);
-    put_identification(row, &track);
-    put_readings(row, &track);
+    row[ADDERCOIL_TRACK_HELD] = (uint64_t)track->held;
+    row[ADDERCOIL_TRACK_HEARD] = track->heard;
+    row[ADDERCOIL_TRACK_IDENTIFICATION] = track->identification;
+    row[ADDERCOIL_TRACK_VELOCITY] = track->velocity;
+    row[ADDERCOIL_TRACK_SURFACE] = track->surface;
+    row[ADDERCOIL_TRACK_PRESSURE_CODE] = track->pressure_code;
+    row[ADDERCOIL_TRACK_HEIGHT_CODE] = track->height_code;
+    row[ADDERCOIL_TRACK_POSITION_KNOWN] = (uint64_t)track->position_known;
+    put_spot(row, ADDERCOIL_TRACK_LATITUDE, track->position);
+    row[ADDERCOIL_TRACK_POSITION_TIME] = track->position_time;
+    put_saved(row, ADDERCOIL_TRACK_EVEN_KNOWN, track->even);
+    put_saved(row, ADDERCOIL_TRACK_ODD_KNOWN, track->odd);
+    put_identification(row, track);
+    put_readings(row, track);
     return number;
+}
+
+static uint32_t look_up(struct addercoil_table table, uint32_t key, uint64_t *row) {
+    struct addercoil_track track;
+    memset(&track, FRESH, sizeof track);
+    return put_track(addercoil_easy_look_up(table, key, &track), &track, row);
+}
+
+/* Of a kind and an address, with a site or without. */
+static uint32_t replay(const struct call *call, const uint8_t *log, uint64_t *row) {
+    const uint64_t *n = call->numbers;
+    struct addercoil_track track;
+    uint32_t key = ADDERCOIL_KEY_OF(n[0], n[1]), number;
+    memset(&track, FRESH, sizeof track);
+    number = call->function == REPLAY ? addercoil_easy_replay(log, call->given_size, key, &track)
+                                      : addercoil_easy_replay_at(log, call->given_size, key, spot(n[2], n[3]), &track);
+    return put_track(number, &track, row);
 }
 
 /* The readings of a message, by its layout. */
@@ -151,7 +165,8 @@ static void put_meant(uint64_t *row, const struct addercoil_message *m) {
 static int others_unknown(const struct addercoil_message *m) {
     uint32_t is = m->layout;
     int named = is == ADDERCOIL_LAYOUT_IDENTIFICATION, airborne = is == ADDERCOIL_LAYOUT_AIRBORNE;
-    int surface = is == ADDERCOIL_LAYOUT_SURFACE, ground = is == ADDERCOIL_LAYOUT_GROUND, air = is == ADDERCOIL_LAYOUT_AIR;
+    int surface = is == ADDERCOIL_LAYOUT_SURFACE, ground = is == ADDERCOIL_LAYOUT_GROUND,
+        air = is == ADDERCOIL_LAYOUT_AIR;
     return (named || (m->callsign[0] | m->category[0]) == 0) &&
            (surface || ((m->movement.is | m->surface_heading.is) == 0 && !m->surface_status)) &&
            (airborne || (m->altitude.is | m->altitude_step.is | m->gnss.is) == 0) &&
@@ -243,8 +258,7 @@ static uint32_t next(struct addercoil_table table, uint32_t key, uint64_t *row) 
 static uint32_t receive_stamp(const struct call *call, struct addercoil_table table, const uint8_t *given,
                               uint64_t *row) {
     struct addercoil_stamps stamps = {(uint32_t)row[ADDERCOIL_STAMP_STARTED], (uint32_t)row[ADDERCOIL_STAMP_LAST]};
-    uint32_t number =
-        addercoil_easy_receive_stamp(table, given, call->given_size, (uint32_t)call->numbers[0], &stamps);
+    uint32_t number = addercoil_easy_receive_stamp(table, given, call->given_size, (uint32_t)call->numbers[0], &stamps);
     row[ADDERCOIL_STAMP_STARTED] = stamps.started;
     row[ADDERCOIL_STAMP_LAST] = stamps.last;
     return number;
@@ -327,6 +341,9 @@ static uint64_t without_table(const struct call *call, const uint8_t *given, uin
         return version();
     case TABLE_BYTES:
         return addercoil_table_bytes(n[0]);
+    case REPLAY:
+    case REPLAY_AT:
+        return replay(call, given, row);
     case ENCODE_POSITION:
         return encode_position(n, row);
     case PAIR:

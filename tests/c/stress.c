@@ -1,5 +1,6 @@
 /*
- * Hostile calls of every kind: stress SEED CALLS EVERY. First it asks for the clock of a table of every length. Then it
+ * Hostile calls of every kind: stress SEED CALLS EVERY. First it asks for the clock of a table of every length, and
+ * works the tracks of 1,000 runs out again from their logs, which the tables must have unless they were full. Then it
  * makes so many calls, the same for the same seed and compiler: random bytes, valid messages and damaged ones, times at
  * the edges of 64 bits, tables of bad lengths, of random bytes, and full ones, result arrays of wrong lengths. After
  * each of these it looks at the guards of all that was lent, and at what must be as it was. At a fault it names the
@@ -118,16 +119,22 @@ static void put_time(uint8_t *bytes, uint64_t time) {
     }
 }
 
-/* A block of a capture: of rising times, and now and then broken. */
-static void make_block(uint8_t *block, uint64_t time) {
-    size_t count = below(24), i;
-    memset(block, 0, ADDERCOIL_BLOCK);
-    block[0] = (uint8_t)count;
+/* Records of a log, or of a block: a time and a message each, of rising times. */
+static void make_records(uint8_t *records, size_t count, uint64_t time) {
+    size_t i;
     for (i = 0; i < count; i++) {
         time += ONE_OF(0, 1, 400, 10001);
-        put_time(block + 3 + 22 * i, time);
-        make_message(block + 3 + 22 * i + 8);
+        put_time(records + ADDERCOIL_RECORD * i, time);
+        make_message(records + ADDERCOIL_RECORD * i + 8);
     }
+}
+
+/* A block of a capture: of rising times, and now and then broken. */
+static void make_block(uint8_t *block, uint64_t time) {
+    size_t count = below(24);
+    memset(block, 0, ADDERCOIL_BLOCK);
+    block[0] = (uint8_t)count;
+    make_records(block + 3, count, time);
     if (below(8) == 0) {
         damage(block, ADDERCOIL_BLOCK);
     }
@@ -144,7 +151,7 @@ static const size_t live_places[] = {1, 2, 3, 5, 8, 16, 256, 1024};
 enum { LIVE = sizeof live_places / sizeof live_places[0] };
 static uint8_t live[LIVE][ADDERCOIL_TABLE_BYTES(1024)];
 static uint8_t strange[LENT_MOST]; /* a table for one call only */
-static uint8_t given[4096];
+static uint8_t given[LENT_MOST];
 
 static uint64_t clock_of(const uint8_t *table) {
     uint64_t clock = 0;
@@ -227,6 +234,8 @@ static size_t result_length(enum function function) {
     case SITE:
         return about(ADDERCOIL_SITE);
     case LOOK_UP:
+    case REPLAY:
+    case REPLAY_AT:
         return about(ADDERCOIL_TRACK);
     case HEADER:
     case LINE:
@@ -261,9 +270,19 @@ static size_t make_fields(void) {
         i = below(ADDERCOIL_FIELDS);
         fields[i] = number();
     }
-    fill(given, sizeof given);
+    fill(given, 4096);
     memcpy(given, fields, sizeof fields);
     return about(ADDERCOIL_FIELDS) * sizeof fields[0];
+}
+
+/* A log of a few records; now and then one that is too long, or that is not of whole records. */
+static size_t make_log(uint64_t time) {
+    size_t count = 1 + below(40);
+    make_records(given, count, time);
+    if (below(64) == 0) {
+        count = ADDERCOIL_RECORDS - 1 + below(3); /* what lies behind is from other calls */
+    }
+    return about(ADDERCOIL_RECORD * count);
 }
 
 static size_t make_given(enum function function, uint64_t time) {
@@ -278,6 +297,9 @@ static size_t make_given(enum function function, uint64_t time) {
         return about(ADDERCOIL_BLOCK);
     case ENCODE:
         return make_fields();
+    case REPLAY:
+    case REPLAY_AT:
+        return make_log(time);
     default:
         return 0;
     }
@@ -298,8 +320,8 @@ static uint64_t make_stamp(int i, uint64_t time) {
     return i == 0 ? (time + steps) % 0x100000000 : i == 1 ? below(8) != 0 : time % 0x100000000;
 }
 
-/* The bit pattern of a figure in degrees, of a latitude or of any number of 32 bits; now and then a pattern beside it, of
- * the other sign, or any. */
+/* The bit pattern of a figure in degrees, of a latitude or of any number of 32 bits; now and then a pattern beside it,
+ * of the other sign, or any. */
 static uint64_t make_figure(int i) {
     int32_t number = (int32_t)(any() >> 32);
     double figure = (i == 0 ? number / 2 : number) * 360.0 / 4294967296.0;
@@ -327,6 +349,15 @@ static uint64_t make_number(enum function function, int i, uint64_t time) {
     case NEXT:
     case LOOK_UP:
         return below(8) == 0 ? number() : key;
+    case REPLAY:
+    case REPLAY_AT:
+        if (below(32) == 0) {
+            return number();
+        }
+        if (i < 2) {
+            return i == 0 ? kind : key & 0xFFFFFF;
+        }
+        return i == 2 ? below(((uint64_t)1 << 31) + 1) - ((uint64_t)1 << 30) : any() >> 32;
     case HEADER:
     case LINE:
         if (i == 1) {
@@ -376,6 +407,156 @@ static struct call make_call(void) {
         call.numbers[i] = make_number(call.function, i, time);
     }
     return call;
+}
+
+/* ---- Replays: a log gives what the table has, unless 6 was answered to the aircraft ---- */
+
+enum { RUNS = 1000, RUN_RECORDS = 48, RUN_KEYS = 20 + RUN_RECORDS };
+
+/* One run: what was received, and the table after it. */
+struct run {
+    uint8_t table[ADDERCOIL_TABLE_BYTES(16)];
+    size_t size;
+    uint8_t log[RUN_RECORDS * ADDERCOIL_RECORD];
+    size_t records;
+    int sited;
+    int32_t latitude;
+    uint32_t longitude;
+    size_t keys; /* of each the number, whether it was held, and whether 6 was answered to it */
+    uint32_t key[RUN_KEYS];
+    int started[RUN_KEYS];
+    int full[RUN_KEYS];
+};
+
+/* How often what came. */
+static struct { unsigned long answers[16], of_kind[6], held, absent, sited, restarted, lost, full_differs; } came;
+
+/* Where a key stands in a run. */
+static size_t key_at(struct run *run, uint32_t key) {
+    size_t k;
+    for (k = 0; k < run->keys && run->key[k] != key; k++) {
+    }
+    if (k == run->keys) {
+        run->key[k] = key;
+        run->started[k] = run->full[k] = 0;
+        run->keys++;
+    }
+    return k;
+}
+
+/* A table with a site or none, and the keys of the few aircraft whose messages come most. */
+static void begin_run(struct run *run) {
+    uint32_t kind, aa;
+    run->size = ADDERCOIL_TABLE_BYTES(ONE_OF(1, 2, 3, 8, 16));
+    run->records = run->keys = 0;
+    run->sited = below(2) == 0;
+    run->latitude = (int32_t)((int64_t)below(((uint64_t)1 << 31) + 1) - ((int64_t)1 << 30));
+    run->longitude = (uint32_t)any();
+    if (run->sited) {
+        addercoil_set_up_at(run->table, run->size, run->latitude, run->longitude);
+    } else {
+        addercoil_set_up(run->table, run->size);
+    }
+    for (kind = 1; kind <= 5; kind++) {
+        for (aa = 0; aa < 4; aa++) {
+            key_at(run, kind << 24 | aa * 0x010101);
+        }
+    }
+}
+
+/* Any message at a time, into the table and behind the log. */
+static void receive_in(struct run *run, uint64_t time) {
+    uint8_t *record = run->log + ADDERCOIL_RECORD * run->records++, *message = record + 8;
+    uint64_t fields[ADDERCOIL_FIELDS], track[ADDERCOIL_TRACK];
+    uint32_t answer;
+    size_t k;
+    put_time(record, time);
+    make_message(message);
+    if (addercoil_decode(message, ADDERCOIL_MESSAGE, fields, ADDERCOIL_FIELDS) != ADDERCOIL_OK) {
+        came.answers[addercoil_receive(run->table, run->size, message, ADDERCOIL_MESSAGE, time)]++;
+        return;
+    }
+    k = key_at(run, (uint32_t)fields[ADDERCOIL_KEY]);
+    addercoil_look_up(run->table, run->size, run->key[k], track, ADDERCOIL_TRACK);
+    answer = addercoil_receive(run->table, run->size, message, ADDERCOIL_MESSAGE, time);
+    came.answers[answer]++;
+    run->full[k] |= answer == ADDERCOIL_REFUSED_FULL;
+    if (answer == ADDERCOIL_OK) {
+        came.restarted += run->started[k] && track[ADDERCOIL_TRACK_HELD] == 0;
+        came.lost += fields[ADDERCOIL_TYPECODE] == 0; /* of a held track: no position */
+        run->started[k] = 1;
+    }
+}
+
+/* Whether a key's track is the same both ways, or 6 was answered to it. */
+static int replayed(const struct run *run, size_t k) {
+    uint64_t held[ADDERCOIL_TRACK], again[ADDERCOIL_TRACK];
+    uint32_t kind = run->key[k] >> 24, aa = run->key[k] & 0xFFFFFF;
+    size_t length = ADDERCOIL_RECORD * run->records;
+    uint32_t answer = run->sited ? addercoil_replay_at(run->log, length, kind, aa, run->latitude, run->longitude, again,
+                                                       ADDERCOIL_TRACK)
+                                 : addercoil_replay(run->log, length, kind, aa, again, ADDERCOIL_TRACK);
+    if (answer != ADDERCOIL_OK ||
+        addercoil_look_up(run->table, run->size, run->key[k], held, ADDERCOIL_TRACK) != ADDERCOIL_OK) {
+        return 0;
+    }
+    if (memcmp(held, again, sizeof held) != 0) {
+        came.full_differs += run->full[k] != 0;
+        return run->full[k];
+    }
+    came.held += held[ADDERCOIL_TRACK_HELD] != 0;
+    came.of_kind[kind] += held[ADDERCOIL_TRACK_HELD] != 0;
+    came.absent += held[ADDERCOIL_TRACK_HELD] == 0;
+    came.sited += run->sited && held[ADDERCOIL_TRACK_POSITION_KNOWN] != 0;
+    return 1;
+}
+
+/* Every number of a received message, every kind held, TYPE 0, and every end of a track. */
+static int all_came(void) {
+    static const int due[] = {0, 2, 3, 4, 5, 6, 12};
+    size_t i;
+    for (i = 1; i < sizeof came.of_kind / sizeof came.of_kind[0]; i++) {
+        if (came.of_kind[i] == 0) {
+            return 0;
+        }
+    }
+    for (i = 0; i < sizeof due / sizeof due[0]; i++) {
+        if (came.answers[due[i]] == 0) {
+            return 0;
+        }
+    }
+    return came.absent && came.sited && came.restarted && came.lost && came.full_differs;
+}
+
+static int replays(void) {
+    static struct run run;
+    unsigned long i;
+    size_t k, left;
+    for (i = 0; i < RUNS; i++) {
+        uint64_t time = ONE_OF(0, 0, 1000000, 0 - (uint64_t)500000);
+        begin_run(&run);
+        for (left = 1 + below(RUN_RECORDS); left > 0; left--) {
+            uint64_t step =
+                ONE_OF(0, 1, 400, 400, 5000, 10001, 60000, 120001, 124999, 125000, 0 - (uint64_t)1, 0 - (uint64_t)400);
+            time = time + step < time && step < 1000000 ? time : time + step; /* not past the last time */
+            receive_in(&run, time);
+        }
+        for (k = 0; k < run.keys; k++) {
+            if (!replayed(&run, k)) {
+                fprintf(stderr, "run %lu, key %08x: a replay is not what the table has\n", i, (unsigned)run.key[k]);
+                return 0;
+            }
+        }
+    }
+    if (!all_came()) {
+        fputs("the runs that are replayed have not all that may come\n", stderr);
+        return 0;
+    }
+    fprintf(stderr,
+            "%d runs replayed: %lu tracks as the table has them, %lu absent from both, %lu started again; "
+            "%lu differ, where 6 was answered\n",
+            (int)RUNS, came.held, came.absent, came.restarted, came.full_differs);
+    return 1;
 }
 
 /* ---- The run ---- */
@@ -436,7 +617,7 @@ int main(int count, char **words) {
     signal(SIGSEGV, on_touch);
     signal(SIGBUS, on_touch);
     call_open();
-    if (!every_length()) {
+    if (!every_length() || !replays()) {
         return 1;
     }
     for (made = 0; made < calls; made++) {

@@ -10,7 +10,7 @@ use borrow.Author.Tests.{eq-eqb}
 use lib.Dec.{eqb}
 use lib.ListN.{length, getD, List·getD-eq-default}
 use Rattle.refusals.specs.declared.Refusal.{Refusal}
-use Rattle.refusals.specs.declared.Refusal.the-variants.{Length, Late, Parity, Format, TypeCode, Full, Places, Field, Latitude, Zones, Block, NoTrack, Overrun, Degrees}
+use Rattle.refusals.specs.declared.Refusal.the-variants.{Length, Late, Parity, Format, TypeCode, Full, Places, Field, Latitude, Zones, Block, NoTrack, Overrun, Log, Degrees}
 use Rattle.refusals.specs.Numbers.{numberOf}
 use Rattle.refusals.specs.Said.{gives}
 use Rattle.entries.specs.Arrays.{filled}
@@ -82,6 +82,7 @@ some-number Zones e = omega arith
 some-number Block e = omega arith
 some-number NoTrack e = omega arith
 some-number Overrun e = omega arith
+some-number Log e = omega arith
 some-number Degrees e = omega arith
 
 if-written : (a b : Bool) → encodedNumber (cond (not a) (encode.Refused Length) (cond (not b) (encode.Refused Field) encode.Written)) ≡ 0 → (a ≡ true) × (b ≡ true)

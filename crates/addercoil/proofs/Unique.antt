@@ -45,6 +45,10 @@ use Rattle.addercoil.proofs.me.addercoil_me.Kinds as me-kinds
 use Rattle.addercoil.proofs.me.addercoil_me.Reads as me
 use Rattle.addercoil.proofs.numbers.addercoil_encode.Kinds as encode-kinds
 use Rattle.addercoil.proofs.numbers.addercoil_encode.Reads as encode
+use Rattle.addercoil.proofs.replays.addercoil_replay.Kinds as replay-kinds
+use Rattle.addercoil.proofs.replays.addercoil_replay.Reads as replay
+use Rattle.addercoil.proofs.replays.addercoil_replay_at.Kinds as replay-at-kinds
+use Rattle.addercoil.proofs.replays.addercoil_replay_at.Reads as replay-at
 use Rattle.addercoil.proofs.stamped.addercoil_receive_stamp.Kinds as receive-stamp-kinds
 use Rattle.addercoil.proofs.stamped.addercoil_receive_stamp.Reads as receive-stamp
 
@@ -107,6 +111,12 @@ me-once κs args x y left left′ p q = p ∙ sym q
 
 pub encode-once : OneOutcome 2 encode-kinds.ps encode-kinds.r Sent (λ κs x left. sent x (left .1 .0 .now)) encode.Post
 encode-once κs args x y left left′ p q = p ∙ sym q
+
+pub replay-once : OneOutcome 2 replay-kinds.ps replay-kinds.r Sent (λ κs x left. sent x (left .1 .1 .1 .0 .now)) replay.Post
+replay-once κs args x y left left′ p q = p ∙ sym q
+
+pub replay-at-once : OneOutcome 2 replay-at-kinds.ps replay-at-kinds.r Sent (λ κs x left. sent x (left .1 .1 .1 .1 .1 .0 .now)) replay-at.Post
+replay-at-once κs args x y left left′ p q = p ∙ sym q
 
 pub receive-stamp-once : OneOutcome 3 receive-stamp-kinds.ps receive-stamp-kinds.r Both (λ κs x left. both (sent x (left .1 .1 .1 .0 .now)) (left .0 .now)) receive-stamp.Post
 receive-stamp-once κs args x y left left′ p q = p ∙ sym q

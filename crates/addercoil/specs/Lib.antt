@@ -2,6 +2,7 @@ pub mod Figures
 pub mod Lines
 pub mod Me
 pub mod Messages
+pub mod Replays
 pub mod Sent
 pub mod Spots
 pub mod Stamps

@@ -13,9 +13,9 @@ use Rattle.encoder.specs.declared.Encoded.{Encoded}
 use Rattle.encoder.specs.declared.Encoded.the-variants as encode
 use Rattle.encoder.specs.Encoded.{encoded, encodedBytes}
 use Rattle.track.specs.declared.Track.{Track}
-use Rattle.rules.specs.declared.answers.Holding.{Holding}
-use Rattle.rules.specs.declared.answers.Holding.the-variants as holding
-use Rattle.rules.specs.declared.answers.Looked.{Looked}
+use Rattle.track.specs.declared.held.Holding.{Holding}
+use Rattle.track.specs.declared.held.Holding.the-variants as holding
+use Rattle.track.specs.declared.held.Looked.{Looked}
 use Rattle.rows.specs.From.{messageFrom}
 use Rattle.rows.specs.Rows.{messageRow}
 use Rattle.rows.specs.Tracks.{trackRow}

@@ -4,6 +4,7 @@ mod give;
 mod lines;
 mod me;
 mod numbers;
+mod replays;
 mod spots;
 mod stamped;
 mod tables;

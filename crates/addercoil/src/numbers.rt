@@ -4,7 +4,7 @@ use encoder::Encoded;
 use messages::Accepted;
 use messages::Decoded;
 use messages::Frame;
-use rules::Holding;
+use track::Holding;
 use track::Track;
 ghost use mathlib.Core.Path.{_≡_};
 ghost use lib.ListN.{length};
@@ -14,7 +14,7 @@ ghost use Rattle.table.specs.Table.{lookedUp};
 ghost use Rattle.addercoil.specs.Sent.{sent, given, into};
 ghost use Rattle.addercoil.specs.Messages.{heldSaid, lookedSaid, messageSaid, encodedNumber, encodedAs, encodedFrom};
 
-fn give_held(out: &mut [u64], key: u32, t: Track, answer: Holding) -> u32
+pub(crate) fn give_held(out: &mut [u64], key: u32, t: Track, answer: Holding) -> u32
     ensures { λ r. ⌜ sent r (now (out .exit)) ≡ given (now (out .entry)) (heldSaid key t answer) ⌝ }
 {
     match answer {

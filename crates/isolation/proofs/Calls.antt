@@ -13,21 +13,20 @@ use Rattle.messages.specs.declared.Message.{Message}
 use Rattle.messages.specs.declared.Decoded.{Decoded}
 use Rattle.messages.specs.declared.Decoded.the-variants as decode
 use Rattle.messages.specs.Message.{decoded, keyOf}
-use Rattle.track.specs.declared.Track.{Track}
+use Rattle.track.specs.Held.{laterAt, found, steppedFrom, answeredFrom}
+use Rattle.replay.specs.Alone.{ownIn, heardIn, trackAfter, ownAfter}
+use Rattle.replay.proofs.Ways.{with-track}
 use Rattle.rules.specs.Form.{Form, Lawful}
 use Rattle.rules.specs.Rules.{After, delivered, received}
-use Rattle.rules.specs.View.{view, laterAt, found, steppedFrom, answeredFrom, Table}
+use Rattle.rules.specs.View.{view, Table}
 use Rattle.rules.proofs.Ways.{not-refused, received-in-time}
 use Rattle.rules.proofs.Laws.{clock-after, late-exactly, unchanged, dropped-by-the-clock, steps-its-track, key-answer}
 use Rattle.isolation.specs.Runs.{Call, isOf, own, call}
-use Rattle.isolation.specs.Alone.{ownIn, heardIn, Own, ownOf, trackAfter, ownAfter, answerTo}
+use Rattle.isolation.specs.Alone.{heardBy, ownOf, answerTo}
 
 abbrev keyIn : Decoded → ℕ
 keyIn (decode.Message m) = keyOf m
 keyIn (decode.Refused r) = 0
-
-abbrev pub with-track : ℕ → Option Track → Own
-with-track clock t = record { clock = clock; track = t }
 
 -- ---- whose a message is
 
@@ -77,7 +76,7 @@ module _ {S : Type 0} (F : Form S) (L : Lawful F) (key : ℕ) (s : S) (c : Call)
       (λ (y : (r .answer ≡ decode.Refused Full) ⊎ (r .answer ≡ decode.Refused NoTrack)). ⊎-elim (λ z. not-refused (sym a ∙ z)) (λ z. not-refused (sym a ∙ z)) y)
       (key-answer F L s (c .message) (c .time) (table .size) h n e)
 
-  pub other-call : own key c ≡ false → ownOf F (r .table) key ≡ ownAfter (F .site s) (ownOf F s key) (heardIn key c)
+  pub other-call : own key c ≡ false → ownOf F (r .table) key ≡ ownAfter (F .site s) (ownOf F s key) (heardBy key c)
   unfolding own ownAfter heardIn
   other-call o = by-time (ltb (c .time) (F .clock s)) refl
     where
@@ -96,7 +95,7 @@ module _ {S : Type 0} (F : Form S) (L : Lawful F) (key : ℕ) (s : S) (c : Call)
   answered b = answerTo b (view F s key) (c .time) (ownIn key (decoded (c .message)))
 
   pub own-call : own key c ≡ true → (r .answer ≡ decode.Refused Full → ⊥)
-      → (ownOf F (r .table) key ≡ ownAfter (F .site s) (ownOf F s key) (heardIn key c)) × (some (r .answer) ≡ answered (ltb (c .time) (F .clock s)))
+      → (ownOf F (r .table) key ≡ ownAfter (F .site s) (ownOf F s key) (heardBy key c)) × (some (r .answer) ≡ answered (ltb (c .time) (F .clock s)))
   unfolding own ownAfter heardIn
   own-call o un = by-time (ltb (c .time) (F .clock s)) refl
     where

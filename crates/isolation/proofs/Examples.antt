@@ -57,7 +57,7 @@ traffic = 0x92 ∷ 0xAB ∷ 0xCD ∷ 0xEF ∷ 0x3A ∷ 0x8A ∷ 0x35 ∷ 0x32 �
 abbrev noise : List ℕ
 noise = 0 ∷ 0 ∷ 0 ∷ 0 ∷ 0 ∷ 0 ∷ 0 ∷ 0 ∷ 0 ∷ 0 ∷ 1 ∷ 0 ∷ 0 ∷ 0 ∷ []
 
-abbrev key : ℕ
+abbrev pub key : ℕ
 key = 0x1ABCDEF
 
 abbrev all-bytes : List ℕ → Bool
@@ -72,19 +72,19 @@ bytes-of (b ∷ s) e (suc i) = bytes-of s (and-right (ltb b 256) (all-bytes s) e
 abbrev at : (message : List ℕ) → all-bytes message ≡ true → length message ≡ 14 → (time : ℕ) → time < 2 ^ 64 → Call
 at message b l time f = record { message = message; bytes = bytes-of message b; whole = l; time = time; fits = f }
 
-abbrev first : Call
+abbrev pub first : Call
 first = at mine refl refl 1000 (omega arith)
 
-abbrev second : Call
+abbrev pub second : Call
 second = at mine refl refl 2000 (omega arith)
 
 abbrev no-position : Call
 no-position = at silent refl refl 2000 (omega arith)
 
-abbrev stranger-first : Call
+abbrev pub stranger-first : Call
 stranger-first = at strange refl refl 1000 (omega arith)
 
-abbrev stranger : Call
+abbrev pub stranger : Call
 stranger = at strange refl refl 2000 (omega arith)
 
 abbrev other-kind : Call
@@ -112,7 +112,7 @@ lastOf (x ∷ y ∷ r) = lastOf (y ∷ r)
 
 -- ---- whose the calls are: computed
 
-own-calls : (own key first ≡ true) × (own key second ≡ true) × (own key stranger-first ≡ false) × (own key stranger ≡ false) × (own key other-kind ≡ false)
+pub own-calls : (own key first ≡ true) × (own key second ≡ true) × (own key stranger-first ≡ false) × (own key stranger ≡ false) × (own key other-kind ≡ false)
     × (own key refused-first ≡ false) × (own key refused ≡ false) × (own key no-position ≡ true) × (own key of-traffic ≡ false)
 unfolding own remainder remainderFrom reduce opened kindOf
 own-calls = (refl, refl, refl, refl, refl, refl, refl, refl, refl)
@@ -127,7 +127,7 @@ noise-not-own = own-calls .6
 alike : (c : Call) → own key c ≡ false → c .time ≡ 2000 → Alike key (first ∷ c ∷ []) (first ∷ refused ∷ [])
 alike c o t = its first own-first (others c refused o noise-not-own (cc) end)
 
-not-six : {d : Decoded} {n : ℕ} → numberIn d ≡ n → (n ≡ 6 → ⊥) → d ≡ decode.Refused Full → ⊥
+pub not-six : {d : Decoded} {n : ℕ} → numberIn d ≡ n → (n ≡ 6 → ⊥) → d ≡ decode.Refused Full → ⊥
 not-six z ne e = ne (sym z ∙ ap numberIn e)
 
 -- ---- a form, of which `empty n` is a table of n places

@@ -12,13 +12,15 @@ use Rattle.messages.specs.declared.Decoded.{Decoded}
 use Rattle.messages.specs.declared.Decoded.the-variants as decode
 use Rattle.messages.specs.Message.{decoded}
 use Rattle.whereabouts.specs.declared.Site.{Site}
+use Rattle.replay.specs.Alone.{Heard, heardIn, Own, ownAfter}
+use Rattle.replay.proofs.Ways.{with-track}
 use Rattle.rules.specs.Form.{Form, Lawful}
 use Rattle.rules.specs.Rules.{After, setUp, received}
 use Rattle.rules.specs.View.{view, Table}
 use Rattle.rules.proofs.Laws.{table-after, site-after, set-up-table}
 use Rattle.isolation.specs.Runs.{Call, own, Alike, Alike.end, Alike.its, Alike.others, call, NeverFull, Seen, saw, seen, Isolation}
-use Rattle.isolation.specs.Alone.{Heard, heardIn, heardOf, Own, ownOf, ownAfter, answerTo, sawAlone, seenAlone}
-use Rattle.isolation.proofs.Calls.{with-track, none-in, other-call, own-call}
+use Rattle.isolation.specs.Alone.{heardBy, heardOf, ownOf, answerTo, sawAlone, seenAlone}
+use Rattle.isolation.proofs.Calls.{none-in, other-call, own-call}
 
 -- ---- one call
 
@@ -30,21 +32,21 @@ module _ {S : Type 0} (F : Form S) (L : Lawful F) (key : ℕ) (s : S) (c : Call)
   r = call (received F) s c
 
   abbrev pub Alone : Type 0
-  Alone = (ownOf F (r .table) key ≡ ownAfter (F .site s) (ownOf F s key) (heardIn key c)) × (saw F key c r ≡ sawAlone (F .site s) (ownOf F s key) (heardIn key c))
+  Alone = (ownOf F (r .table) key ≡ ownAfter (F .site s) (ownOf F s key) (heardBy key c)) × (saw F key c r ≡ sawAlone (F .site s) (ownOf F s key) (heardBy key c))
 
-  not-heard : own key c ≡ false → none ≡ answerTo (ltb (heardIn key c .time) (F .clock s)) (view F s key) (heardIn key c .time) (heardIn key c .message)
+  not-heard : own key c ≡ false → none ≡ answerTo (ltb (heardBy key c .time) (F .clock s)) (view F s key) (heardBy key c .time) (heardBy key c .message)
   unfolding own heardIn
   not-heard o = sym (ap (answerTo (ltb (c .time) (F .clock s)) (view F s key) (c .time)) (none-in key (decoded (c .message)) o))
 
-  heard : own key c ≡ true → some (r .answer) ≡ answerTo (ltb (heardIn key c .time) (F .clock s)) (view F s key) (heardIn key c .time) (heardIn key c .message)
+  heard : own key c ≡ true → some (r .answer) ≡ answerTo (ltb (heardBy key c .time) (F .clock s)) (view F s key) (heardBy key c .time) (heardBy key c .message)
   unfolding heardIn
   heard o = own-call F L key s c table o (never o) .1
 
   pub one-call : Alone
   one-call = by-owner (own key c) refl
     where
-      both : (o : Bool) → own key c ≡ o → ownOf F (r .table) key ≡ ownAfter (F .site s) (ownOf F s key) (heardIn key c)
-          → cond o (some (r .answer)) none ≡ answerTo (ltb (heardIn key c .time) (F .clock s)) (view F s key) (heardIn key c .time) (heardIn key c .message) → Alone
+      both : (o : Bool) → own key c ≡ o → ownOf F (r .table) key ≡ ownAfter (F .site s) (ownOf F s key) (heardBy key c)
+          → cond o (some (r .answer)) none ≡ answerTo (ltb (heardBy key c .time) (F .clock s)) (view F s key) (heardBy key c .time) (heardBy key c .message) → Alone
       both o e p q = (p, ap₂ shown (ap (λ (b : Bool). cond b (some (r .answer)) none) e ∙ q) p)
 
       by-owner : (b : Bool) → own key c ≡ b → Alone
@@ -66,13 +68,13 @@ run-alone F L key (c ∷ cs) s table never =
 abbrev heard-as : ℕ → Option Message → Heard
 heard-as time m = record { time = time; message = m }
 
-pub same-heard : (key : ℕ) (c d : Call) → own key c ≡ false → own key d ≡ false → c .time ≡ d .time → heardIn key c ≡ heardIn key d
+pub same-heard : (key : ℕ) (c d : Call) → own key c ≡ false → own key d ≡ false → c .time ≡ d .time → heardBy key c ≡ heardBy key d
 unfolding own heardIn
 same-heard key c d o p e = ap₂ heard-as e (none-in key (decoded (c .message)) o ∙ sym (none-in key (decoded (d .message)) p))
 
 pub alike-heard : (key : ℕ) {xs ys : List Call} → Alike key xs ys → heardOf key xs ≡ heardOf key ys
 alike-heard key end = refl
-alike-heard key (its c o a) = ap (λ (hs : List Heard). heardIn key c ∷ hs) (alike-heard key a)
+alike-heard key (its c o a) = ap (λ (hs : List Heard). heardBy key c ∷ hs) (alike-heard key a)
 alike-heard key (others c d o p e a) = ap₂ (λ (h : Heard) (hs : List Heard). h ∷ hs) (same-heard key c d o p e) (alike-heard key a)
 
 -- two tables, of one form or of two, that agree on the clock, the site and the aircraft's track

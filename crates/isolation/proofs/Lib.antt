@@ -7,3 +7,8 @@ pub mod OfCode
 pub mod OfSlice
 pub mod Stamped
 pub mod OfStamped
+pub mod Replayed
+pub mod Logs
+pub mod Captured
+pub mod OfReplay
+pub mod Doubted

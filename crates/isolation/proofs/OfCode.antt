@@ -88,7 +88,7 @@ received-is {s} {c} {r} b =
     ∙ ap₂ (λ (x : List ℕ) (m : List ℕ). received x m (b .args .1 .1 .0)) (b .lent) (b .message)
     ∙ ap (received s (c .message)) (b .time)
 
-ran-played : {s : List ℕ} {cs : List Call} {rs : List (After Decoded)} → Ran s cs rs → Played received s cs rs
+pub ran-played : {s : List ℕ} {cs : List Call} {rs : List (After Decoded)} → Ran s cs rs → Played received s cs rs
 ran-played (stopped s) = tt
 ran-played (then b more) = (received-is b, ran-played more)
 

@@ -10,7 +10,8 @@ use Rattle.rules.specs.declared.answers.SetUp.the-variants.{Done}
 use Rattle.rules.specs.Form.{Form, East}
 use Rattle.rules.specs.Rules.{After, setUp}
 use Rattle.isolation.specs.Runs.{Call, Alike, Rule, NeverFull, Seen, saw, seen, Isolation}
-use Rattle.isolation.specs.Played.{Played, shown, NotFull}
+use Rattle.isolation.specs.Played.{Played, leftBy, shown, NotFull}
+use Rattle.isolation.specs.Logs.{left}
 
 module _ {S : Type 0} (F : Form S) (rule : Rule S) (key : ℕ) where
   played-seen : (s : S) (cs : List Call) (rs : List (After S Decoded)) → Played rule s cs rs → shown F key cs rs ≡ seen F rule key s cs
@@ -21,7 +22,13 @@ module _ {S : Type 0} (F : Form S) (rule : Rule S) (key : ℕ) where
   played-seen s [] (r ∷ rs) p = absurd p
   played-seen s (c ∷ cs) [] p = absurd p
 
-  played-never : (s : S) (cs : List Call) (rs : List (After S Decoded)) → Played rule s cs rs → NotFull key cs rs → NeverFull rule key s cs
+  pub played-left : (s : S) (cs : List Call) (rs : List (After S Decoded)) → Played rule s cs rs → leftBy s rs ≡ left rule s cs
+  played-left s [] [] p = refl
+  played-left s (c ∷ cs) (r ∷ rs) p = played-left (r .table) cs rs (p .1) ∙ ap (λ (x : After S Decoded). left rule (x .table) cs) (p .0)
+  played-left s [] (r ∷ rs) p = absurd p
+  played-left s (c ∷ cs) [] p = absurd p
+
+  pub played-never : (s : S) (cs : List Call) (rs : List (After S Decoded)) → Played rule s cs rs → NotFull key cs rs → NeverFull rule key s cs
   played-never s [] [] p n = tt
   played-never s (c ∷ cs) (r ∷ rs) p n = (
     λ o a. n .0 o (ap (λ (x : After S Decoded). x .answer) (p .0) ∙ a),

@@ -11,6 +11,8 @@ use Rattle.positions.specs.Positions.{poleToPole}
 use Rattle.messages.specs.declared.Decoded.{Decoded}
 use Rattle.messages.specs.declared.Decoded.the-variants as decode
 use Rattle.whereabouts.specs.declared.Site.{Site}
+use Rattle.replay.specs.Alone.{Heard, heardIn, Own, ownAfter}
+use Rattle.replay.proofs.Ways.{with-track}
 use Rattle.rules.specs.declared.answers.SetUp.{SetUp}
 use Rattle.rules.specs.declared.answers.SetUp.the-variants as setting
 use Rattle.rules.specs.Form.{Form, Lawful}
@@ -25,9 +27,8 @@ use Rattle.stamps.specs.Stamps.{fresh, lastIs, extended, stampedBy}
 use Rattle.stamps.proofs.Accepted.{Fair, time-fair}
 use Rattle.stamps.proofs.Ways.{by-clock, stamped-by}
 use Rattle.isolation.specs.Runs.{Call, own, Alike, Alike.end, Alike.its, Alike.others, call, NeverFull, Seen, saw, seen}
-use Rattle.isolation.specs.Alone.{Heard, heardIn, Own, ownOf, ownAfter, sawAlone}
+use Rattle.isolation.specs.Alone.{heardBy, ownOf, sawAlone}
 use Rattle.isolation.specs.Stamped.{Kept, beside, kept, keeping, byStamp, StampedIsolation}
-use Rattle.isolation.proofs.Calls.{with-track}
 use Rattle.isolation.proofs.Isolated.{one-call, same-heard}
 
 -- ---- one call
@@ -38,7 +39,7 @@ at-time c time fits = record { message = c .message; bytes = c .bytes; whole = c
 
 -- what an aircraft hears of it then
 abbrev heard-at : ℕ → Call → ℕ → Heard
-heard-at key c time = record { time = time; message = heardIn key c .message }
+heard-at key c time = record { time = time; message = heardBy key c .message }
 
 module _ {S : Type 0} (F : Form S) (L : Lawful F) (key : ℕ) (k : Kept S) (c : Call) (table : Table F (k .table)) where
   abbrev s : S
@@ -86,7 +87,7 @@ module _ {S : Type 0} (F : Form S) (L : Lawful F) (key : ℕ) (k : Kept S) (c : 
     unfolding own
     never-at o a = never o (ap (λ (z : After (Kept S) Decoded). z .answer) (stamped-is e) ∙ a)
 
-    heard-is : heardIn key d ≡ heard-at key c time
+    heard-is : heardBy key d ≡ heard-at key c time
     unfolding heardIn
     heard-is = refl
 
@@ -113,7 +114,7 @@ module _ {S T : Type 0} (F : Form S) (G : Form T) (key : ℕ) where
     pub own : ownOf F (k .table) key ≡ ownOf G (j .table) key
     pub state : k .state ≡ j .state
 
-  module _ (L : Lawful F) (M : Lawful G) (k : Kept S) (j : Kept T) (a : Agree k j) (c d : Call) (mine : own key c ≡ own key d) (heard : heardIn key c ≡ heardIn key d)
+  module _ (L : Lawful F) (M : Lawful G) (k : Kept S) (j : Kept T) (a : Agree k j) (c d : Call) (mine : own key c ≡ own key d) (heard : heardBy key c ≡ heardBy key d)
       (f : own key c ≡ true → call (byStamp F) k c .answer ≡ decode.Refused Full → ⊥) (g : own key d ≡ true → call (byStamp G) j d .answer ≡ decode.Refused Full → ⊥) where
     abbrev p : After (Kept S) Decoded
     p = call (byStamp F) k c
@@ -202,7 +203,7 @@ module _ {S T : Type 0} (F : Form S) (G : Form T) (L : Lawful F) (M : Lawful G) 
       ap₂ (λ (x : Seen) (xs : List Seen). x ∷ xs) (same F G key L M k j a c c refl refl (f .0) (g .0) .saw-same)
       (between rest _ _ (agree-after F G key L M k j a c c refl refl (f .0) (g .0)) (f .1) (g .1))
   between (others c d o p e rest) k j a f g =
-      let h : heardIn key c ≡ heardIn key d = same-heard key c d o p e in
+      let h : heardBy key c ≡ heardBy key d = same-heard key c d o p e in
       ap₂ (λ (x : Seen) (xs : List Seen). x ∷ xs) (same F G key L M k j a c d (o ∙ sym p) h (f .0) (g .0) .saw-same)
       (between rest _ _ (agree-after F G key L M k j a c d (o ∙ sym p) h (f .0) (g .0)) (f .1) (g .1))
 

@@ -1,52 +1,32 @@
--- What an aircraft would see if it were alone: the times of the calls and its own messages are all that is asked for.
+-- What an aircraft would see of a run if it were alone: what it hears of each call is all that is asked for.
 use Prim.Native.Nat.{ℕ}
 use mathlib.Core.Bool.{Bool, cond}
 use mathlib.Core.Option.{Option, some, none}
 use mathlib.Core.List.{List, [], _∷_}
-use lib.Dec.{eqb, ltb}
+use lib.Dec.{ltb}
 use Rattle.refusals.specs.declared.Refusal.the-variants.{Late}
 use Rattle.messages.specs.declared.Message.{Message}
 use Rattle.messages.specs.declared.Decoded.{Decoded}
 use Rattle.messages.specs.declared.Decoded.the-variants as decode
-use Rattle.messages.specs.Message.{decoded, keyOf}
 use Rattle.whereabouts.specs.declared.Site.{Site}
 use Rattle.track.specs.declared.Track.{Track}
+use Rattle.track.specs.Held.{laterAt, found, answeredFrom}
+use Rattle.replay.specs.Alone.{Heard, heardIn, Own, ownAfter}
 use Rattle.rules.specs.Form.{Form}
-use Rattle.rules.specs.View.{view, laterAt, found, steppedFrom, answeredFrom}
+use Rattle.rules.specs.View.{view}
 use Rattle.isolation.specs.Runs.{Call, Seen}
 
--- what it hears of a call: the time, and the message if that is its own
-pub record Heard : Type 0 where
-  pub time : ℕ
-  pub message : Option Message
-
-abbrev pub ownIn : ℕ → Decoded → Option Message
-ownIn key (decode.Message m) = cond (eqb (keyOf m) key) (some m) none
-ownIn key (decode.Refused r) = none
-
-unfoldable pub heardIn : ℕ → Call → Heard
-heardIn key c = record { time = c .time; message = ownIn key (decoded (c .message)) }
+-- what it hears of a call, and of a run
+abbrev pub heardBy : ℕ → Call → Heard
+heardBy key c = heardIn key (c .message) (c .time)
 
 abbrev pub heardOf : ℕ → List Call → List Heard
 heardOf key [] = []
-heardOf key (c ∷ cs) = heardIn key c ∷ heardOf key cs
+heardOf key (c ∷ cs) = heardBy key c ∷ heardOf key cs
 
--- the clock, and its track
-pub record Own : Type 0 where
-  pub clock : ℕ
-  pub track : Option Track
-
+-- the clock of a table, and its track there
 abbrev pub ownOf : {S : Type 0} → Form S → S → ℕ → Own
 ownOf F s key = record { clock = F .clock s; track = view F s key }
-
--- its message steps the track that it finds, another's leaves it but for its age
-abbrev pub trackAfter : Site → Option Track → ℕ → Option Message → Option Track
-trackAfter site t time none = laterAt time t
-trackAfter site t time (some m) = steppedFrom m site time (found m (laterAt time t))
-
--- a late call changes nothing
-unfoldable pub ownAfter : Site → Own → Heard → Own
-ownAfter site o h = cond (ltb (h .time) (o .clock)) o (record { clock = h .time; track = trackAfter site (o .track) (h .time) (h .message) })
 
 abbrev pub answerTo : Bool → Option Track → ℕ → Option Message → Option Decoded
 answerTo late t time none = none
@@ -58,3 +38,8 @@ sawAlone site o h = record { answer = answerTo (ltb (h .time) (o .clock)) (o .tr
 abbrev pub seenAlone : Site → Own → List Heard → List Seen
 seenAlone site o [] = []
 seenAlone site o (h ∷ hs) = sawAlone site o h ∷ seenAlone site (ownAfter site o h) hs
+
+-- what is left at its end
+abbrev pub leftAlone : Site → Own → List Heard → Own
+leftAlone site o [] = o
+leftAlone site o (h ∷ hs) = leftAlone site (ownAfter site o h) hs

@@ -4,3 +4,4 @@ pub mod Wrong
 pub mod Played
 pub mod Twin
 pub mod Stamped
+pub mod Logs

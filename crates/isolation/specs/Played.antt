@@ -17,6 +17,11 @@ Played rule s (c ∷ cs) (r ∷ rs) = (r ≡ call rule s c) × Played rule (r .t
 Played rule s [] (r ∷ rs) = ⊥
 Played rule s (c ∷ cs) [] = ⊥
 
+-- the table that the last of them left
+abbrev pub leftBy : {S : Type 0} → S → List (After S Decoded) → S
+leftBy s [] = s
+leftBy s (r ∷ rs) = leftBy (r .table) rs
+
 -- what an aircraft sees of it, and that 6 was answered to none of its messages
 abbrev pub shown : {S : Type 0} → Form S → ℕ → List Call → List (After S Decoded) → List Seen
 shown F key (c ∷ cs) (r ∷ rs) = saw F key c r ∷ shown F key cs rs

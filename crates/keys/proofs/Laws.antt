@@ -5,15 +5,15 @@ use native.Mathlib.Omega.{arith}
 use mathlib.Core.Bool.{true}
 use mathlib.Core.Path.{_≡_, refl, ap, sym, _∙_}
 use lib.Dec.{leb, ltb}
-use lib.ListN.{length, getD}
+use lib.ListN.{length}
 use borrow.Author.Tests.{le-leb, lt-ltb, leb-true, ltb-true}
 use Rattle.fields.proofs.Bools.{each, both}
-use Rattle.keys.specs.Keys.{kinds, numberOf, low24, keyFor, endOfKeys, isKey, kindIn, addressIn}
+use Rattle.keys.specs.Keys.{kinds, numberOf, kindAt, low24, keyFor, endOfKeys, isKey, kindIn, addressIn}
 use Rattle.keys.specs.declared.Kind.{Kind}
 use Rattle.keys.specs.declared.Kind.the-variants.{I, O, T, M, N}
 
 -- each kind stands in the list at its number
-pub numbered : (k : Kind) → getD kinds (numberOf k - 1) N ≡ k
+pub numbered : (k : Kind) → kindAt (numberOf k) ≡ k
 numbered I = refl
 numbered O = refl
 numbered T = refl
@@ -42,20 +42,20 @@ key-range k a =
 pub keys-apart : (k l : Kind) (a b : ℕ) → keyFor k a ≡ keyFor l b → (k ≡ l) × (low24 a ≡ low24 b)
 keys-apart k l a b e =
     let n : numberOf k ≡ numberOf l = omega arith in
-    (sym (numbered k) ∙ ap (λ (n : ℕ). getD kinds (n - 1) N) n ∙ numbered l, omega arith)
+    (sym (numbered k) ∙ ap kindAt n ∙ numbered l, omega arith)
 
 -- ---- a key's kind and address back
 
 pub kind-back : (k : Kind) (a : ℕ) → kindIn (keyFor k a) ≡ k
 kind-back k a =
     let n : keyFor k a / 2 ^ 24 ≡ numberOf k = omega arith in
-    ap (λ (n : ℕ). getD kinds (n - 1) N) n ∙ numbered k
+    ap kindAt n ∙ numbered k
 
 pub address-back : (k : Kind) (a : ℕ) → addressIn (keyFor k a) ≡ low24 a
 address-back k a = omega arith
 
 -- at a number of the list stands the kind with that number
-listed : (n : ℕ) → 1 ≤ n → n ≤ length kinds → numberOf (getD kinds (n - 1) N) ≡ n
+listed : (n : ℕ) → 1 ≤ n → n ≤ length kinds → numberOf (kindAt n) ≡ n
 listed zero l m = absurd (let z : ⊥ = omega arith in z)
 listed (suc zero) l m = refl
 listed (suc (suc zero)) l m = refl

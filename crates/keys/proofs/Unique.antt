@@ -2,6 +2,10 @@
 -- Assumes nothing.
 use mathlib.Core.Path.{sym, _∙_}
 use Rattle.refusals.specs.Answers.{OneAnswer}
+use Rattle.keys.proofs.kind_at.Kinds as kind-at-kinds
+use Rattle.keys.proofs.kind_at.Reads as kind-at
+use Rattle.keys.proofs.is_kind.Kinds as is-kind-kinds
+use Rattle.keys.proofs.is_kind.Reads as is-kind
 use Rattle.keys.proofs.letter_in.Kinds as letter-in-kinds
 use Rattle.keys.proofs.letter_in.Reads as letter-in
 use Rattle.keys.proofs.traffic_in.Kinds as traffic-in-kinds
@@ -12,6 +16,12 @@ use Rattle.keys.proofs.address_in.Kinds as address-in-kinds
 use Rattle.keys.proofs.address_in.Reads as address-in
 use Rattle.keys.proofs.is_key.Kinds as is-key-kinds
 use Rattle.keys.proofs.is_key.Reads as is-key
+
+pub kind-at-once : OneAnswer 0 kind-at-kinds.ps kind-at-kinds.r kind-at.Post
+kind-at-once κs args x y left left′ p q = p ∙ sym q
+
+pub is-kind-once : OneAnswer 0 is-kind-kinds.ps is-kind-kinds.r is-kind.Post
+is-kind-once κs args x y left left′ p q = p ∙ sym q
 
 pub letter-in-once : OneAnswer 0 letter-in-kinds.ps letter-in-kinds.r letter-in.Post
 letter-in-once κs args x y left left′ p q = p ∙ sym q

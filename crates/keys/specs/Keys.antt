@@ -35,6 +35,14 @@ isTraffic T = true
 isTraffic M = true
 isTraffic N = true
 
+-- the kind with a number; one below the first counts with the first, one above the last with the last
+abbrev pub kindAt : ℕ → Kind
+kindAt number = getD kinds (number - 1) N
+
+-- whether some kind has the number
+abbrev pub isKind : ℕ → Bool
+isKind number = leb 1 number && leb number (length kinds)
+
 -- the 24 bits of an address
 abbrev pub low24 : ℕ → ℕ
 low24 address = address % 2 ^ 24
@@ -51,9 +59,9 @@ endOfKeys = (length kinds + 1) * 2 ^ 24
 abbrev pub isKey : ℕ → Bool
 isKey key = leb (2 ^ 24) key && ltb key endOfKeys
 
--- a key's kind; a number below every key counts with the first kind, one above with the last
+-- a key's kind
 abbrev pub kindIn : ℕ → Kind
-kindIn key = getD kinds (key / 2 ^ 24 - 1) N
+kindIn key = kindAt (key / 2 ^ 24)
 
 -- a key's letter
 abbrev pub letterIn : ℕ → ℕ

@@ -1,6 +1,6 @@
 // A track's key: AA with its kind, in one number, the kind above the 24 bits of the address. The order of the numbers is the listing's: by kind, then by address.
 ghost use mathlib.Core.Path.{_≡_};
-ghost use Rattle.keys.specs.Keys.{numberOf, letterOf, keyFor, kindIn, letterIn, isTraffic, trafficIn, addressIn, isKey};
+ghost use Rattle.keys.specs.Keys.{numberOf, letterOf, kindAt, isKind, keyFor, kindIn, letterIn, isTraffic, trafficIn, addressIn, isKey};
 
 // The kinds in the order of their keys.
 pub enum Kind {
@@ -59,23 +59,37 @@ pub fn key_for(kind: Kind, address: u32) -> u32
     number_of(kind) * 0x100_0000 + address % 0x100_0000
 }
 
+// The kind with a number, as it stands above a key's address; of a number that no kind has the kind of the nearest.
+pub fn kind_at(number: u32) -> Kind
+    ensures { λ r. ⌜ r ≡ kindAt number ⌝ }
+{
+    if number < 2 {
+        return Kind::I;
+    }
+    if number < 3 {
+        return Kind::O;
+    }
+    if number < 4 {
+        return Kind::T;
+    }
+    if number < 5 {
+        return Kind::M;
+    }
+    Kind::N
+}
+
+// Whether some kind has the number.
+pub fn is_kind(number: u32) -> bool
+    ensures { λ r. ⌜ r ≡ isKind number ⌝ }
+{
+    (1 <= number) & (number <= 5)
+}
+
 // A key's kind; of a number that is no key the kind of the nearest.
 fn kind_in(key: u32) -> Kind
     ensures { λ r. ⌜ r ≡ kindIn key ⌝ }
 {
-    if key < 0x200_0000 {
-        return Kind::I;
-    }
-    if key < 0x300_0000 {
-        return Kind::O;
-    }
-    if key < 0x400_0000 {
-        return Kind::T;
-    }
-    if key < 0x500_0000 {
-        return Kind::M;
-    }
-    Kind::N
+    kind_at(key / 0x100_0000)
 }
 
 // A key's letter in ASCII.

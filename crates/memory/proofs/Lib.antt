@@ -1,5 +1,4 @@
 pub mod Counts
-pub mod Edges
 pub mod Numbers
 pub mod Put
 pub mod Unique

@@ -4,7 +4,6 @@ use crate::LATITUDE;
 use crate::words::get4;
 use crate::words::get8;
 ghost use mathlib.Core.Path.{_≡_};
-ghost use Prim.Native.Nat.{_-_};
 ghost use lib.ListN.{length};
 ghost use Rattle.memory.specs.Offsets.{bodySize};
 ghost use Rattle.memory.specs.Ranges.{inRange, held};
@@ -17,17 +16,10 @@ fn in_range(key: u32, p: &[u8]) -> bool
     keys::is_key(key) & (get4(p, LATITUDE) <= 2147483648)
 }
 
-// The earliest time that is less than 125,000 ago.
-fn earliest(clock: u64) -> u64
-    ensures { λ r. ⌜ r ≡ clock - 124999 ⌝ }
-{
-    if clock < 124999 { 0 } else { clock - 124999 }
-}
-
-// Whether the place is held at the clock: in range, and heard less than 125,000 ago.
+// Whether the place is held at the clock: in range, and its track in date.
 pub fn is_held(clock: u64, key: u32, p: &[u8]) -> bool
     requires { ⌜ length (now p) ≡ bodySize ⌝ }
     ensures { λ r. ⌜ r ≡ held clock key (now (p .entry)) ⌝ }
 {
-    in_range(key, p) & (earliest(clock) <= get8(p, HEARD))
+    in_range(key, p) & track::is_in_date(clock, get8(p, HEARD))
 }

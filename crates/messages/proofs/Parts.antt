@@ -47,7 +47,7 @@ module _ (s : List ℕ) (e : length s ≡ 14) (h : Bytes s) where
   control-is : bits 6 8 s ≡ number (take 4 s) / 2 ^ 24 % 8
   control-is = omega (arith, whole, head-lt, me-lt, tail-lt)
 
-  address-is : bits 9 32 s ≡ number (take 4 s) / 1 % 2 ^ 24
+  pub address-is : bits 9 32 s ≡ number (take 4 s) / 1 % 2 ^ 24
   address-is = omega (arith, whole, head-lt, me-lt, tail-lt, div-one (number (take 4 s)))
 
   pub me-is : bits 33 88 s ≡ number (take 7 (drop 4 s))

@@ -1,7 +1,7 @@
 -- The numbers that come back, as document 01's table has them, and document 02.
 use Prim.Native.Nat.{ℕ}
 use Rattle.refusals.specs.declared.Refusal.{Refusal}
-use Rattle.refusals.specs.declared.Refusal.the-variants.{Length, Late, Parity, Format, TypeCode, Full, Places, Field, Latitude, Zones, Block, NoTrack, Overrun, Degrees}
+use Rattle.refusals.specs.declared.Refusal.the-variants.{Length, Late, Parity, Format, TypeCode, Full, Places, Field, Latitude, Zones, Block, NoTrack, Overrun, Log, Degrees}
 
 abbrev pub numberOf : Refusal → ℕ
 numberOf Length = 1
@@ -17,4 +17,5 @@ numberOf Zones = 10
 numberOf Block = 11
 numberOf NoTrack = 12
 numberOf Overrun = 13
+numberOf Log = 14
 numberOf Degrees = 15

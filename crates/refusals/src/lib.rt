@@ -29,6 +29,8 @@ pub enum Refusal {
     NoTrack,
     // a stamp whose time would pass 2^64 - 1
     Overrun,
+    // a log of more than 2,900 records, or not of whole ones
+    Log,
     // a double that is no place's figure in degrees
     Degrees,
 }
@@ -51,6 +53,7 @@ pub fn number(r: Refusal) -> u32
         Refusal::Block => 11,
         Refusal::NoTrack => 12,
         Refusal::Overrun => 13,
+        Refusal::Log => 14,
         Refusal::Degrees => 15,
     }
 }

@@ -29,10 +29,11 @@ use Rattle.readings.specs.declared.altitude.Altitude.the-variants as altitude
 use Rattle.whereabouts.specs.declared.Site.{Site}
 use Rattle.track.specs.declared.Track.{Track}
 use Rattle.track.specs.Track.{stepBody}
+use Rattle.track.specs.Held.{laterAt, found, steppedFrom, answeredFrom}
 use Rattle.track.proofs.Rules.{pressure-replaces, height-replaces, no-position-leaves}
 use Rattle.rules.specs.Form.{Form, Lawful}
 use Rattle.rules.specs.Rules.{After, delivered, received}
-use Rattle.rules.specs.View.{view, laterAt, found, steppedFrom, answeredFrom, Table}
+use Rattle.rules.specs.View.{view, Table}
 use Rattle.rules.proofs.Delivered.{sorted}
 use Rattle.rules.proofs.Laws.{steps-its-track}
 use Rattle.rules.proofs.Ways.{not-refused, decoded-fits, Way, short, uneven, late, timely, way}

@@ -10,6 +10,9 @@ use lib.ListN.{length}
 use Rattle.refusals.specs.declared.Refusal.{Refusal}
 use Rattle.refusals.specs.declared.Refusal.the-variants.{Places}
 use Rattle.track.specs.declared.Track.{Track}
+use Rattle.track.specs.declared.held.Holding.{Holding}
+use Rattle.track.specs.declared.held.Holding.the-variants as holding
+use Rattle.track.specs.declared.held.Looked.{Looked}
 use Rattle.track.specs.Track.{newTrack}
 use Rattle.place.specs.Place.{trackOf}
 use Rattle.text.specs.declared.Line.{Line}
@@ -19,9 +22,6 @@ use Rattle.memory.specs.Offsets.{wholePlaces, placesIn}
 use Rattle.table_bytes.specs.Layout.{clockOf, bodyAt}
 use Rattle.rules.specs.declared.answers.Clock.{Clock}
 use Rattle.rules.specs.declared.answers.Clock.the-variants as clock
-use Rattle.rules.specs.declared.answers.Holding.{Holding}
-use Rattle.rules.specs.declared.answers.Holding.the-variants as holding
-use Rattle.rules.specs.declared.answers.Looked.{Looked}
 use Rattle.rules.specs.Rules.{placeOf}
 use Rattle.rules.specs.Rules as rules
 use Rattle.rules.specs.View.{trackIn, viewAt}

@@ -3,8 +3,8 @@ mod row;
 
 use refusals::Refusal;
 use rules::Clock;
-use rules::Holding;
 use text::Line;
+use track::Holding;
 use track::Track;
 use whereabouts::Position;
 ghost use mathlib.Core.Path.{_≡_};

@@ -18,14 +18,15 @@ use Rattle.messages.specs.declared.Decoded.the-variants as decode
 use Rattle.messages.specs.Message.{decoded, keyOf, starts}
 use Rattle.whereabouts.specs.declared.Site.{Site}
 use Rattle.track.specs.declared.Track.{Track}
+use Rattle.track.specs.declared.held.Looked.{Looked}
+use Rattle.track.specs.declared.held.Holding.the-variants as holding
 use Rattle.track.specs.Track.{newTrack, stepped}
 use Rattle.place.specs.Place.{Fits}
 use Rattle.place.proofs.Steps.{new-fits, stepped-fits}
 use Rattle.rules.specs.Keys.{keyOrEnd}
-use Rattle.rules.specs.declared.answers.Looked.{Looked}
-use Rattle.rules.specs.declared.answers.Holding.the-variants as holding
+use Rattle.track.specs.Held.{inDate}
 use Rattle.rules.specs.Search.{lowest, better, smallest}
-use Rattle.rules.specs.Form.{Cell, taken, inDate, isHeld, holds, Form, East, SiteFits, Lawful}
+use Rattle.rules.specs.Form.{Cell, taken, isHeld, holds, Form, East, SiteFits, Lawful}
 use Rattle.rules.specs.Rules.{After, setUp, placeOf, freePlace, placed, delivered, received, lookedUp, leastAbove, nextAbove}
 use Rattle.rules.specs.Agreement.{Same, Agree, Alike, AlikeSet, Call, AlikeRuns}
 use Rattle.rules.proofs.Search.{clash, alike, lowest-passes}
@@ -45,14 +46,14 @@ same-later c t b p h same =
     record {
       held =
           held-later c t h b
-          ∙ ages (isHeld c b) (isHeld c p) (inDate t (b .track)) (inDate t (p .track)) (same .held) (λ e. ap (inDate t) (same .track e))
+          ∙ ages (isHeld c b) (isHeld c p) (inDate t (b .track .heard)) (inDate t (p .track .heard)) (same .held) (λ e. ap (λ (x : Track). inDate t (x .heard)) (same .track e))
           ∙ sym (held-later c t h p);
       key = λ e. same .key (was e);
       track = λ e. same .track (was e);
     }
   where
     was : isHeld t p ≡ true → isHeld c p ≡ true
-    was e = and-left (isHeld c p) (inDate t (p .track)) (sym (held-later c t h p) ∙ e)
+    was e = and-left (isHeld c p) (inDate t (p .track .heard)) (sym (held-later c t h p) ∙ e)
 
 keyed : (x y : Bool) (a b : Bool) → x ≡ y → (y ≡ true → a ≡ b) → a && x ≡ b && y
 keyed x true a b e h = ap (λ (z : Bool). z && x) (h refl) ∙ ap (λ (z : Bool). b && z) e
@@ -83,7 +84,7 @@ same-as clock e f = record { held = ap (isHeld clock) (e ∙ sym f); key = λ _.
 
 free-of : (c : ℕ) (p : Cell) → p .inRange ≡ false → isHeld c p ≡ false
 unfolding isHeld
-free-of c p e = ap (λ (b : Bool). b && inDate c (p .track)) e
+free-of c p e = ap (λ (b : Bool). b && inDate c (p .track .heard)) e
 
 -- two places that nobody has
 same-free : (c : ℕ) (b p : Cell) → b .inRange ≡ false → p .inRange ≡ false → Same c b p

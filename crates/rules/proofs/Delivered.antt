@@ -18,13 +18,14 @@ use Rattle.messages.specs.Message.{keyOf, starts}
 use Rattle.track.specs.declared.Track.{Track}
 use Rattle.track.specs.declared.Stepped.{Stepped}
 use Rattle.track.specs.Track.{newTrack, stepBody, stepped}
+use Rattle.track.specs.Held.{found, steppedFrom, answeredFrom}
 use Rattle.track.proofs.Rules.{accepted, heard-at-its-time}
 use Rattle.place.specs.Place.{Fits}
 use Rattle.place.proofs.Steps.{new-fits, stepped-fits}
 use Rattle.rules.specs.Search.{lowest}
 use Rattle.rules.specs.Form.{Cell, isHeld, holds, Form, Lawful}
 use Rattle.rules.specs.Rules.{After, after, placeOf, freePlace, placed, turnedAway, delivered}
-use Rattle.rules.specs.View.{trackIn, viewAt, found, steppedFrom, answeredFrom, Once, AllFit, Unheld, AllTaken, Unplaced}
+use Rattle.rules.specs.View.{trackIn, viewAt, Once, AllFit, Unheld, AllTaken, Unplaced}
 use Rattle.rules.proofs.Search.{clash, fails, alike, lowest-passes, none-passes}
 use Rattle.messages.proofs.Keys.{key-range}
 use Rattle.rules.proofs.Steps.{Single, stored-fit, put-other, once-other, put-own, once-own}

@@ -22,14 +22,15 @@ use Rattle.messages.specs.Message.{decoded, keyOf, starts}
 use Rattle.whereabouts.specs.declared.Site.{Site}
 use Rattle.whereabouts.specs.Located.{noSite}
 use Rattle.track.specs.declared.Track.{Track}
+use Rattle.track.specs.declared.held.Holding.the-variants as holding
 use Rattle.track.specs.Track.{newTrack}
 use Rattle.rules.specs.Search.{lowest}
 use Rattle.rules.specs.declared.answers.SetUp.{SetUp}
 use Rattle.rules.specs.declared.answers.SetUp.the-variants as setting
-use Rattle.rules.specs.declared.answers.Holding.the-variants as holding
+use Rattle.track.specs.Held.{laterAt, found, steppedFrom, answeredFrom, lookedAs}
 use Rattle.rules.specs.Form.{isHeld, holds, Form, East, SiteFits, Lawful}
 use Rattle.rules.specs.Rules.{After, setUp, placeOf, delivered, received, lookedUp}
-use Rattle.rules.specs.View.{trackIn, viewAt, view, lookedAs, laterAt, found, steppedFrom, answeredFrom, Once, AllFit, Table, Fresh, Unheld, AllTaken, NoRoom, NoneToStep, Early, Undecoded, Unplaced, Later}
+use Rattle.rules.specs.View.{trackIn, viewAt, view, Once, AllFit, Table, Fresh, Unheld, AllTaken, NoRoom, NoneToStep, Early, Undecoded, Unplaced, Later}
 use Rattle.rules.proofs.Search.{clash, fails, alike, look-miss}
 use Rattle.rules.proofs.Steps.{Single, view-later, single-later, as-moved, moved-view, moved-unheld, moved-taken, moved-fit}
 use Rattle.rules.proofs.Delivered.{delivered-keeps, FullDue, NoneDue, Answered, answered, sorted, Effect, delivery}

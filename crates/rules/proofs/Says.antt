@@ -9,16 +9,18 @@ use Rattle.refusals.specs.declared.Refusal.the-variants.{Places, Field}
 use Rattle.refusals.specs.Said.{number, gives}
 use Rattle.whereabouts.specs.declared.Site.{Site}
 use Rattle.track.specs.declared.Track.{Track}
+use Rattle.track.specs.declared.held.Holding.the-variants as holding
+use Rattle.track.specs.declared.held.Looked.{Looked}
 use Rattle.track.specs.Track.{newTrack}
 use Rattle.track.specs.Meaning.{NothingForeign}
 use Rattle.rules.specs.declared.answers.SetUp.the-variants as setting
-use Rattle.rules.specs.declared.answers.Holding.the-variants as holding
-use Rattle.rules.specs.declared.answers.Looked.{Looked}
+use Rattle.track.specs.Held.{lookedAs}
+use Rattle.track.specs.Said.{lookedSaid}
 use Rattle.rules.specs.declared.answers.NextKey.the-variants as following
 use Rattle.rules.specs.Form.{Form}
 use Rattle.rules.specs.Rules.{after, setUp, placeOf, lookedUp, leastAbove, nextAbove}
-use Rattle.rules.specs.View.{view, lookedAs}
-use Rattle.rules.specs.Said.{done, setUpSaid, lookedSaid, nextSaid, keyAbove, earns7, earns8, setUpTable}
+use Rattle.rules.specs.View.{view}
+use Rattle.rules.specs.Said.{done, setUpSaid, nextSaid, keyAbove, earns7, earns8, setUpTable}
 use Rattle.rules.proofs.Laws.{looked-up}
 
 module _ {S : Type 0} (F : Form S) (s : S) where

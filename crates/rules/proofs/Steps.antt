@@ -10,10 +10,11 @@ use lib.Dec.{eqb, ltb}
 use borrow.Author.Tests.{eq-eqb, ne-eqb, lt-ltb, ltb-true}
 use Rattle.fields.proofs.Bools.{and-false}
 use Rattle.track.specs.declared.Track.{Track}
+use Rattle.track.specs.Held.{inDate, laterAt}
 use Rattle.place.specs.Place.{Fits}
 use Rattle.keys.specs.Keys.{isKey}
-use Rattle.rules.specs.Form.{Cell, taken, inDate, isHeld, holds, Form, Lawful}
-use Rattle.rules.specs.View.{look, trackIn, viewAt, laterAt, Once, AllFit, Unheld, AllTaken}
+use Rattle.rules.specs.Form.{Cell, taken, isHeld, holds, Form, Lawful}
+use Rattle.rules.specs.View.{look, trackIn, viewAt, Once, AllFit, Unheld, AllTaken}
 use Rattle.rules.proofs.Search.{clash, alike, keep, once-same, look-same, once-only, look-only, once-aged, look-aged}
 
 -- each key is held at most once at a clock
@@ -23,7 +24,7 @@ Single F clock s = (key : ℕ) → Once (holds clock key) (F .cell s) (F .count 
 -- ---- a later clock
 
 abbrev pub young : ℕ → Cell → Bool
-young t p = inDate t (p .track)
+young t p = inDate t (p .track .heard)
 
 narrowed : (a x y : Bool) → (y ≡ true → x ≡ true) → a && y ≡ (a && x) && y
 narrowed false x y h = refl

@@ -8,7 +8,7 @@ use Rattle.positions.specs.Positions.{poleToPole}
 use Rattle.whereabouts.specs.declared.Site.{Site}
 use Rattle.whereabouts.specs.Located.{noSite}
 use Rattle.track.specs.declared.Track.{Track}
-use Rattle.memory.specs.Ranges as ranges
+use Rattle.track.specs.Held.{inDate}
 use Rattle.place.specs.Place.{Fits}
 
 -- what a place says: its key, its track, and whether each value of it is in its range
@@ -21,13 +21,9 @@ pub record Cell : Type 0 where
 abbrev pub taken : ℕ → Track → Cell
 taken key t = record { key = key; track = t; inRange = true }
 
--- whether a track is in date
-abbrev pub inDate : ℕ → Track → Bool
-inDate clock t = ranges.inDate clock (t .heard)
-
 -- the place is held at the clock: every value in its range, and its track in date
 unfoldable pub isHeld : ℕ → Cell → Bool
-isHeld clock c = c .inRange && inDate clock (c .track)
+isHeld clock c = c .inRange && inDate clock (c .track .heard)
 
 -- .. with the key
 unfoldable pub holds : ℕ → ℕ → Cell → Bool

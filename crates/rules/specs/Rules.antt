@@ -12,11 +12,11 @@ use Rattle.messages.specs.declared.Decoded.the-variants as decode
 use Rattle.messages.specs.Message.{decoded, keyOf, starts}
 use Rattle.whereabouts.specs.declared.Site.{Site}
 use Rattle.track.specs.declared.Stepped.{Stepped}
+use Rattle.track.specs.declared.held.Holding.the-variants as holding
+use Rattle.track.specs.declared.held.Looked.{Looked}
 use Rattle.track.specs.Track.{newTrack, stepped}
 use Rattle.rules.specs.declared.answers.SetUp.{SetUp}
 use Rattle.rules.specs.declared.answers.SetUp.the-variants as setting
-use Rattle.rules.specs.declared.answers.Holding.the-variants as holding
-use Rattle.rules.specs.declared.answers.Looked.{Looked}
 use Rattle.rules.specs.declared.answers.NextKey.{NextKey}
 use Rattle.rules.specs.declared.answers.NextKey.the-variants as next
 use Rattle.rules.specs.Keys.{keyOrEnd}

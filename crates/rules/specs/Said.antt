@@ -11,14 +11,10 @@ use Rattle.positions.specs.Positions.{poleToPole}
 use Rattle.layouts.specs.Said.{Values}
 use Rattle.messages.specs.Said.{earns1, earns3, earns4, earns5, keyIn, startsIn, valuesIn}
 use Rattle.whereabouts.specs.declared.Site.{Site}
-use Rattle.track.specs.declared.Track.{Track}
 use Rattle.rules.specs.declared.answers.Heard.{Heard}
 use Rattle.rules.specs.declared.answers.Heard.the-variants as hear
 use Rattle.rules.specs.declared.answers.SetUp.{SetUp}
 use Rattle.rules.specs.declared.answers.SetUp.the-variants as setting
-use Rattle.rules.specs.declared.answers.Holding.{Holding}
-use Rattle.rules.specs.declared.answers.Holding.the-variants as holding
-use Rattle.rules.specs.declared.answers.Looked.{Looked}
 use Rattle.rules.specs.declared.answers.NextKey.{NextKey}
 use Rattle.rules.specs.declared.answers.NextKey.the-variants as next
 use Rattle.rules.specs.declared.answers.Clock.{Clock}
@@ -45,15 +41,6 @@ heardSaid (hear.Refused r) = number (numberOf r)
 abbrev pub doneOr : Said Values → Said Unit
 doneOr (number n) = number n
 doneOr (gives v) = done
-
--- of `look_up`: the track of a key, or that it is not held; the track beside the answer counts where the key is held
-abbrev pub holdingSaid : Holding → Track → Said (Option Track)
-holdingSaid holding.Held t = gives (some t)
-holdingSaid holding.Unheld t = gives none
-holdingSaid (holding.Refused r) t = number (numberOf r)
-
-abbrev pub lookedSaid : Looked → Said (Option Track)
-lookedSaid x = holdingSaid (x .answer) (x .track)
 
 -- of `next`: the next key, or that there is none
 abbrev pub nextSaid : NextKey → Said (Option ℕ)

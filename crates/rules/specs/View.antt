@@ -8,21 +8,16 @@ use mathlib.Core.List.{List}
 use lib.Dec.{ltb}
 use Rattle.refusals.specs.declared.Refusal.{Refusal}
 use Rattle.refusals.specs.declared.Refusal.the-variants.{Length, Late, Parity, Format, TypeCode, Full, Places, NoTrack}
-use Rattle.layouts.specs.Bodies.{bodyMe}
 use Rattle.messages.specs.declared.Message.{Message}
-use Rattle.messages.specs.declared.Decoded.{Decoded}
 use Rattle.messages.specs.declared.Decoded.the-variants as decode
 use Rattle.messages.specs.Message.{decoded, keyOf, starts}
 use Rattle.whereabouts.specs.declared.Site.{Site}
 use Rattle.track.specs.declared.Track.{Track}
-use Rattle.track.specs.Track.{newTrack, stepBody}
 use Rattle.place.specs.Place.{Fits}
-use Rattle.rules.specs.declared.answers.Holding.the-variants as holding
-use Rattle.rules.specs.declared.answers.Looked.{Looked}
 use Rattle.rules.specs.declared.answers.NextKey.{NextKey}
 use Rattle.rules.specs.declared.answers.NextKey.the-variants as next
 use Rattle.rules.specs.Search.{lowest}
-use Rattle.rules.specs.Form.{Cell, inDate, isHeld, holds, Form}
+use Rattle.rules.specs.Form.{Cell, isHeld, holds, Form}
 
 -- of n things the first that passes the test
 abbrev pub look : {C : Type 0} → (C → Bool) → (ℕ → C) → ℕ → Option C
@@ -38,25 +33,6 @@ viewAt F clock s key = trackIn (look (holds clock key) (F .cell s) (F .count s))
 
 abbrev pub view : {S : Type 0} → Form S → S → ℕ → Option Track
 view F s key = viewAt F (F .clock s) s key
-
--- what a later clock leaves of a track
-abbrev pub laterAt : ℕ → Option Track → Option Track
-laterAt clock none = none
-laterAt clock (some t) = cond (inDate clock t) (some t) none
-
--- the track that a message finds: the one held, or a new one if it may start one
-abbrev pub found : Message → Option Track → Option Track
-found m none = cond (starts m) (some newTrack) none
-found m (some t) = some t
-
--- what becomes of it, and what is answered: it is stepped, and where there is none it is 12
-abbrev pub steppedFrom : Message → Site → ℕ → Option Track → Option Track
-steppedFrom m site time none = none
-steppedFrom m site time (some t) = some (stepBody t (m .body) (bodyMe (m .body)) site time)
-
-abbrev pub answeredFrom : Message → Option Track → Decoded
-answeredFrom m none = decode.Refused NoTrack
-answeredFrom m (some t) = decode.Message m
 
 -- at most one of n things passes the test
 abbrev pub Once : {C : Type 0} → (C → Bool) → (ℕ → C) → ℕ → Type 0
@@ -111,11 +87,6 @@ NoRoom F time s message = (m : Message) × ((decoded message ≡ decode.Message 
 -- one that may not, and no track of its key
 abbrev pub NoneToStep : {S : Type 0} → Form S → ℕ → S → List ℕ → Type 0
 NoneToStep F time s message = (m : Message) × ((decoded message ≡ decode.Message m) × ((starts m ≡ false) × Unheld F time (keyOf m) s))
-
--- what a look at a view answers
-abbrev pub lookedAs : Option Track → Looked
-lookedAs none = record { answer = holding.Unheld; track = newTrack }
-lookedAs (some t) = record { answer = holding.Held; track = t }
 
 -- ---- the walk in the order of the keys
 

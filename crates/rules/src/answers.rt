@@ -1,6 +1,5 @@
 // What a lent table answers, in bytes or as a slice: a case for each answer, or the reason that it is refused.
 use refusals::Refusal;
-use track::Track;
 use whereabouts::Site;
 ghost use mathlib.Core.Path.{_≡_};
 ghost use Rattle.rules.specs.Keys.{keyOrEnd};
@@ -15,18 +14,6 @@ pub enum SetUp {
 pub enum Heard {
     Done,
     Refused(Refusal),
-}
-
-pub enum Holding {
-    Held,
-    Unheld,
-    Refused(Refusal),
-}
-
-// Whether a key is held, and its track; where it is not, one that has heard nothing.
-pub struct Looked {
-    pub answer: Holding,
-    pub track: Track,
 }
 
 pub enum NextKey {

@@ -3,8 +3,6 @@ mod answers;
 
 pub use answers::Clock;
 pub use answers::Heard;
-pub use answers::Holding;
-pub use answers::Looked;
 pub use answers::NextKey;
 pub use answers::SetUp;
 pub use answers::Sited;

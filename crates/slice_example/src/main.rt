@@ -2,11 +2,11 @@
 use libc::STDOUT_FILENO;
 use messages::Decoded;
 use positions::Spot;
-use rules::Holding;
-use rules::Looked;
 use slice_table::Head;
 use slice_table::Place;
 use slice_table::Received;
+use track::Holding;
+use track::Looked;
 use whereabouts::Site;
 
 struct Heard {

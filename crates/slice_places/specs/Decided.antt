@@ -6,10 +6,10 @@ use Rattle.refusals.specs.declared.Refusal.the-variants.{Places, Field}
 use Rattle.positions.specs.Positions.{poleToPole}
 use Rattle.whereabouts.specs.declared.Site.{Site}
 use Rattle.track.specs.declared.Track.{Track}
+use Rattle.track.specs.declared.held.Holding.{Holding}
+use Rattle.track.specs.declared.held.Looked.{Looked}
 use Rattle.rules.specs.declared.answers.SetUp.{SetUp}
 use Rattle.rules.specs.declared.answers.SetUp.the-variants as setting
-use Rattle.rules.specs.declared.answers.Holding.{Holding}
-use Rattle.rules.specs.declared.answers.Looked.{Looked}
 use Rattle.rules.specs.Search as search
 use Rattle.slice_places.specs.declared.Place.{Place}
 use Rattle.slice_places.specs.declared.Head.{Head}

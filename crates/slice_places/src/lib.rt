@@ -24,16 +24,16 @@ pub use arrivals::turned_away;
 pub use ranges::has_key;
 pub use ranges::is_held;
 use refusals::Refusal;
-use rules::Holding;
-use rules::Looked;
 use rules::NextKey;
 use rules::SetUp;
+use track::Holding;
+use track::Looked;
 use track::Track;
 use whereabouts::Site;
 ghost use mathlib.Core.Path.{_≡_};
 ghost use mathlib.Core.Bool.{not};
 ghost use Rattle.track.specs.Track.{newTrack};
-ghost use Rattle.rules.specs.declared.answers.Holding.the-variants as holding;
+ghost use Rattle.track.specs.declared.held.Holding.the-variants as holding;
 ghost use Rattle.rules.specs.declared.answers.NextKey.the-variants as next;
 ghost use Rattle.refusals.specs.declared.Refusal.the-variants.{Places};
 ghost use Rattle.slice_places.specs.Ranges.{noPlace, meaningOf};
@@ -91,7 +91,7 @@ pub fn site_of(head: Head) -> Site
 {
     let site = head.site;
     let spot = site.spot;
-    if site.known & ranges::pole_to_pole(spot) {
+    if site.known & whereabouts::pole_to_pole(spot) {
         site
     } else {
         whereabouts::no_site()
@@ -125,7 +125,7 @@ pub fn start(n: usize, head: Head, site: Site) -> Started
         return not_started(Refusal::Places, head);
     }
     let spot = site.spot;
-    if site.known & !ranges::pole_to_pole(spot) {
+    if site.known & !whereabouts::pole_to_pole(spot) {
         return not_started(Refusal::Field, head);
     }
     Started {

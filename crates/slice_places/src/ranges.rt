@@ -1,12 +1,9 @@
 // Whether a place is held: each of its values in its range, and its track in date.
 use crate::Place;
 use positions::Counts;
-use positions::Spot;
 use track::Groups;
 use track::Track;
 ghost use mathlib.Core.Path.{_≡_};
-ghost use Rattle.memory.specs.Ranges.{inDate};
-ghost use Rattle.positions.specs.Positions.{poleToPole};
 ghost use Rattle.slice_places.specs.Ranges.{groupsFit, countsFit, trackFits, inRange, isHeld, holds};
 
 fn groups_fit(g: Groups) -> bool
@@ -25,12 +22,6 @@ fn counts_fit(c: Counts) -> bool
     (c.latitude.0 < 131072) & (c.longitude.0 < 131072)
 }
 
-pub(crate) fn pole_to_pole(spot: Spot) -> bool
-    ensures { λ r. ⌜ r ≡ poleToPole (spot .latitude) ⌝ }
-{
-    signs::size_of(signs::widen(spot.latitude)) <= 1073741824
-}
-
 fn track_fits(t: Track) -> bool
     ensures { λ r. ⌜ r ≡ trackFits t ⌝ }
 {
@@ -42,7 +33,7 @@ fn track_fits(t: Track) -> bool
     let odd = saved[1];
     let first = even.counts;
     let second = odd.counts;
-    groups_fit(g) & pole_to_pole(spot) & counts_fit(first) & counts_fit(second)
+    groups_fit(g) & whereabouts::pole_to_pole(spot) & counts_fit(first) & counts_fit(second)
 }
 
 fn in_range(p: Place) -> bool
@@ -52,22 +43,11 @@ fn in_range(p: Place) -> bool
     keys::is_key(p.key) & track_fits(t)
 }
 
-// A time after the clock has age 0.
-fn is_in_date(clock: u64, heard: u64) -> bool
-    ensures { λ r. ⌜ r ≡ inDate clock heard ⌝ }
-{
-    if clock < heard {
-        true
-    } else {
-        clock - heard < 125000
-    }
-}
-
 pub fn is_held(clock: u64, p: Place) -> bool
     ensures { λ r. ⌜ r ≡ isHeld clock p ⌝ }
 {
     let t = p.track;
-    in_range(p) & is_in_date(clock, t.heard)
+    in_range(p) & track::is_in_date(clock, t.heard)
 }
 
 // Ranges and age are tested only where the key is equal.

@@ -17,11 +17,12 @@ use Rattle.refusals.specs.declared.Refusal.{Refusal}
 use Rattle.messages.specs.declared.Decoded.{Decoded}
 use Rattle.messages.specs.Damaged.{Damaged}
 use Rattle.messages.specs.Said.{said}
+use Rattle.track.specs.Said.{lookedSaid}
 use Rattle.rules.specs.declared.answers.SetUp.{SetUp}
 use Rattle.rules.specs.declared.answers.SetUp.the-variants as setting
 use Rattle.rules.specs.View.{view}
 use Rattle.refusals.specs.Said.{number, gives}
-use Rattle.rules.specs.Said.{setUpSaid, lookedSaid, nextSaid, keyAbove, earns2, earns7, setUpTable, receiveTable}
+use Rattle.rules.specs.Said.{setUpSaid, nextSaid, keyAbove, earns2, earns7, setUpTable, receiveTable}
 use Rattle.rules.proofs.Damaged.{else-3, damaged-table}
 use Rattle.rules.proofs.Exactly.{says-the-table}
 use Rattle.rules.proofs.Says.{set-up-says, look-says, next-says}

@@ -14,8 +14,8 @@ use denote.Triple.Entry.{Args, Res}
 use denote.Triple.Clauses.{Ended, Clauses, AtExit}
 use Rattle.refusals.proofs.Clauses.{both-say}
 use Rattle.messages.specs.declared.Decoded.{Decoded}
+use Rattle.track.specs.declared.held.Looked.{Looked}
 use Rattle.rules.specs.declared.answers.SetUp.{SetUp}
-use Rattle.rules.specs.declared.answers.Looked.{Looked}
 use Rattle.rules.specs.declared.answers.NextKey.{NextKey}
 use Rattle.slice_table.specs.Tracks.{After, after}
 use Rattle.slice_table.proofs.set_up as set-up

@@ -10,10 +10,10 @@ use borrow.Author.Tests.{lt-ltb, le-ltb}
 use Rattle.refusals.specs.declared.Refusal.the-variants.{Places, Field}
 use Rattle.positions.specs.Positions.{poleToPole}
 use Rattle.whereabouts.specs.declared.Site.{Site}
+use Rattle.track.specs.declared.held.Holding.the-variants as holding
 use Rattle.track.specs.Track.{newTrack}
 use Rattle.rules.specs.declared.answers.SetUp.{SetUp}
 use Rattle.rules.specs.declared.answers.SetUp.the-variants as setting
-use Rattle.rules.specs.declared.answers.Holding.the-variants as holding
 use Rattle.rules.specs.declared.answers.NextKey.the-variants as key-after
 use Rattle.rules.specs.Keys.{keyOrEnd}
 use Rattle.slice_places.specs.declared.Place.{Place}

@@ -4,8 +4,8 @@ use mathlib.Core.List.{List}
 use lib.ListN.{getD}
 use Rattle.messages.specs.declared.Decoded.{Decoded}
 use Rattle.whereabouts.specs.declared.Site.{Site}
+use Rattle.track.specs.declared.held.Looked.{Looked}
 use Rattle.rules.specs.declared.answers.SetUp.{SetUp}
-use Rattle.rules.specs.declared.answers.Looked.{Looked}
 use Rattle.rules.specs.declared.answers.NextKey.{NextKey}
 use Rattle.rules.specs.Rules as rules
 use Rattle.rules.specs.Search as search

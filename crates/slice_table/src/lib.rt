@@ -3,13 +3,13 @@
 // The functions below are thin, since their proofs follow each step by hand: they read, call by value and store.
 mod search;
 
-use rules::Looked;
 use rules::NextKey;
 pub use slice_places::Head;
 pub use slice_places::Place;
 pub use slice_places::Received;
 use slice_places::Sought;
 pub use slice_places::Started;
+use track::Looked;
 use whereabouts::Site;
 ghost use mathlib.Core.Path.{_≡_};
 ghost use lib.ListN.{length};

@@ -18,6 +18,7 @@ use Rattle.messages.specs.Message.{decoded, keyOf, starts}
 use Rattle.whereabouts.specs.declared.Site.{Site}
 use Rattle.track.specs.declared.Track.{Track}
 use Rattle.track.specs.declared.Stepped.{Stepped}
+use Rattle.track.specs.declared.held.Holding.the-variants as holding
 use Rattle.track.specs.Track.{newTrack, stepped}
 use Rattle.memory.specs.Bytes.{lowBytes, put}
 use Rattle.place.specs.Place.{abovePole, trackOf}
@@ -29,7 +30,6 @@ use Rattle.table_bytes.specs.Layout.{clockOf, siteOf, bodyAt, placeAt, isHeld, 
 use Rattle.table_bytes.specs.Scan.{lowest, targetOf}
 use Rattle.table_bytes.specs.Walk.{smallest}
 use Rattle.rules.specs.declared.answers.SetUp.the-variants as setting
-use Rattle.rules.specs.declared.answers.Holding.the-variants as holding
 use Rattle.rules.specs.declared.answers.NextKey.{NextKey}
 use Rattle.rules.specs.declared.answers.NextKey.the-variants as next
 use Rattle.rules.specs.declared.answers.Clock.the-variants as clock

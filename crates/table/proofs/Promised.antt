@@ -20,11 +20,12 @@ use Rattle.messages.specs.declared.Decoded.the-variants as decode
 use Rattle.messages.specs.Said.{said}
 use Rattle.whereabouts.specs.declared.Site.{Site}
 use Rattle.whereabouts.specs.Located.{noSite}
+use Rattle.track.specs.Said.{lookedSaid}
 use Rattle.rules.specs.declared.answers.Heard.{Heard}
 use Rattle.rules.specs.declared.answers.SetUp.{SetUp}
 use Rattle.rules.specs.declared.answers.Clock.the-variants as clocked
 use Rattle.rules.specs.declared.answers.Sited.the-variants as sited
-use Rattle.rules.specs.Said.{done, setUpSaid, heardSaid, doneOr, lookedSaid, nextSaid, clockSaid, spotIn, sitedSaid, keyAbove, earns2, earns7, setUpTable, receiveTable}
+use Rattle.rules.specs.Said.{done, setUpSaid, heardSaid, doneOr, nextSaid, clockSaid, spotIn, sitedSaid, keyAbove, earns2, earns7, setUpTable, receiveTable}
 use Rattle.rules.proofs.Damaged.{else-3, damaged-table, taken-acceptable}
 use Rattle.rules.proofs.Exactly.{says-the-table}
 use Rattle.rules.proofs.Says.{set-up-says, look-says, next-says}

@@ -8,11 +8,11 @@ use Rattle.positions.specs.declared.Spot.{Spot}
 use Rattle.messages.specs.declared.Decoded.{Decoded}
 use Rattle.whereabouts.specs.declared.Site.{Site}
 use Rattle.whereabouts.specs.Located.{noSite}
+use Rattle.track.specs.declared.held.Looked.{Looked}
 use Rattle.rules.specs.Rules as rules
 use Rattle.memory.specs.Offsets.{wholePlaces}
 use Rattle.table_bytes.specs.Layout.{clockOf, siteOf}
 use Rattle.rules.specs.declared.answers.SetUp.{SetUp}
-use Rattle.rules.specs.declared.answers.Looked.{Looked}
 use Rattle.rules.specs.declared.answers.NextKey.{NextKey}
 use Rattle.rules.specs.declared.answers.Clock.{Clock}
 use Rattle.rules.specs.declared.answers.Clock.the-variants as clock

@@ -6,12 +6,12 @@ use positions::Spot;
 use refusals::Refusal;
 use rules::Clock;
 use rules::Heard;
-use rules::Holding;
-use rules::Looked;
 use rules::NextKey;
 use rules::SetUp;
 use rules::Sited;
 use table_bytes::Target;
+use track::Holding;
+use track::Looked;
 use track::Track;
 ghost use mathlib.Core.Path.{_≡_};
 ghost use Prim.Native.Nat.{_<_};
@@ -44,7 +44,7 @@ pub fn set_up_at(table: &mut [u8], site: Spot) -> SetUp
     if !table_bytes::whole_places(table.len()) {
         return SetUp::Refused(Refusal::Places);
     }
-    if !table_bytes::pole_to_pole(site.latitude) {
+    if !whereabouts::pole_to_pole(site) {
         return SetUp::Refused(Refusal::Field);
     }
     table_bytes::clear(table);

@@ -1,19 +1,15 @@
--- A table's bodies and latitudes, as the code finds them: arithmetic over the definitions.
+-- A table's bodies, as the code finds them: arithmetic over the definitions.
 -- Assumes nothing.
-use Prim.Native.Nat.{ℕ, suc, _+_, _-_, _<_}
+use Prim.Native.Nat.{ℕ, _+_, _-_, _<_}
 use native.Mathlib.Omega.{arith}
 use native.Mathlib.Numerals.{add-one}
-use mathlib.Core.Bool.{Bool, true, false, not, _&&_}
-use mathlib.Core.Path.{_≡_, refl, ap, sym, _∙_}
+use mathlib.Core.Bool.{Bool, true, false, not}
+use mathlib.Core.Path.{_≡_, ap, sym, _∙_}
 use mathlib.Core.List.{List, [], _∷_, _++_}
-use lib.Dec.{leb}
-use lib.IntN.{ℤ, pos, negsuc}
 use lib.ListN.{length, take, drop, set, replicate, replicate-append-replicate}
 use lib.Seq.{take-suc-set, take-length}
-use borrow.Author.Tests.{le-leb, lt-leb, leb-true, leb-false, not-false}
+use borrow.Author.Tests.{not-false}
 use Rattle.memory.specs.Offsets.{bodySize, bodyStart, wholePlaces}
-use Rattle.positions.specs.Positions.{poleToPole}
-use Rattle.place.specs.Place.{abovePole}
 use Rattle.table_bytes.specs.Layout.{bodyAt}
 
 -- a table's length that has passed the test
@@ -26,20 +22,6 @@ unfolding bodyAt
 body-part s n i =
     let e : bodyStart n i + bodySize - bodyStart n i ≡ bodySize = omega arith in
     rw e
-
--- a latitude is from pole to pole by its number
-pub pole-number : (z : ℤ) → leb 4294967296 (abovePole z) && leb (abovePole z) 6442450944 ≡ poleToPole z
-unfolding abovePole
-pole-number (pos a) = by-test (leb a 1073741824) refl
-  where
-    by-test : (b : Bool) → leb a 1073741824 ≡ b → leb 4294967296 (a + 5368709120) && leb (a + 5368709120) 6442450944 ≡ b
-    by-test true e = rw (le-leb 4294967296 (a + 5368709120) (omega arith), le-leb (a + 5368709120) 6442450944 (omega (arith, leb-true a 1073741824 e)))
-    by-test false e = rw (le-leb 4294967296 (a + 5368709120) (omega arith), lt-leb (a + 5368709120) 6442450944 (omega (arith, leb-false a 1073741824 e)))
-pole-number (negsuc a) = by-test (leb (suc a) 1073741824) refl
-  where
-    by-test : (b : Bool) → leb (suc a) 1073741824 ≡ b → leb 4294967296 (5368709120 - suc a) && leb (5368709120 - suc a) 6442450944 ≡ b
-    by-test true e = rw (le-leb 4294967296 (5368709120 - suc a) (omega (arith, leb-true (suc a) 1073741824 e)), le-leb (5368709120 - suc a) 6442450944 (omega arith))
-    by-test false e = rw (lt-leb 4294967296 (5368709120 - suc a) (omega (arith, leb-false (suc a) 1073741824 e)))
 
 -- ---- emptied from the front on
 

@@ -14,8 +14,6 @@ use Rattle.table_bytes.proofs.layout.move_clock.Kinds as move-clock-kin
 use Rattle.table_bytes.proofs.layout.move_clock.Reads as move-clock
 use Rattle.table_bytes.proofs.layout.places_in.Kinds as places-in-kinds
 use Rattle.table_bytes.proofs.layout.places_in.Reads as places-in
-use Rattle.table_bytes.proofs.layout.pole_to_pole.Kinds as pole-to-pole-kinds
-use Rattle.table_bytes.proofs.layout.pole_to_pole.Reads as pole-to-pole
 use Rattle.table_bytes.proofs.layout.put_site.Kinds as put-site-kinds
 use Rattle.table_bytes.proofs.layout.put_site.Reads as put-site
 use Rattle.table_bytes.proofs.layout.site_of.Kinds as site-of-kinds
@@ -47,9 +45,6 @@ move-clock-once κs args x y left left′ p q = p ∙ sym q
 
 pub places-in-once : OneAnswer 1 places-in-kinds.ps places-in-kinds.r places-in.Post
 places-in-once κs args x y left left′ p q = p .0 ∙ sym (q .0)
-
-pub pole-to-pole-once : OneAnswer 0 pole-to-pole-kinds.ps pole-to-pole-kinds.r pole-to-pole.Post
-pole-to-pole-once κs args x y left left′ p q = p ∙ sym q
 
 pub put-site-once : OneOutcome 1 put-site-kinds.ps put-site-kinds.r (List ℕ) (λ κs x left. left .0 .now) put-site.Post
 put-site-once κs args x y left left′ p q = p ∙ sym q

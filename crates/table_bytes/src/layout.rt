@@ -85,13 +85,6 @@ pub fn site_of(s: &[u8]) -> Site
     )
 }
 
-pub fn pole_to_pole(latitude: i32) -> bool
-    ensures { λ r. ⌜ r ≡ poleToPole latitude ⌝ }
-{
-    let n = place::above_pole(latitude);
-    (4294967296 <= n) & (n <= 6442450944)
-}
-
 // A track and its key at the place i of n.
 pub fn store(s: &mut [u8], n: usize, i: usize, key: u32, t: Track)
     requires { ⌜ (i < n) × Room n (now s) ⌝ }

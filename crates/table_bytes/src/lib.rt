@@ -8,7 +8,6 @@ pub use layout::clear;
 pub use layout::clock_of;
 pub use layout::move_clock;
 pub use layout::places_in;
-pub use layout::pole_to_pole;
 pub use layout::put_site;
 pub use layout::site_of;
 pub use layout::store;

@@ -4,6 +4,7 @@
 //   S length: set up. A length latitude longitude: set up with a site. L length: lent as it is. F length seed: lent, and filled.
 //   P offset count bytes: other bytes in the buffer. R time count bytes: receive. K key: look up. N key: the next key.
 //   W: the clock, the site and each key with its track. B: the parity remainder of the whole table.
+//   J length kind address known latitude longitude: the first bytes of the buffer replayed as a log; kind and known have one byte.
 // `reference/vectors/bench.py` has what each writes.
 use encoder::Encoded;
 use libc::STDIN_FILENO;
@@ -13,11 +14,12 @@ use messages::Message;
 use positions::Spot;
 use refusals::Refusal;
 use rules::Clock;
-use rules::Holding;
 use rules::NextKey;
 use rules::SetUp;
 use rules::Sited;
 use track::Groups;
+use track::Holding;
+use track::Looked;
 use track::Track;
 use whereabouts::Position;
 use whereabouts::Saved;
@@ -180,14 +182,17 @@ fn say_holding(h: Holding) {
     }
 }
 
-// A line's end: whether the key is held, and its track.
-fn say_looked(lent: &[u8], key: u32) {
-    let looked = table::look_up(lent, key);
+// A line's end: whether a key is held, and its track.
+fn say_found(looked: Looked) {
     let answer = looked.answer;
     say_holding(answer);
     let t = looked.track;
     say_track(t);
     write(b"\n");
+}
+
+fn say_looked(lent: &[u8], key: u32) {
+    say_found(table::look_up(lent, key));
 }
 
 // ---- the calls
@@ -283,6 +288,17 @@ fn look_up(buf: &[u8], n: usize) {
     let key = word();
     if n <= buf.len() {
         say_looked(&buf[0..n], key);
+    }
+}
+
+fn work_out(buf: &[u8]) {
+    let n = length();
+    let kind = keys::kind_at(byte() as u32);
+    let address = word();
+    let known = byte() == 1;
+    let spot = read_spot();
+    if n <= buf.len() {
+        say_found(replay::replay(&buf[0..n], kind, address, Site { known, spot }));
     }
 }
 
@@ -403,6 +419,7 @@ fn use_lent(letter: u8, buf: &mut [u8], n: usize) {
         b'K' => look_up(buf, n),
         b'N' => say_next_key(buf, n),
         b'W' => walk(buf, n),
+        b'J' => work_out(buf),
         _ => say_remainder(buf, n),
     }
 }

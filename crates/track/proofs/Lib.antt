@@ -2,4 +2,5 @@ pub mod Mes
 pub mod Rules
 pub mod Meanings
 pub mod Promised
+pub mod Edges
 pub mod Unique

@@ -1,4 +1,5 @@
 pub mod Groups
 pub mod Track
+pub mod Held
 pub mod Meaning
 pub mod Said

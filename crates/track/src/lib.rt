@@ -1,9 +1,13 @@
 // One aircraft's track by value, and its step by one message.
+mod held;
 mod meaning;
 mod replaced;
 
 use counts::LatitudeCount;
 use counts::LongitudeCount;
+pub use held::Holding;
+pub use held::Looked;
+pub use held::is_in_date;
 use layouts::Airborne;
 use layouts::Layout;
 use layouts::Surface;

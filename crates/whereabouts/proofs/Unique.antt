@@ -6,6 +6,8 @@ use Rattle.whereabouts.proofs.no_position.Kinds as no-position-kinds
 use Rattle.whereabouts.proofs.no_position.Reads as no-position
 use Rattle.whereabouts.proofs.no_site.Kinds as no-site-kinds
 use Rattle.whereabouts.proofs.no_site.Reads as no-site
+use Rattle.whereabouts.proofs.pole_to_pole.Kinds as pole-to-pole-kinds
+use Rattle.whereabouts.proofs.pole_to_pole.Reads as pole-to-pole
 use Rattle.whereabouts.proofs.airborne_position.Kinds as airborne-position-kinds
 use Rattle.whereabouts.proofs.airborne_position.Reads as airborne-position
 use Rattle.whereabouts.proofs.surface_position.Kinds as surface-position-kinds
@@ -16,6 +18,9 @@ no-position-once κs args x y left left′ p q = p ∙ sym q
 
 pub no-site-once : OneAnswer 0 no-site-kinds.ps no-site-kinds.r no-site.Post
 no-site-once κs args x y left left′ p q = p ∙ sym q
+
+pub pole-to-pole-once : OneAnswer 0 pole-to-pole-kinds.ps pole-to-pole-kinds.r pole-to-pole.Post
+pole-to-pole-once κs args x y left left′ p q = p ∙ sym q
 
 pub airborne-position-once : OneAnswer 0 airborne-position-kinds.ps airborne-position-kinds.r airborne-position.Post
 airborne-position-once κs args x y left left′ p q = p ∙ sym q

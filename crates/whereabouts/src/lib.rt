@@ -6,6 +6,7 @@ use positions::Spot;
 use positions::Turn;
 use refusals::Refusal;
 ghost use mathlib.Core.Path.{_≡_};
+ghost use Rattle.positions.specs.Positions.{poleToPole};
 ghost use Rattle.whereabouts.specs.Located.{noPosition, noSite, isWithin, isFresh, foundAt, passedOn, settled, readNear, readSingly, afterPair, pairedWith, airbornePosition, surfacePosition};
 
 // An encoded position, airborne, with its time.
@@ -56,6 +57,13 @@ pub fn no_site() -> Site
             longitude: 0,
         },
     }
+}
+
+// Whether a spot's latitude is from pole to pole, as a site's has to be.
+pub fn pole_to_pole(spot: Spot) -> bool
+    ensures { λ r. ⌜ r ≡ poleToPole (spot .latitude) ⌝ }
+{
+    signs::size_of(signs::widen(spot.latitude)) <= 1073741824
 }
 
 fn is_within(most: u64, clock: u64, time: u64) -> bool

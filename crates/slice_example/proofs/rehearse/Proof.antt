@@ -13,7 +13,7 @@ use denote.Array.{Array, array-vals, array-tells, array-lawful, array-makes}
 use denote.ArrayMemory.{array-apart, array-whole}
 use denote.Steps.{peeks, only}
 use denote.Struct.Laws as LL
-use Rattle.rules.specs.declared.answers.Looked.{Looked}
+use Rattle.track.specs.declared.held.Looked.{Looked}
 use Rattle.slice_places.specs.declared.Place.{Place}
 use Rattle.slice_places.specs.declared.Head.{Head}
 use Rattle.slice_places.specs.declared.arrivals.Received.{Received}
@@ -22,8 +22,8 @@ use Rattle.slice_places.proofs.Place as T
 use Rattle.slice_places.proofs.Place.Laws as T′
 use Rattle.slice_places.proofs.Head as E
 use Rattle.slice_places.proofs.arrivals.Received as Y
-use Rattle.rules.proofs.answers.Looked as K
-use Rattle.rules.proofs.answers.Looked.Laws as K′
+use Rattle.track.proofs.held.Looked as K
+use Rattle.track.proofs.held.Looked.Laws as K′
 use Rattle.slice_example.proofs.Heard as Z
 use Rattle.slice_example.proofs.Heard.Laws as Z′
 use Rattle.slice_example.proofs.room as room

@@ -1,7 +1,7 @@
 -- `slice_places::look_at` meets its contract: the track is that of the place.
 -- Assumes nothing.
 use mathlib.Core.Path.{ap}
-use Rattle.rules.specs.declared.answers.Holding.the-variants as holding
+use Rattle.track.specs.declared.held.Holding.the-variants as holding
 use Rattle.slice_places.specs.Decided.{looked}
 use borrow.Author.Needs.{needs}
 use Rattle.slice_places.proofs.look_at.Statement.{statement}

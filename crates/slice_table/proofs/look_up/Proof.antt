@@ -1,11 +1,11 @@
 -- `slice_table::look_up` meets its contract: a walk of its MIR, by hand, in parts: one for each call.
 -- Assumes nothing.
 use Rattle.slice_table.proofs.Walk.{_≡_, refl, sym, ap, ℕ, _<_, _^_, Bool, Option, none, just, List, [], _∷_, length, getD, Holds, URA, named, tyInt, tyBool, Local, Val, vint, vbool, SProp, ent, emp, id⊢, Fml, Lft, Share, ftrue, flft, Memory, Routine, Heap, Env, WpFn, Tables, Atoms, Fun, givenOf, tables, tablesOf, Given, Item, ‵, _⊛_, ⋆, !, atRet, runs, _$_, _∵_, qed, by, move, split, fsplit, load, from, stop, look, FmC, fmOf, RattleType, owns, Is, RefT, ShrSlice, sliceVal, Room, Vals, onEntry, walkOf, _∙_, ltb, ltb→lt, nltb→le, w64, tyPtr, Sq, keep, whole, sub, look-in, first, skips, branches, exec, store, no-more, land, init, hop, fld, lit, of-opd, bin, assigns, returns, params1, pass1, pass0, false, imm, returns-within, look-raw, and-then, elem-back, not, w32, u32, shuts-slice, factI, Plain, struct, number, truth, place-plain, head-plain, sought-plain, found-plain, Known, calls-value, keeps, calls-lent, Blocks, localsAt, values, slice-of, stack, enters, leaves, local-is, stride, offset-fits, points-at, takes-out, place-copies, opens-shared, by-value, shared, ParamsOf, staysOf, valsOf, ends, proves, knows}
-use Rattle.rules.specs.declared.answers.Looked.{Looked}
-use Rattle.rules.specs.declared.answers.Holding.the-variants as holding
 use Rattle.refusals.specs.declared.Refusal.the-variants.{Places}
-use Rattle.rules.proofs.answers.Looked as K
-use Rattle.rules.proofs.answers.Looked.Laws as K′
+use Rattle.track.proofs.held.Looked as K
+use Rattle.track.proofs.held.Looked.Laws as K′
+use Rattle.track.specs.declared.held.Looked.{Looked}
+use Rattle.track.specs.declared.held.Holding.the-variants as holding
 use Rattle.track.specs.Track.{newTrack}
 use Rattle.slice_places.specs.declared.Place.{Place}
 use Rattle.slice_places.specs.declared.Head.{Head}

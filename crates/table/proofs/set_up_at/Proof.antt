@@ -1,11 +1,8 @@
 -- `table::set_up_at` meets its contract: its three ways out are the definition's.
 -- Assumes nothing.
 use native.Mathlib.Omega.{arith}
-use mir.Facts.{toZ-ofZ}
-use mir.Syntax.{w32}
-use mathlib.Core.Path.{ap, sym, _∙_}
+use mathlib.Core.Path.{sym, _∙_}
 use borrow.Author.Tests.{not-false}
-use Rattle.positions.specs.Positions.{poleToPole}
 use Rattle.memory.proofs.Counts.{whole-head}
 use Rattle.table_bytes.proofs.Parts.{whole}
 use Rattle.table.proofs.Answers.{site-size, site-pole, site-on}
@@ -24,24 +21,25 @@ pole-to-pole-requires c κs = search needs
 
 returns-2 : tie.Need-returns-2
 returns-2 c =
-    let a = c .before .before .before .before .before .before .args in
-    site-pole _ (c .before .before .before .before .whole-places .ensures) (a .site) (c .before .before .before .if1 .left) (c .before .pole-to-pole .ensures ∙ ap poleToPole (toZ-ofZ {w = w32} {z = a .site .latitude} (record { sfits = omega (arith, c .before .before .struct-told .given) }))) (c .if2 .taken)
+    let a = c .before .before .before .before .before .args in
+    site-pole _ (c .before .before .before .whole-places .ensures) (a .site) (c .before .before .if1 .left) (c .before .pole-to-pole .ensures) (c .if2 .taken)
 
 clear-requires : tie.Need-clear-requires
 clear-requires c κs = search needs
 
 put-site-requires : tie.Need-put-site-requires
-put-site-requires c κs =
-    let a = c .before .before .before .before .before .before .before .before .before .before .before .args in
-    (omega (arith, c .before .before .before .clear .kept, whole-head _ (whole _ (c .before .before .before .before .before .before .before .before .before .whole-places .ensures) (c .before .before .before .before .before .before .before .before .if1 .left))), sym (c .before .before .before .before .before .before .pole-to-pole .ensures ∙ ap poleToPole (toZ-ofZ {w = w32} {z = a .site .latitude} (record { sfits = omega (arith, c .before .before .before .before .before .before .before .struct-told .given) }))) ∙ not-false _ (c .before .before .before .before .before .if2 .left))
+put-site-requires c κs = (
+  omega (arith, c .before .before .before .clear .kept, whole-head _ (whole _ (c .before .before .before .before .before .before .before .before .whole-places .ensures) (c .before .before .before .before .before .before .before .if1 .left))),
+  sym (c .before .before .before .before .before .before .pole-to-pole .ensures) ∙ not-false _ (c .before .before .before .before .before .if2 .left),
+)
 
 same-length : tie.Need-same-length
 same-length c = search needs
 
 returns-3 : tie.Need-returns-3
 returns-3 c =
-    let a = c .before .before .before .before .before .before .before .before .before .before .before .before .before .before .args in
-    site-on _ (c .before .before .before .before .before .before .before .before .before .before .before .before .whole-places .ensures) (a .site) (c .before .before .before .before .before .before .before .before .before .before .before .if1 .left) (c .before .before .before .before .before .before .before .before .before .pole-to-pole .ensures ∙ ap poleToPole (toZ-ofZ {w = w32} {z = a .site .latitude} (record { sfits = omega (arith, c .before .before .before .before .before .before .before .before .before .before .struct-told .given) }))) (c .before .before .before .before .before .before .before .before .if2 .left) (c .before .before .before .before .before .before .clear .ensures) (c .before .before .put-site .ensures)
+    let a = c .before .before .before .before .before .before .before .before .before .before .before .before .before .args in
+    site-on _ (c .before .before .before .before .before .before .before .before .before .before .before .whole-places .ensures) (a .site) (c .before .before .before .before .before .before .before .before .before .before .if1 .left) (c .before .before .before .before .before .before .before .before .before .pole-to-pole .ensures) (c .before .before .before .before .before .before .before .before .if2 .left) (c .before .before .before .before .before .before .clear .ensures) (c .before .before .put-site .ensures)
 
 pub set-up-at-spec : {M : Type 1} → statement M
 set-up-at-spec =

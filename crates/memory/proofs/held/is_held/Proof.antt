@@ -1,35 +1,22 @@
--- `memory::held::is_held` meets its contract: heard no earlier than 124,999 before the clock is heard less than 125,000 ago.
+-- `memory::held::is_held` meets its contract: its tests are the definition's.
 -- Assumes nothing.
-use Prim.Native.Nat.{ℕ, _-_}
-use mathlib.Core.Path.{_≡_, refl}
-use mathlib.Core.Bool.{Bool, true, false}
-use native.Mathlib.Omega.{arith}
-use lib.Dec.{leb, ltb}
-use borrow.Author.Tests.{lt-ltb, le-ltb, leb-true, leb-false}
 use Rattle.memory.specs.Ranges.{held}
 use borrow.Author.Needs.{needs}
 use Rattle.memory.proofs.held.is_held.Statement.{statement}
 use Rattle.memory.proofs.held.is_held.Tie as tie
 
-in-date : (clock time : ℕ) → leb (clock - 124999) time ≡ ltb (clock - time) 125000
-in-date clock time = by-test (leb (clock - 124999) time) refl
-  where
-    by-test : (b : Bool) → leb (clock - 124999) time ≡ b → b ≡ ltb (clock - time) 125000
-    by-test true e = rw (lt-ltb (clock - time) 125000 (omega (arith, leb-true (clock - 124999) time e)))
-    by-test false e = rw (le-ltb (clock - time) 125000 (omega (arith, leb-false (clock - 124999) time e)))
-
 in-range-requires : tie.Need-in-range-requires
 in-range-requires c κs = search needs
-
-earliest-requires : tie.Need-earliest-requires
-earliest-requires c κs = search needs
 
 get8-requires : tie.Need-get8-requires
 get8-requires c κs = search needs
 
+is-in-date-requires : tie.Need-is-in-date-requires
+is-in-date-requires c κs = search needs
+
 returns : tie.Need-returns
 unfolding held
-returns c = rw (c .before .before .in-range .ensures, c .before .earliest .ensures, c .get8 .ensures, in-date)
+returns c = rw (c .before .before .in-range .ensures, c .is-in-date .ensures, c .before .get8 .ensures)
 
 pub is-held-spec : {M : Type 1} → statement M
-is-held-spec = tie.close (tie.spec in-range-requires earliest-requires get8-requires returns)
+is-held-spec = tie.close (tie.spec in-range-requires get8-requires is-in-date-requires returns)

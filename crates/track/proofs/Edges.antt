@@ -2,7 +2,7 @@
 -- Assumes nothing.
 use mathlib.Core.Path.{_≡_, refl}
 use mathlib.Core.Bool.{true, false}
-use Rattle.memory.specs.Ranges.{inDate}
+use Rattle.track.specs.Held.{inDate}
 
 pub in-date-edge : (inDate 125000 1 ≡ true) × (inDate 125000 0 ≡ false) × (inDate 0 1 ≡ true)
 in-date-edge = (refl, refl, refl)

@@ -1,4 +1,4 @@
--- `slice_places::ranges::pole_to_pole` meets its contract: the size of a latitude is at most a quarter turn.
+-- `whereabouts::pole_to_pole` meets its contract: the size of a latitude is at most a quarter turn.
 -- Assumes nothing.
 use lib.IntN.{ℤ}
 use mir.Facts.{toZ-ofZ, sfits-widen}
@@ -6,8 +6,8 @@ use mir.Syntax.{w32, w64}
 use mir.Val.{SFits}
 use native.Mathlib.Omega.{arith}
 use borrow.Author.Needs.{needs}
-use Rattle.slice_places.proofs.ranges.pole_to_pole.Statement.{statement}
-use Rattle.slice_places.proofs.ranges.pole_to_pole.Tie as tie
+use Rattle.whereabouts.proofs.pole_to_pole.Statement.{statement}
+use Rattle.whereabouts.proofs.pole_to_pole.Tie as tie
 
 wide : (z : ℤ) → SFits w32 z → SFits w64 z
 wide z h = sfits-widen tt h

@@ -1,0 +1,31 @@
+-- `addercoil::replays::addercoil_replay` meets its contract: an array of a wrong length, or what is worked out without a site.
+-- Assumes nothing.
+use mathlib.Core.Path.{ap, _∙_}
+use Rattle.whereabouts.specs.declared.Site.{Site}
+use Rattle.addercoil.specs.Sent.{given}
+use Rattle.addercoil.specs.Replays.{replaySaid}
+use Rattle.addercoil.proofs.Ways.{into-wrong, into-given}
+use borrow.Author.Needs.{needs}
+use Rattle.addercoil.proofs.replays.addercoil_replay.Statement.{statement}
+use Rattle.addercoil.proofs.replays.addercoil_replay.Tie as tie
+
+returns : tie.Need-returns
+returns c = into-wrong 57 _ _ (c .if1 .taken)
+
+no-site-requires : tie.Need-no-site-requires
+no-site-requires c κs = search needs
+
+give-replay-requires : tie.Need-give-replay-requires
+give-replay-requires c κs = search needs
+
+same-length : tie.Need-same-length
+same-length c = search needs
+
+returns-2 : tie.Need-returns-2
+returns-2 c =
+    let a = c .before .before .before .before .before .before .before .before .args in
+    into-given 57 (a .out .now) _ (c .before .before .before .before .before .if1 .left) (c .before .before .give-replay .ensures ∙ ap (λ (z : Site). given (a .out .now) (replaySaid (a .log .now) (a .kind) (a .address) z)) (c .before .before .before .no-site .ensures))
+
+pub addercoil-replay-spec : {M : Type 1} → statement M
+addercoil-replay-spec =
+    tie.close (tie.spec returns no-site-requires give-replay-requires same-length returns-2)

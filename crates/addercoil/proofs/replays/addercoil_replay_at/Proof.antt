@@ -1,0 +1,24 @@
+-- `addercoil::replays::addercoil_replay_at` meets its contract: an array of a wrong length, or what is worked out with the site.
+-- Assumes nothing.
+use mir.Facts.{toZ-ofZ}
+use Rattle.addercoil.proofs.Ways.{into-wrong, into-given}
+use borrow.Author.Needs.{needs}
+use Rattle.addercoil.proofs.replays.addercoil_replay_at.Statement.{statement}
+use Rattle.addercoil.proofs.replays.addercoil_replay_at.Tie as tie
+
+returns : tie.Need-returns
+returns c = into-wrong 57 _ _ (c .if1 .taken)
+
+give-replay-requires : tie.Need-give-replay-requires
+give-replay-requires c κs = search needs
+
+same-length : tie.Need-same-length
+same-length c = search needs
+
+returns-2 : tie.Need-returns-2
+returns-2 c =
+    let a = c .before .before .before .before .before .before .before .args in
+    into-given 57 (a .out .now) _ (c .before .before .before .before .if1 .left) (rw (toZ-ofZ (c .before .before .before .before .before .before .before .fits .latitude)) at (c .before .before .give-replay .ensures))
+
+pub addercoil-replay-at-spec : {M : Type 1} → statement M
+addercoil-replay-at-spec = tie.close (tie.spec returns give-replay-requires same-length returns-2)

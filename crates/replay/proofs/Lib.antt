@@ -1,0 +1,4 @@
+pub mod Ways
+pub mod Edges
+pub mod Promised
+pub mod Unique

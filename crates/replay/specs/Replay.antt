@@ -1,0 +1,67 @@
+-- A track worked out again from a log. "The plain method takes the records in order, knows no table, and applies 01's track rules to that key alone, the clock moving at each record."
+use Prim.Native.Nat.{ℕ, zero, suc, _*_, _/_, _%_, _^_}
+use mathlib.Core.Bool.{Bool, cond, not, _&&_, _||_}
+use mathlib.Core.Option.{Option, some, none}
+use mathlib.Core.List.{List}
+use lib.Dec.{eqb, leb}
+use lib.ListN.{length, take, drop}
+use Rattle.refusals.specs.declared.Refusal.the-variants.{Field, Log}
+use Rattle.fields.specs.Bytes.{number}
+use Rattle.keys.specs.Keys.{keyFor}
+use Rattle.keys.specs.declared.Kind.{Kind}
+use Rattle.positions.specs.Positions.{poleToPole}
+use Rattle.whereabouts.specs.declared.Site.{Site}
+use Rattle.whereabouts.specs.Located.{noSite}
+use Rattle.track.specs.declared.Track.{Track}
+use Rattle.track.specs.declared.held.Looked.{Looked}
+use Rattle.track.specs.Held.{lookedAs, notLooked}
+use Rattle.replay.specs.declared.Own as code
+use Rattle.replay.specs.Alone.{Heard, heardIn, Own, ownAfter}
+
+-- ---- the log
+
+-- of so many bytes: at most 2,900 records of 22
+abbrev pub isLog : ℕ → Bool
+isLog n = eqb (n % 22) 0 && leb (n / 22) 2900
+
+-- the record i, counted from 0
+abbrev pub recordAt : List ℕ → ℕ → List ℕ
+recordAt log i = take 22 (drop (22 * i) log)
+
+-- as in a capture: 8 bytes of time, high byte first, then the 14 of the message
+abbrev pub heardAt : ℕ → List ℕ → Heard
+heardAt key r = heardIn key (drop 8 r) (number (take 8 r))
+
+-- ---- the method
+
+-- from clock 0, with nobody held
+abbrev pub unheard : Own
+unheard = record { clock = 0; track = none }
+
+-- after the first n records, from what was seen before them
+abbrev pub ownAt : Site → ℕ → Own → List ℕ → ℕ → Own
+ownAt site key o log zero = o
+ownAt site key o log (suc n) = ownAfter site (ownAt site key o log n) (heardAt key (recordAt log n))
+
+-- the spot of a site that is not known is not looked at
+abbrev pub sited : Site → Site
+sited site = cond (site .known) site noSite
+
+-- a known site whose latitude is beyond a pole
+abbrev pub badSite : Site → Bool
+badSite site = site .known && not (poleToPole (site .spot .latitude))
+
+-- 14, then 8 for an address over 24 bits or a bad site; else what all records leave of the key
+unfoldable pub replayed : List ℕ → Kind → ℕ → Site → Looked
+replayed log kind address site =
+    cond (not (isLog (length log))) (notLooked Log)
+    (cond (leb (2 ^ 24) address || badSite site) (notLooked Field)
+    (lookedAs (ownAt (sited site) (keyFor kind address) unheard log (length log / 22) .track)))
+
+-- ---- what the code keeps between two records: the track counts where it is held
+
+abbrev pub trackOf : Bool → Track → Option Track
+trackOf held t = cond held (some t) none
+
+abbrev pub kept : code.Own → Own
+kept o = record { clock = o .clock; track = trackOf (o .held) (o .track) }

@@ -1,0 +1,133 @@
+"""Cases of table_vectors: logs, and what is worked out of them for a key."""
+
+from random import Random
+
+from positions import EVEN, ODD
+from replay import MOST_RECORDS, RECORD
+from tracks import KINDS, I
+from traffic import ANOTHER, ICAO, MODE_A, NO_TRANSPONDER, OTHER, TRANSPONDER, airborne, identification, no_position, surface, velocity
+from vectors.message_vectors import flipped, random_reserved, sealed_message
+
+POKED = 11  # records at a time
+HERE, SITE, SOUTH = (2**29, 2**30), (2**29 + 5_000, 2**30 - 7_000), (-(2**28), 2**31)
+ONE, TWO = 0xABCDEF, 0x4840D6
+LAST = 2**64 - 1
+HEADS = [TRANSPONDER, NO_TRANSPONDER, OTHER, ICAO, MODE_A, ANOTHER]
+
+
+def log_of(records):
+    """Times and messages as a log."""
+    return b"".join(time.to_bytes(8, "big") + string for time, string in records)
+
+
+def lend(bench, records, at=0):
+    """Puts the log of these records at the start of the buffer, or behind so many; its length."""
+    log = log_of(records)
+    for start in range(0, len(log), POKED * RECORD):
+        bench.poke(at * RECORD + start, log[start : start + POKED * RECORD])
+    return at * RECORD + len(log)
+
+
+def every_key(bench, length, *sites, addresses=(ONE,)):
+    """A log replayed for each kind of these addresses, without a site and with each of these."""
+    for kind in KINDS:
+        for address in addresses:
+            for site in (None, *sites):
+                bench.replay(length, kind, address, site)
+
+
+def of_each_sort(head, aa, i=EVEN):
+    """A message of each sort, positions of both sorts among them."""
+    return [
+        airborne(head, aa, i, HERE),
+        airborne(head, aa, 1 - i, HERE, type_code=21),
+        surface(head, aa, i, HERE),
+        identification(head, aa, "REPLAY8"),
+        velocity(head, aa, 100, -50),
+        no_position(head, aa, 700),
+    ]
+
+
+def damaged(aa):
+    """What is refused with 3, 4 and 5, and whose AA is the aircraft's."""
+    return [flipped(sealed_message(17, 5, aa, 11, 12345), 60), sealed_message(17 + 2, 5, aa, 11, 1), sealed_message(18, 3, aa, 11, 1), sealed_message(17, 5, aa, 31, 0)]
+
+
+def whole_logs(bench):
+    """14: not of whole records, or over 2,900, before 8; an empty log is taken. What lies beyond the length is not looked at."""
+    bench.set_up(1024)  # so that the buffer is zero: records of time 0
+    length = lend(bench, [(1_000, velocity(TRANSPONDER, ONE, 1, 2)), (1_400, identification(TRANSPONDER, ONE, "LAST"))])
+    for bytes_of in (0, 1, 21, RECORD, RECORD + 1, length - 1, length, length + 1):
+        bench.replay(bytes_of, I, ONE)
+    most = MOST_RECORDS * RECORD
+    lend(bench, [(9_000, velocity(TRANSPONDER, ONE, 3, 4))], at=MOST_RECORDS - 1)
+    lend(bench, [(9_500, velocity(TRANSPONDER, ONE, 5, 6))], at=MOST_RECORDS)
+    for bytes_of in (most - RECORD, most, most + RECORD, most - 1, most + 1, most + 2 * RECORD):
+        bench.replay(bytes_of, I, ONE)
+    for bytes_of, address, site in ((21, 2**24, None), (most + RECORD, 2**32 - 1, None), (length - 1, ONE, (2**30 + 1, 0)), (21, ONE, None)):
+        bench.replay(bytes_of, I, address, site)
+    for address in (2**24 - 1, 2**24, 2**24 + ONE, 2**32 - 1):
+        bench.replay(length, I, address)
+    for latitude in (2**30, 2**30 + 1, -(2**30), -(2**30) - 1, 2**31 - 1, -(2**31)):
+        bench.replay(length, I, ONE, (latitude, 2**32 - 1))
+        bench.replay(length, I, ONE, spot=(latitude, 5))  # of a site that is not known
+
+
+def late_records(bench):
+    """A late record moves nothing and ages nothing, a bad one in time moves the clock; at 2^64 - 1 all is late that follows."""
+    mine, start = velocity(TRANSPONDER, ONE, 10, 20), identification(TRANSPONDER, ONE, "FIRST")
+    for string in (*damaged(ONE), mine, velocity(OTHER, ONE, 5, 5), bytes(14)):
+        for time in (0, 999, 1_000, 1_001, 125_999, 126_000, 126_001, LAST):
+            every_key(bench, lend(bench, [(1_000, start), (time, string)]))
+            every_key(bench, lend(bench, [(1_000, start), (time, string), (1_500, mine), (126_100, no_position(TRANSPONDER, ONE))]))
+
+
+def ages(bench):
+    """Held 124,999 after it was last heard and gone at 125,000, by whatever message comes; a newcomer's track starts anew."""
+    first = [(1_000, airborne(TRANSPONDER, ONE, EVEN, HERE)), (1_400, airborne(TRANSPONDER, ONE, ODD, HERE)), (2_000, velocity(TRANSPONDER, ONE, 7, 8))]
+    for gap in (124_999, 125_000):
+        for string in (identification(TRANSPONDER, ONE, "AGAIN"), velocity(TRANSPONDER, TWO, 1, 1), no_position(TRANSPONDER, ONE), airborne(TRANSPONDER, ONE, EVEN, HERE)):
+            every_key(bench, lend(bench, [*first, (2_000 + gap, string)]), addresses=(ONE, TWO))
+            every_key(bench, lend(bench, [*first, (2_000 + gap, string), (2_000 + gap, velocity(TRANSPONDER, ONE, 9, 9))]))
+
+
+def kinds_apart(bench):
+    """One AA under every kind: each has its own messages, and what starts no track starts none."""
+    for head in HEADS:
+        for string in of_each_sort(head, ONE):
+            every_key(bench, lend(bench, [(5, string)]), SITE)
+            held = [(5, airborne(head, ONE, EVEN, HERE)), (6, string)]
+            every_key(bench, lend(bench, held), SITE)
+    chance = Random(81)
+    every_key(bench, lend(bench, [(1, random_reserved(chance, ONE)), (2, string)]))
+
+
+def sites(bench):
+    """A surface message is read by the site, or by its track's position while that is young enough."""
+    for head in (TRANSPONDER, OTHER, ICAO):
+        taxi = [(10, surface(head, ONE, EVEN, HERE)), (20, surface(head, ONE, ODD, SITE))]
+        every_key(bench, lend(bench, taxi), SITE, SOUTH)
+        every_key(bench, lend(bench, [*taxi, (120_021, surface(head, ONE, EVEN, HERE))]), SITE, SOUTH)
+
+
+def any_run(bench):
+    """Runs of any messages at any steps, each key of them replayed: a few aircraft of every kind, noise, gaps about a drop."""
+    chance = Random(82)
+    for _ in range(60):
+        time, records = chance.choice((0, 0, 10**6, LAST - 400_000)), []
+        for _ in range(chance.randrange(4, 24)):
+            time = max(0, min(LAST, time + chance.choice((0, 1, 400, 400, 5_000, 10_001, 120_001, 124_999, 125_000, -1, -5_000))))
+            head, aa = chance.choice(HEADS), chance.choice((ONE, ONE, TWO))
+            records.append((time, chance.choice([*of_each_sort(head, aa, chance.randrange(2)), *of_each_sort(head, aa, chance.randrange(2)), *damaged(aa)])))
+        every_key(bench, lend(bench, records), chance.choice((SITE, SOUTH)), addresses=(ONE, TWO))
+
+
+SCRIPTS = [whole_logs, late_records, ages, kinds_apart, sites, any_run]
+
+
+def run(bench):
+    """All of them; held, absent, 8 and 14 are among the answers."""
+    for script in SCRIPTS:
+        script(bench)
+    answers = {line.rpartition("\n")[2].split()[0] for record, line in bench.cases if b"J" in record}
+    assert {"held", "unheld", "refused"} <= answers, answers
