@@ -29,7 +29,7 @@
  *     service sends (DF 18 with CF 2 or 5) they are 3, T: an ICAO address; 4, M: a Mode A code of 12 bits, then a
  *     track number of 12; 5, N: another address.
  *
- * Link with libaddercoil.a, which `tools/staticlib` writes to target/staticlib/, for x86-64 or for 64-bit ARM.
+ * Link with libaddercoil.a, which `tools/staticlib` writes to target/staticlib/PROCESSOR/, for x86_64 or for aarch64.
  */
 #ifndef ADDERCOIL_H
 #define ADDERCOIL_H

@@ -9,10 +9,13 @@ import platform
 import sys
 from importlib.machinery import SourceFileLoader
 from importlib.util import module_from_spec, spec_from_loader
+from itertools import cycle
 from pathlib import Path
 from tempfile import TemporaryDirectory
 
 from programs import ROOT
+
+sys.path.insert(0, str(ROOT / "tools"))
 
 LAYOUT = "e-m:e-p270:32:32-p271:32:32-p272:64:64-i64:64-i128:128-f80:128-n8:16:32:64-S128"  # of x86-64
 ARM_LAYOUT = "e-m:e-p270:32:32-p271:32:32-p272:64:64-i8:8:32-i16:16:32-i64:64-i128:128-n32:64-S128-Fn32"
@@ -73,14 +76,13 @@ def staticlib(folder):
     return made
 
 
-def keep(script, text):
-    """A module as `rt staticlib` would have left it."""
+def keep(script, crate, text):
+    """The module of a crate as `rt staticlib` would have left it."""
     (script.MADE / "module.ll").write_text(text, encoding="ascii")
     words = ["--no-default-config", "-Wno-override-module", "-c", "-emit-llvm", "-O0", "-Xclang", "-disable-llvm-passes"]
     target = "--target=x86_64-unknown-linux-gnu"
-    script.output(script.tool("clang"), target, *words, "-x", "ir", "module.ll", "-o", "module.bc", folder=script.MADE)
-    (script.MADE / "module.words").write_text("\n".join(WORDS), encoding="ascii")
-    (script.MADE / "module.kit").write_text(script.version(), encoding="utf-8")
+    script.output(script.tool("clang"), target, *words, "-x", "ir", "module.ll", "-o", f"{crate}.bc", folder=script.MADE)
+    (script.MADE / f"{crate}.words").write_text("\n".join(WORDS), encoding="ascii")
 
 
 def refusal(script, function, *arguments):
@@ -94,14 +96,19 @@ def refusal(script, function, *arguments):
 
 def faults(script):
     """What is wrong with the script."""
-    keep(script, MODULE)
+    for crate in script.LIBRARY:
+        keep(script, crate, MODULE)
     said = refusal(script, script.make_arm)
-    if said or not script.archive("aarch64").read_bytes().startswith(b"!<arch>\n"):
-        yield f"a module without anything of x86: {said}"
-    for text in OF_X86:
-        keep(script, f"{MODULE}\n{text}\n")
+    due = [f"{crate}.o" for crate in script.LIBRARY]
+    if said or script.output(script.tool("llvm-ar"), "t", script.archive("aarch64")).split() != due:
+        yield f"modules without anything of x86: {said}"
+    elif script.symbols(script.archive("aarch64")) != ["one"] * len(due):
+        yield "the global names of an archive were not found"
+    for text, crate in zip(OF_X86, cycle(script.LIBRARY)):
+        keep(script, crate, f"{MODULE}\n{text}\n")
         if "of x86 in it, or something that was not tried" not in refusal(script, script.make_arm):
             yield f"not refused: {text}"
+        keep(script, crate, MODULE)
     for layout in OTHER_LAYOUTS:
         if "the order of bytes differ" not in refusal(script, script.rewritten, MODULE, layout):
             yield f"not refused: {layout}"
@@ -110,7 +117,7 @@ def faults(script):
     for at in range(2):
         if "with other words" not in refusal(script, script.words_for_arm, WORDS[:at] + WORDS[at + 1 :], "arm.ll", "arm.o"):
             yield f"not refused: without {WORDS[at]}"
-    (script.MADE / "module.kit").unlink()
+    (script.MADE / f"{script.LIBRARY[-1]}.words").unlink()
     if "handed no module" not in refusal(script, script.make_arm):
         yield "not refused: no module"
     if "there is no archive for" not in refusal(script, script.make, "armv7l"):

@@ -14,7 +14,7 @@ use Rattle.messages.specs.declared.Decoded.the-variants as decode
 use Rattle.encoder.specs.declared.Encoded.{Encoded}
 use Rattle.encoder.specs.Encoded.{encoded, encodedBytes}
 use Rattle.rows.specs.From.{messageFrom}
-use Rattle.addercoil.specs.Sent.{Sent, sent}
+use Rattle.entries.specs.Sent.{Sent, sent}
 use Rattle.addercoil.specs.Messages.{encodedNumber, encodedAs, encodedFrom}
 
 module _ (out : List ℕ) where

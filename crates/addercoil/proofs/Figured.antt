@@ -15,7 +15,7 @@ use Rattle.degrees.specs.declared.Degrees.{Degrees}
 use Rattle.degrees.specs.declared.InDegrees.{InDegrees}
 use Rattle.degrees.specs.declared.InDegrees.the-variants as degrees
 use Rattle.degrees.specs.Ways.{inDegrees, fromDegrees}
-use Rattle.addercoil.specs.Sent.{Sent, given}
+use Rattle.entries.specs.Sent.{Sent, given}
 use Rattle.addercoil.specs.Spots.{spotSaid}
 use Rattle.addercoil.specs.Figures.{Plotted, plotted, figuresIn, degreesPlotted, fromDegreesSaid}
 

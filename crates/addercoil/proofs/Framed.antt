@@ -28,7 +28,7 @@ use Rattle.rows.specs.Rows.{rowOf, fourOf, fourIn, messageFour, messageRow, meR
 use Rattle.rows.proofs.Cutting.{chosen, filled-all}
 use Rattle.rows.proofs.Laid.{row-length}
 use Rattle.rows.proofs.Refusing.{by-layout}
-use Rattle.addercoil.specs.Sent.{Sent, sent, given}
+use Rattle.entries.specs.Sent.{Sent, sent, given}
 use Rattle.addercoil.specs.Messages.{messageSaid}
 
 -- a row of 28 entries fills an array of 28

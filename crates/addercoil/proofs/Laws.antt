@@ -39,7 +39,7 @@ use Rattle.rows.proofs.BothWays.{from-row}
 use Rattle.rows.proofs.Cutting.{filled-all}
 use Rattle.rows.proofs.Laid.{row-length}
 use Rattle.rows.proofs.ReadBack.{from-same}
-use Rattle.addercoil.specs.Sent.{Sent, sent, into}
+use Rattle.entries.specs.Sent.{Sent, sent, into}
 use Rattle.addercoil.specs.Lines.{lineBuffer}
 use Rattle.addercoil.specs.Messages.{messageSaid, encodedNumber, encodedAs, encodedFrom}
 use Rattle.addercoil.proofs.Encoding.{encode-right}

@@ -3,7 +3,6 @@ pub mod Figured
 pub mod Framed
 pub mod Laws
 pub mod Placed
-pub mod Replaying
 pub mod Reported
 pub mod Stamping
 pub mod Unique

@@ -12,9 +12,9 @@ use Rattle.positions.specs.declared.Counts.{Counts}
 use Rattle.positions.specs.declared.Encoded.{Encoded}
 use Rattle.positions.specs.declared.Found.{Found}
 use Rattle.positions.specs.Positions.{encoded, paired, singly}
-use Rattle.addercoil.specs.Sent.{Sent, given}
+use Rattle.entries.specs.Sent.{Sent, given}
 use Rattle.addercoil.specs.Spots.{turnOf, formatOf, countsSaid, spotSaid, encodeSaid, pairSaid, singleSaid}
-use Rattle.addercoil.proofs.Ways.{passed}
+use Rattle.entries.proofs.Ways.{passed}
 
 module _ (out : List ℕ) {s : Sent} {format : Format} where
   module _ {turn : Turn} (latitude : ℤ) (longitude surface odd : ℕ) (h : (ltb 1 surface || ltb 1 odd) ≡ false) (t : turn ≡ turnOf surface) (f : format ≡ formatOf odd) where

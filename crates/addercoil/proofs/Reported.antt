@@ -20,7 +20,7 @@ use Rattle.report.specs.declared.Printed.the-variants.{Refused}
 use Rattle.report.specs.declared.Report.{Report}
 use Rattle.report.specs.Listing.{rowFor, lineText, headerFor, without, with, headerIn, reported, lineIn}
 use Rattle.feed.specs.declared.Fed.{Fed}
-use Rattle.addercoil.specs.Sent.{Sent, sent, given}
+use Rattle.entries.specs.Sent.{Sent, sent, given}
 use Rattle.addercoil.specs.Lines.{chosen, noChoice, linesSaid, headerSaid, lineSaid, reportSaid, Both, both, fedSaid, fedInto}
 
 module _ (out : List ℕ) where

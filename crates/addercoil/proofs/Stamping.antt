@@ -23,9 +23,10 @@ use Rattle.stamps.specs.Stamps.{stamped}
 use Rattle.stamps.specs.Times.{notAccepted, isAccepted}
 use Rattle.stamps.proofs.Accepted.{not-accepted-leaves}
 use Rattle.addercoil.specs.Lines.{Both, both}
-use Rattle.addercoil.specs.Sent.{Sent, sent}
+use Rattle.entries.specs.Sent.{Sent, sent}
 use Rattle.addercoil.specs.Stamps.{stateIn, stateRow, noState, notedSent, notedAfter, receivedStamp}
-use Rattle.addercoil.specs.Tables.{bit, heardNumber}
+use Rattle.entries.specs.Means.{bit}
+use Rattle.addercoil.specs.Tables.{heardNumber}
 
 -- two entries, both written
 pub written : (l : List ℕ) (a b : ℕ) → length l ≡ 2 → set (set l 0 a) 1 b ≡ a ∷ b ∷ []

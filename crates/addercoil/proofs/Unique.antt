@@ -4,7 +4,7 @@ use mathlib.Core.Path.{sym, _∙_}
 use Rattle.refusals.specs.Answers.{OneAnswer, OneOutcome}
 use Rattle.addercoil.specs.Figures.{Plotted, plotted}
 use Rattle.addercoil.specs.Lines.{Both, both}
-use Rattle.addercoil.specs.Sent.{Sent, sent}
+use Rattle.entries.specs.Sent.{Sent, sent}
 use Rattle.addercoil.proofs.version.addercoil_version.Kinds as version-kinds
 use Rattle.addercoil.proofs.version.addercoil_version.Reads as version
 use Rattle.addercoil.proofs.tables.addercoil_table_bytes.Kinds as table-bytes-kinds
@@ -45,10 +45,6 @@ use Rattle.addercoil.proofs.me.addercoil_me.Kinds as me-kinds
 use Rattle.addercoil.proofs.me.addercoil_me.Reads as me
 use Rattle.addercoil.proofs.numbers.addercoil_encode.Kinds as encode-kinds
 use Rattle.addercoil.proofs.numbers.addercoil_encode.Reads as encode
-use Rattle.addercoil.proofs.replays.addercoil_replay.Kinds as replay-kinds
-use Rattle.addercoil.proofs.replays.addercoil_replay.Reads as replay
-use Rattle.addercoil.proofs.replays.addercoil_replay_at.Kinds as replay-at-kinds
-use Rattle.addercoil.proofs.replays.addercoil_replay_at.Reads as replay-at
 use Rattle.addercoil.proofs.stamped.addercoil_receive_stamp.Kinds as receive-stamp-kinds
 use Rattle.addercoil.proofs.stamped.addercoil_receive_stamp.Reads as receive-stamp
 
@@ -111,12 +107,6 @@ me-once κs args x y left left′ p q = p ∙ sym q
 
 pub encode-once : OneOutcome 2 encode-kinds.ps encode-kinds.r Sent (λ κs x left. sent x (left .1 .0 .now)) encode.Post
 encode-once κs args x y left left′ p q = p ∙ sym q
-
-pub replay-once : OneOutcome 2 replay-kinds.ps replay-kinds.r Sent (λ κs x left. sent x (left .1 .1 .1 .0 .now)) replay.Post
-replay-once κs args x y left left′ p q = p ∙ sym q
-
-pub replay-at-once : OneOutcome 2 replay-at-kinds.ps replay-at-kinds.r Sent (λ κs x left. sent x (left .1 .1 .1 .1 .1 .0 .now)) replay-at.Post
-replay-at-once κs args x y left left′ p q = p ∙ sym q
 
 pub receive-stamp-once : OneOutcome 3 receive-stamp-kinds.ps receive-stamp-kinds.r Both (λ κs x left. both (sent x (left .1 .1 .1 .0 .now)) (left .0 .now)) receive-stamp.Post
 receive-stamp-once κs args x y left left′ p q = p ∙ sym q

@@ -2,8 +2,6 @@ pub mod Figures
 pub mod Lines
 pub mod Me
 pub mod Messages
-pub mod Replays
-pub mod Sent
 pub mod Spots
 pub mod Stamps
 pub mod Tables

@@ -16,7 +16,7 @@ use Rattle.report.specs.declared.Report.{Report}
 use Rattle.report.specs.Listing.{headerFor, lineFor}
 use Rattle.feed.specs.declared.Fed.{Fed}
 use Rattle.feed.specs.declared.Fed.the-variants as feed
-use Rattle.addercoil.specs.Sent.{Sent, given}
+use Rattle.entries.specs.Sent.{Sent, given}
 
 -- ---- lines: a buffer holds the text, then zeros
 

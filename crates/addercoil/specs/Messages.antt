@@ -1,34 +1,19 @@
--- A track and a message for another language, as the rows of numbers of the crate `rows`.
+-- A message for another language, as the row of numbers of the crate `rows`.
 use Prim.Native.Nat.{ℕ}
 use mathlib.Core.Bool.{cond, not, _||_}
-use mathlib.Core.List.{List, [], _∷_}
+use mathlib.Core.List.{List}
 use lib.Dec.{eqb}
 use lib.ListN.{length}
 use Rattle.refusals.specs.Numbers.{numberOf}
 use Rattle.refusals.specs.Said.{Said, number, gives}
-use Rattle.keys.specs.Keys.{trafficIn}
 use Rattle.messages.specs.declared.Decoded.{Decoded}
 use Rattle.messages.specs.declared.Decoded.the-variants as decode
 use Rattle.encoder.specs.declared.Encoded.{Encoded}
 use Rattle.encoder.specs.declared.Encoded.the-variants as encode
 use Rattle.encoder.specs.Encoded.{encoded, encodedBytes}
-use Rattle.track.specs.declared.Track.{Track}
-use Rattle.track.specs.declared.held.Holding.{Holding}
-use Rattle.track.specs.declared.held.Holding.the-variants as holding
-use Rattle.track.specs.declared.held.Looked.{Looked}
 use Rattle.rows.specs.From.{messageFrom}
 use Rattle.rows.specs.Rows.{messageRow}
-use Rattle.rows.specs.Tracks.{trackRow}
-use Rattle.addercoil.specs.Sent.{Sent, sent}
-
--- the track of a key that is held; zeros for one that is not
-abbrev pub heldSaid : ℕ → Track → Holding → Said (List ℕ)
-heldSaid key t holding.Held = gives (trackRow (trafficIn key) t)
-heldSaid key t holding.Unheld = gives (0 ∷ [])
-heldSaid key t (holding.Refused r) = number (numberOf r)
-
-abbrev pub lookedSaid : ℕ → Looked → Said (List ℕ)
-lookedSaid key l = heldSaid key (l .track) (l .answer)
+use Rattle.entries.specs.Sent.{Sent, sent}
 
 -- a decoded message
 abbrev pub messageSaid : Decoded → Said (List ℕ)

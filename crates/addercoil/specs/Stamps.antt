@@ -12,8 +12,9 @@ use Rattle.stamps.specs.declared.Noted.{Noted}
 use Rattle.stamps.specs.Heard.{heard}
 use Rattle.stamps.specs.Stamps.{stamped}
 use Rattle.addercoil.specs.Lines.{Both, both}
-use Rattle.addercoil.specs.Sent.{Sent, sent}
-use Rattle.addercoil.specs.Tables.{bit, heardNumber}
+use Rattle.entries.specs.Sent.{Sent, sent}
+use Rattle.entries.specs.Means.{bit}
+use Rattle.addercoil.specs.Tables.{heardNumber}
 
 -- the state in the array, and back
 abbrev pub stateIn : List ℕ → Stamps

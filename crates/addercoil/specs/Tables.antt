@@ -1,11 +1,12 @@
 -- The lent table for another language: each answer as a number of document 01's table, or as values.
 use Prim.Native.Nat.{ℕ}
-use mathlib.Core.Bool.{Bool, true, false, cond, _&&_}
+use mathlib.Core.Bool.{cond, _&&_}
 use mathlib.Core.List.{List, [], _∷_}
 use lib.Dec.{leb}
 use Rattle.refusals.specs.Numbers.{numberOf}
 use Rattle.refusals.specs.Said.{Said, number, gives}
 use Rattle.memory.specs.Offsets.{mostPlaces, tableSize}
+use Rattle.entries.specs.Means.{bit}
 use Rattle.entries.specs.Twos.{twos}
 use Rattle.messages.specs.declared.Decoded.{Decoded}
 use Rattle.whereabouts.specs.declared.Site.{Site}
@@ -21,7 +22,7 @@ use Rattle.rules.specs.declared.answers.Sited.{Sited}
 use Rattle.rules.specs.declared.answers.Sited.the-variants as sited
 use Rattle.table.specs.Table.{After}
 use Rattle.table.specs.Heard.{heardAs}
-use Rattle.addercoil.specs.Sent.{Sent, sent}
+use Rattle.entries.specs.Sent.{Sent, sent}
 
 -- how many bytes a table of so many places has; 0 if there is none
 abbrev pub bytesFor : ℕ → ℕ
@@ -49,10 +50,6 @@ receivedSent a = sent (heardNumber (heardAs (a .answer))) (a .table)
 abbrev pub clockSaid : Clock → Said (List ℕ)
 clockSaid (clock.At time) = gives (time ∷ [])
 clockSaid (clock.Refused r) = number (numberOf r)
-
-abbrev pub bit : Bool → ℕ
-bit true = 1
-bit false = 0
 
 -- whether there is a site, its latitude, its longitude
 abbrev pub siteValues : Site → Said (List ℕ)

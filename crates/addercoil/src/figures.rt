@@ -5,7 +5,7 @@ use degrees::InDegrees;
 use positions::Spot;
 ghost use mathlib.Core.Path.{_≡_};
 ghost use lib.ListN.{length};
-ghost use Rattle.addercoil.specs.Sent.{sent, into};
+ghost use Rattle.entries.specs.Sent.{sent, into};
 ghost use Rattle.addercoil.specs.Figures.{plotted, figuresIn, degreesPlotted, fromDegreesSaid};
 
 fn give_figures(out: &mut [f64], answer: InDegrees) -> u32

@@ -1,5 +1,5 @@
 // The lines of the listing, and the blocks of a capture.
-use crate::give::give;
+use entries::give;
 use feed::Fed;
 use report::Printed;
 use report::Report;
@@ -10,7 +10,7 @@ ghost use lib.Dec.{eqb};
 ghost use lib.ListN.{length};
 ghost use Rattle.refusals.specs.Said.{gives};
 ghost use Rattle.feed.specs.Feed.{fedBlock};
-ghost use Rattle.addercoil.specs.Sent.{sent, given, into};
+ghost use Rattle.entries.specs.Sent.{sent, given, into};
 ghost use Rattle.addercoil.specs.Lines.{lineBuffer, noChoice, headerSaid, lineSaid, reportSaid, both, fedSaid, fedInto};
 
 // A line's buffer: one byte more than a line has room for, so that it always ends in a zero.

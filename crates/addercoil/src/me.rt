@@ -1,6 +1,6 @@
 // An ME by itself: the fields and readings of the 56 bits that a track keeps.
 ghost use mathlib.Core.Path.{_≡_};
-ghost use Rattle.addercoil.specs.Sent.{sent, into};
+ghost use Rattle.entries.specs.Sent.{sent, into};
 ghost use Rattle.addercoil.specs.Me.{meSaid};
 
 // What an ME of a key says, into 28 entries. Or 1, then 8, then 5.

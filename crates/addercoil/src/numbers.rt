@@ -1,31 +1,16 @@
 // A track and a message as rows of numbers, and a message back from its row.
-use crate::give::give;
 use encoder::Encoded;
 use messages::Accepted;
 use messages::Decoded;
 use messages::Frame;
-use track::Holding;
-use track::Track;
 ghost use mathlib.Core.Path.{_≡_};
 ghost use lib.ListN.{length};
 ghost use Rattle.messages.specs.Message.{decoded};
 ghost use Rattle.messages.specs.Accepted.{frameSays, decodedBy};
 ghost use Rattle.table.specs.Table.{lookedUp};
-ghost use Rattle.addercoil.specs.Sent.{sent, given, into};
-ghost use Rattle.addercoil.specs.Messages.{heldSaid, lookedSaid, messageSaid, encodedNumber, encodedAs, encodedFrom};
-
-pub(crate) fn give_held(out: &mut [u64], key: u32, t: Track, answer: Holding) -> u32
-    ensures { λ r. ⌜ sent r (now (out .exit)) ≡ given (now (out .entry)) (heldSaid key t answer) ⌝ }
-{
-    match answer {
-        Holding::Held => {
-            let row = rows::track_values(t, keys::traffic_in(key));
-            give(out, &row)
-        }
-        Holding::Unheld => give(out, &[0]),
-        Holding::Refused(r) => refusals::number(r),
-    }
-}
+ghost use Rattle.entries.specs.Sent.{sent, given, into};
+ghost use Rattle.rows.specs.Held.{lookedSaid};
+ghost use Rattle.addercoil.specs.Messages.{messageSaid, encodedNumber, encodedAs, encodedFrom};
 
 // The track of a key, zeros if it is not held, into 57 entries. Or 1, then 7.
 #[no_mangle]
@@ -38,7 +23,7 @@ pub extern "C" fn addercoil_look_up(table: &[u8], key: u32, out: &mut [u64]) -> 
     let looked = table::look_up(table, key);
     let answer = looked.answer;
     let track = looked.track;
-    give_held(out, key, track, answer)
+    rows::give_held(out, key, track, answer)
 }
 
 fn give_frame(out: &mut [u64], f: Frame) -> u32

@@ -1,7 +1,7 @@
 // Positions: encoded, paired, or read singly.
-use crate::give::give;
 use counts::LatitudeCount;
 use counts::LongitudeCount;
+use entries::give;
 use positions::Counts;
 use positions::Encoded;
 use positions::Format;
@@ -9,7 +9,7 @@ use positions::Found;
 use positions::Spot;
 use positions::Turn;
 ghost use mathlib.Core.Path.{_≡_};
-ghost use Rattle.addercoil.specs.Sent.{sent, given, into};
+ghost use Rattle.entries.specs.Sent.{sent, given, into};
 ghost use Rattle.addercoil.specs.Spots.{turnOf, formatOf, asCounts, countsSaid, spotValues, spotSaid, encodeSaid, pairSaid, singleSaid};
 
 fn turn_of(surface: u32) -> Turn

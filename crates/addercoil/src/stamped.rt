@@ -1,12 +1,12 @@
 // A message received with a stamp of a clock of 32 bits; the state is a lent array of two entries.
-use crate::give::bit;
 use crate::tables::heard_number;
+use entries::bit;
 use stamps::Noted;
 use stamps::Stamps;
 ghost use mathlib.Core.Path.{_≡_};
 ghost use lib.ListN.{length};
 ghost use Rattle.addercoil.specs.Lines.{both};
-ghost use Rattle.addercoil.specs.Sent.{sent};
+ghost use Rattle.entries.specs.Sent.{sent};
 ghost use Rattle.addercoil.specs.Stamps.{notedSent, receivedStamp};
 
 fn give_noted(state: &mut [u64], noted: Noted) -> u32

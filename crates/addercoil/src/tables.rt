@@ -1,6 +1,6 @@
 // The lent table: set-up, a received message, the clock, the site, and the walk of its keys.
-use crate::give::bit;
-use crate::give::give;
+use entries::bit;
+use entries::give;
 use positions::Spot;
 use rules::Clock;
 use rules::Heard;
@@ -10,7 +10,7 @@ use rules::Sited;
 use whereabouts::Site;
 ghost use mathlib.Core.Path.{_≡_};
 ghost use Rattle.table.specs.Table.{setUp, setUpAt, received, nextAbove, clockIn, siteIn};
-ghost use Rattle.addercoil.specs.Sent.{sent, given, into};
+ghost use Rattle.entries.specs.Sent.{sent, given, into};
 ghost use Rattle.addercoil.specs.Tables.{bytesFor, setUpNumber, setUpSent, heardNumber, receivedSent, clockSaid, siteValues, siteSaid, nextSaid};
 
 // How many bytes a table of so many places has: lend just as many. 0 if there is no such table.

@@ -2,3 +2,4 @@ pub mod Filling
 pub mod Refusing
 pub mod Twos
 pub mod Unique
+pub mod Ways

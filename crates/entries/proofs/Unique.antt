@@ -26,12 +26,15 @@ use Rattle.entries.proofs.text_reading.Kinds as text-reading-kinds
 use Rattle.entries.proofs.text_reading.Reads as text-reading
 use Prim.Native.Nat.{ℕ}
 use mathlib.Core.List.{List}
+use Rattle.entries.specs.Sent.{Sent, sent}
 use Rattle.entries.proofs.arrays.entry.Kinds as entry-kinds
 use Rattle.entries.proofs.arrays.entry.Reads as entry
 use Rattle.entries.proofs.arrays.fill.Kinds as fill-kinds
 use Rattle.entries.proofs.arrays.fill.Reads as fill
 use Rattle.entries.proofs.arrays.fill_bytes.Kinds as fill-bytes-kinds
 use Rattle.entries.proofs.arrays.fill_bytes.Reads as fill-bytes
+use Rattle.entries.proofs.arrays.give.Kinds as give-kinds
+use Rattle.entries.proofs.arrays.give.Reads as give
 use Rattle.entries.proofs.arrays.twos_of.Kinds as twos-of-kinds
 use Rattle.entries.proofs.arrays.twos_of.Reads as twos-of
 
@@ -76,6 +79,9 @@ fill-once κs args x y left left′ p q = p ∙ sym q
 
 pub fill-bytes-once : OneOutcome 2 fill-bytes-kinds.ps fill-bytes-kinds.r (List ℕ) (λ κs x left. left .0 .now) fill-bytes.Post
 fill-bytes-once κs args x y left left′ p q = p ∙ sym q
+
+pub give-once : OneOutcome 2 give-kinds.ps give-kinds.r Sent (λ κs x left. sent x (left .0 .now)) give.Post
+give-once κs args x y left left′ p q = p ∙ sym q
 
 pub twos-of-once : OneAnswer 0 twos-of-kinds.ps twos-of-kinds.r twos-of.Post
 twos-of-once κs args x y left left′ p q = p ∙ sym q

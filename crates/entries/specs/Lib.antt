@@ -1,3 +1,4 @@
 pub mod Arrays
 pub mod Means
+pub mod Sent
 pub mod Twos

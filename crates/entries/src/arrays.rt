@@ -1,7 +1,9 @@
 // What another language is handed: arrays that it lends, filled whole, and numbers below zero in 64 bits.
 ghost use mathlib.Core.Path.{_≡_};
 ghost use lib.ListN.{length, getD};
+ghost use Rattle.refusals.specs.Said.{gives};
 ghost use Rattle.entries.specs.Arrays.{filled};
+ghost use Rattle.entries.specs.Sent.{sent, given};
 ghost use Rattle.entries.specs.Twos.{twos};
 
 // The entry i of an array; 0 past its end.
@@ -20,6 +22,14 @@ pub fn fill(out: &mut [u64], values: &[u64])
         out[i] = entry(values, i);
         i += 1;
     }
+}
+
+// What a call hands out: fills the array with a list, then zeros, and answers 0.
+pub fn give(out: &mut [u64], list: &[u64]) -> u32
+    ensures { λ r. ⌜ sent r (now (out .exit)) ≡ given (now (out .entry)) (gives (now (list .entry))) ⌝ }
+{
+    fill(out, list);
+    0
 }
 
 fn byte_or_zero(values: &[u8], i: usize) -> u8

@@ -4,6 +4,7 @@ mod arrays;
 pub use arrays::entry;
 pub use arrays::fill;
 pub use arrays::fill_bytes;
+pub use arrays::give;
 pub use arrays::twos_of;
 use characters::CategorySet;
 use characters::Text;

@@ -11,13 +11,13 @@ use borrow.Fn.Kinds.{Dens, endedOf}
 use Rattle.positions.specs.declared.Spot.{Spot}
 use Rattle.messages.specs.declared.Decoded.{Decoded}
 use Rattle.whereabouts.specs.declared.Site.{Site}
-use Rattle.whereabouts.specs.Located.{noSite}
+use Rattle.whereabouts.specs.Located.{noSite, siteAt}
 use Rattle.rules.specs.declared.answers.SetUp.{SetUp}
 use Rattle.rules.specs.declared.answers.SetUp.the-variants.{Done}
 use Rattle.rules.specs.Form.{East}
 use Rattle.rules.specs.Rules as rules
 use Rattle.table.specs.Bytes.{bytes}
-use Rattle.table.specs.Table.{After, after, siteAt, setUp, setUpAt, received}
+use Rattle.table.specs.Table.{After, after, setUp, setUpAt, received}
 use Rattle.table.proofs.set_up.Kinds as set-up-kinds
 use Rattle.table.proofs.set_up.Reads as set-up
 use Rattle.table.proofs.set_up_at.Kinds as set-up-at-kinds

@@ -1,4 +1,5 @@
 pub mod From
+pub mod Held
 pub mod Rows
 pub mod Same
 pub mod Shown

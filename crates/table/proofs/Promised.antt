@@ -19,7 +19,7 @@ use Rattle.messages.specs.declared.Decoded.{Decoded}
 use Rattle.messages.specs.declared.Decoded.the-variants as decode
 use Rattle.messages.specs.Said.{said}
 use Rattle.whereabouts.specs.declared.Site.{Site}
-use Rattle.whereabouts.specs.Located.{noSite}
+use Rattle.whereabouts.specs.Located.{noSite, siteAt}
 use Rattle.track.specs.Said.{lookedSaid}
 use Rattle.rules.specs.declared.answers.Heard.{Heard}
 use Rattle.rules.specs.declared.answers.SetUp.{SetUp}
@@ -33,7 +33,7 @@ use Rattle.memory.specs.Offsets.{wholePlaces}
 use Rattle.table_bytes.specs.Layout.{clockOf, siteOf}
 use Rattle.table.specs.Bytes.{bytes}
 use Rattle.table.specs.Heard.{heardAs}
-use Rattle.table.specs.Table.{After, received, siteAt, clockIn, siteIn}
+use Rattle.table.specs.Table.{After, received, clockIn, siteIn}
 use Rattle.table.specs.View.{view}
 use Rattle.table.proofs.Lawful.{bytes-lawful}
 use Rattle.table.proofs.set_up.Kinds as set-up-kinds

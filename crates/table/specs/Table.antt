@@ -1,13 +1,12 @@
 -- The lent table in bytes: the rules of any form, at the bytes.
 use Prim.Native.Nat.{ℕ}
-use mathlib.Core.Bool.{true, cond}
+use mathlib.Core.Bool.{cond}
 use mathlib.Core.List.{List}
 use lib.ListN.{length}
 use Rattle.refusals.specs.declared.Refusal.the-variants.{Places}
 use Rattle.positions.specs.declared.Spot.{Spot}
 use Rattle.messages.specs.declared.Decoded.{Decoded}
-use Rattle.whereabouts.specs.declared.Site.{Site}
-use Rattle.whereabouts.specs.Located.{noSite}
+use Rattle.whereabouts.specs.Located.{noSite, siteAt}
 use Rattle.track.specs.declared.held.Looked.{Looked}
 use Rattle.rules.specs.Rules as rules
 use Rattle.memory.specs.Offsets.{wholePlaces}
@@ -29,9 +28,6 @@ after a s = rules.after a s
 
 abbrev pub setUp : List ℕ → After SetUp
 setUp s = rules.setUp bytes s noSite
-
-abbrev pub siteAt : Spot → Site
-siteAt spot = record { known = true; spot = spot }
 
 abbrev pub setUpAt : List ℕ → Spot → After SetUp
 setUpAt s spot = rules.setUp bytes s (siteAt spot)

@@ -26,6 +26,9 @@ noPosition = record { known = false; spot = record { latitude = pos 0; longitude
 abbrev pub noSite : Site
 noSite = record { known = false; spot = record { latitude = pos 0; longitude = 0 } }
 
+abbrev pub siteAt : Spot → Site
+siteAt spot = record { known = true; spot = spot }
+
 -- a time is at most so old; one after the clock has age 0
 abbrev pub isWithin : ℕ → ℕ → ℕ → Bool
 isWithin most clock time = leb (clock - time) most

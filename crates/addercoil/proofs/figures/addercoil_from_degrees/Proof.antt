@@ -1,7 +1,7 @@
 -- `addercoil::figures::addercoil_from_degrees` meets its contract: an array of a wrong length, or what the crate below answers.
 -- Assumes nothing.
 use Rattle.addercoil.proofs.Figured.{back-said}
-use Rattle.addercoil.proofs.Ways.{into-wrong, into-given}
+use Rattle.entries.proofs.Ways.{into-wrong, into-given}
 use borrow.Author.Needs.{needs}
 use Rattle.addercoil.proofs.figures.addercoil_from_degrees.Statement.{statement}
 use Rattle.addercoil.proofs.figures.addercoil_from_degrees.Tie as tie

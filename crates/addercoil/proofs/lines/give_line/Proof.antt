@@ -1,7 +1,7 @@
 -- `addercoil::lines::give_line` meets its contract: the buffer is filled with the bytes.
 -- Assumes nothing.
 use mathlib.Core.Path.{ap}
-use Rattle.addercoil.specs.Sent.{sent}
+use Rattle.entries.specs.Sent.{sent}
 use borrow.Author.Needs.{needs}
 use Rattle.addercoil.proofs.lines.give_line.Statement.{statement}
 use Rattle.addercoil.proofs.lines.give_line.Tie as tie

@@ -3,7 +3,7 @@
 use mathlib.Core.Path.{refl}
 use Rattle.report.specs.declared.Printed.{Printed}
 use Rattle.addercoil.specs.Lines.{printedSaid}
-use Rattle.addercoil.proofs.Ways.{given-as, given-number}
+use Rattle.entries.proofs.Ways.{given-as, given-number}
 use borrow.Author.Needs.{needs}
 use Rattle.addercoil.proofs.lines.give_report.Statement.{statement}
 use Rattle.addercoil.proofs.lines.give_report.Tie as tie

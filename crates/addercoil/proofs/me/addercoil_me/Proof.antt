@@ -10,7 +10,7 @@ use Rattle.layouts.specs.Bodies.{layoutOf, isTaken}
 use Rattle.rows.specs.Rows.{meRow, rowInto}
 use Rattle.addercoil.specs.Me.{meSaid}
 use Rattle.addercoil.proofs.Framed.{row-given, row-in, me-length}
-use Rattle.addercoil.proofs.Ways.{into-wrong, into-given, stopped, passed}
+use Rattle.entries.proofs.Ways.{into-wrong, into-given, stopped, passed}
 use borrow.Author.Needs.{needs}
 use Rattle.addercoil.proofs.me.addercoil_me.Statement.{statement}
 use Rattle.addercoil.proofs.me.addercoil_me.Tie as tie

@@ -5,9 +5,9 @@ use Rattle.messages.specs.declared.Decoded.{Decoded}
 use Rattle.messages.specs.Accepted.{decodedBy}
 use Rattle.messages.specs.Message.{decoded}
 use Rattle.messages.proofs.Acceptance.{frame-says}
-use Rattle.addercoil.specs.Sent.{given}
+use Rattle.entries.specs.Sent.{given}
 use Rattle.addercoil.specs.Messages.{messageSaid}
-use Rattle.addercoil.proofs.Ways.{into-wrong, into-given}
+use Rattle.entries.proofs.Ways.{into-wrong, into-given}
 use borrow.Author.Needs.{needs}
 use Rattle.addercoil.proofs.numbers.addercoil_decode.Statement.{statement}
 use Rattle.addercoil.proofs.numbers.addercoil_decode.Tie as tie

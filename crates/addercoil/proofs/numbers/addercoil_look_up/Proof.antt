@@ -1,8 +1,8 @@
 -- `addercoil::numbers::addercoil_look_up` meets its contract: an array of a wrong length, or what the table answers.
 -- Assumes nothing.
 use mathlib.Core.Path.{refl}
-use Rattle.addercoil.specs.Messages.{lookedSaid}
-use Rattle.addercoil.proofs.Ways.{into-wrong, into-right}
+use Rattle.rows.specs.Held.{lookedSaid}
+use Rattle.entries.proofs.Ways.{into-wrong, into-right}
 use borrow.Author.Needs.{needs}
 use Rattle.addercoil.proofs.numbers.addercoil_look_up.Statement.{statement}
 use Rattle.addercoil.proofs.numbers.addercoil_look_up.Tie as tie

@@ -4,7 +4,7 @@ use mathlib.Core.Path.{refl}
 use Rattle.messages.specs.declared.Accepted.{Accepted}
 use Rattle.messages.specs.Accepted.{decodedBy}
 use Rattle.addercoil.specs.Messages.{messageSaid}
-use Rattle.addercoil.proofs.Ways.{given-as, given-number}
+use Rattle.entries.proofs.Ways.{given-as, given-number}
 use borrow.Author.Needs.{needs}
 use Rattle.addercoil.proofs.numbers.give_message.Statement.{statement}
 use Rattle.addercoil.proofs.numbers.give_message.Tie as tie

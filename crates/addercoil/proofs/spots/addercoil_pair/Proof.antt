@@ -3,7 +3,7 @@
 use borrow.Author.Tests.{lt-ltb, le-ltb}
 use Rattle.addercoil.specs.Spots.{pairSaid}
 use Rattle.addercoil.proofs.Placed.{pair-said}
-use Rattle.addercoil.proofs.Ways.{into-wrong, into-given, stopped}
+use Rattle.entries.proofs.Ways.{into-wrong, into-given, stopped}
 use borrow.Author.Needs.{needs}
 use Rattle.addercoil.proofs.spots.addercoil_pair.Statement.{statement}
 use Rattle.addercoil.proofs.spots.addercoil_pair.Tie as tie

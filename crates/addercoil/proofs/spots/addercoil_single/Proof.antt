@@ -3,7 +3,7 @@
 use mir.Facts.{toZ-ofZ}
 use Rattle.addercoil.specs.Spots.{singleSaid}
 use Rattle.addercoil.proofs.Placed.{single-said}
-use Rattle.addercoil.proofs.Ways.{into-wrong, into-given, stopped}
+use Rattle.entries.proofs.Ways.{into-wrong, into-given, stopped}
 use borrow.Author.Needs.{needs}
 use Rattle.addercoil.proofs.spots.addercoil_single.Statement.{statement}
 use Rattle.addercoil.proofs.spots.addercoil_single.Tie as tie

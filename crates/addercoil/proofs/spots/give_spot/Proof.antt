@@ -2,7 +2,7 @@
 -- Assumes nothing.
 use mathlib.Core.Path.{refl}
 use Rattle.addercoil.specs.Spots.{spotSaid}
-use Rattle.addercoil.proofs.Ways.{given-as, given-number}
+use Rattle.entries.proofs.Ways.{given-as, given-number}
 use borrow.Author.Needs.{needs}
 use Rattle.addercoil.proofs.spots.give_spot.Statement.{statement}
 use Rattle.addercoil.proofs.spots.give_spot.Tie as tie

@@ -3,7 +3,7 @@
 use Prim.Native.Nat.{ℕ}
 use mathlib.Core.Path.{ap, ap₂, _∙_}
 use mathlib.Core.List.{[], _∷_}
-use Rattle.addercoil.specs.Sent.{sent}
+use Rattle.entries.specs.Sent.{sent}
 use Rattle.addercoil.proofs.Stamping.{written}
 use borrow.Author.Needs.{needs}
 use Rattle.addercoil.proofs.stamped.give_noted.Statement.{statement}

@@ -2,7 +2,7 @@
 -- Assumes nothing.
 use mathlib.Core.Path.{refl}
 use Rattle.addercoil.specs.Tables.{nextSaid}
-use Rattle.addercoil.proofs.Ways.{into-wrong, into-right, into-refused}
+use Rattle.entries.proofs.Ways.{into-wrong, into-right, into-refused}
 use borrow.Author.Needs.{needs}
 use Rattle.addercoil.proofs.tables.addercoil_next.Statement.{statement}
 use Rattle.addercoil.proofs.tables.addercoil_next.Tie as tie

@@ -1,13 +1,13 @@
--- `addercoil::replays::addercoil_replay` meets its contract: an array of a wrong length, or what is worked out without a site.
+-- `audit::replays::addercoil_replay` meets its contract: an array of a wrong length, or what is worked out without a site.
 -- Assumes nothing.
 use mathlib.Core.Path.{ap, _∙_}
 use Rattle.whereabouts.specs.declared.Site.{Site}
-use Rattle.addercoil.specs.Sent.{given}
-use Rattle.addercoil.specs.Replays.{replaySaid}
-use Rattle.addercoil.proofs.Ways.{into-wrong, into-given}
+use Rattle.entries.specs.Sent.{given}
+use Rattle.audit.specs.Replays.{replaySaid}
+use Rattle.entries.proofs.Ways.{into-wrong, into-given}
 use borrow.Author.Needs.{needs}
-use Rattle.addercoil.proofs.replays.addercoil_replay.Statement.{statement}
-use Rattle.addercoil.proofs.replays.addercoil_replay.Tie as tie
+use Rattle.audit.proofs.replays.addercoil_replay.Statement.{statement}
+use Rattle.audit.proofs.replays.addercoil_replay.Tie as tie
 
 returns : tie.Need-returns
 returns c = into-wrong 57 _ _ (c .if1 .taken)

@@ -1,10 +1,10 @@
--- `addercoil::give::give` meets its contract: the array is filled with the list.
+-- `entries::arrays::give` meets its contract: the array is filled with the list.
 -- Assumes nothing.
 use mathlib.Core.Path.{ap}
-use Rattle.addercoil.specs.Sent.{sent}
+use Rattle.entries.specs.Sent.{sent}
 use borrow.Author.Needs.{needs}
-use Rattle.addercoil.proofs.give.give.Statement.{statement}
-use Rattle.addercoil.proofs.give.give.Tie as tie
+use Rattle.entries.proofs.arrays.give.Statement.{statement}
+use Rattle.entries.proofs.arrays.give.Tie as tie
 
 fill-requires : tie.Need-fill-requires
 fill-requires c κs = search needs

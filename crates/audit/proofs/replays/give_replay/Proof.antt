@@ -1,13 +1,13 @@
--- `addercoil::replays::give_replay` meets its contract: 14, then 8 for the kind, or the row of what the plain method answers.
+-- `audit::replays::give_replay` meets its contract: 14, then 8 for the kind, or the row of what the plain method answers.
 -- Assumes nothing.
 use mathlib.Core.Path.{ap, _∙_}
 use Rattle.keys.specs.Keys.{keyFor}
 use Rattle.keys.specs.declared.Kind.{Kind}
 use Rattle.replay.specs.Replay.{replayed}
-use Rattle.addercoil.proofs.Replaying.{no-log, no-kind, worked-out}
+use Rattle.audit.proofs.Replaying.{no-log, no-kind, worked-out}
 use borrow.Author.Needs.{needs}
-use Rattle.addercoil.proofs.replays.give_replay.Statement.{statement}
-use Rattle.addercoil.proofs.replays.give_replay.Tie as tie
+use Rattle.audit.proofs.replays.give_replay.Statement.{statement}
+use Rattle.audit.proofs.replays.give_replay.Tie as tie
 
 is-log-requires : tie.Need-is-log-requires
 is-log-requires c κs = search needs

@@ -1,12 +1,10 @@
 // A track worked out again from a log: its kind comes as a number, and its row is that of a track that a table holds.
-use crate::numbers::give_held;
 use positions::Spot;
 use whereabouts::Site;
 ghost use mathlib.Core.Path.{_≡_};
-ghost use Rattle.whereabouts.specs.Located.{noSite};
-ghost use Rattle.table.specs.Table.{siteAt};
-ghost use Rattle.addercoil.specs.Sent.{sent, given, into};
-ghost use Rattle.addercoil.specs.Replays.{replaySaid};
+ghost use Rattle.whereabouts.specs.Located.{noSite, siteAt};
+ghost use Rattle.entries.specs.Sent.{sent, given, into};
+ghost use Rattle.audit.specs.Replays.{replaySaid};
 
 fn give_replay(out: &mut [u64], log: &[u8], kind: u32, address: u32, site: Site) -> u32
     ensures { λ r. ⌜ sent r (now (out .exit)) ≡ given (now (out .entry)) (replaySaid (now (log .entry)) kind address site) ⌝ }
@@ -21,7 +19,7 @@ fn give_replay(out: &mut [u64], log: &[u8], kind: u32, address: u32, site: Site)
     let looked = replay::replay(log, its, address, site);
     let answer = looked.answer;
     let track = looked.track;
-    give_held(out, keys::key_for(its, address), track, answer)
+    rows::give_held(out, keys::key_for(its, address), track, answer)
 }
 
 // The track of a kind and an address after the records of a log, zeros if it is not held, into 57 entries. Or 1, then 14, then 8.

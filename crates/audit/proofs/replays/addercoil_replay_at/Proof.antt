@@ -1,10 +1,10 @@
--- `addercoil::replays::addercoil_replay_at` meets its contract: an array of a wrong length, or what is worked out with the site.
+-- `audit::replays::addercoil_replay_at` meets its contract: an array of a wrong length, or what is worked out with the site.
 -- Assumes nothing.
 use mir.Facts.{toZ-ofZ}
-use Rattle.addercoil.proofs.Ways.{into-wrong, into-given}
+use Rattle.entries.proofs.Ways.{into-wrong, into-given}
 use borrow.Author.Needs.{needs}
-use Rattle.addercoil.proofs.replays.addercoil_replay_at.Statement.{statement}
-use Rattle.addercoil.proofs.replays.addercoil_replay_at.Tie as tie
+use Rattle.audit.proofs.replays.addercoil_replay_at.Statement.{statement}
+use Rattle.audit.proofs.replays.addercoil_replay_at.Tie as tie
 
 returns : tie.Need-returns
 returns c = into-wrong 57 _ _ (c .if1 .taken)

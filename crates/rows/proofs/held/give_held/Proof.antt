@@ -1,13 +1,13 @@
--- `addercoil::numbers::give_held` meets its contract: by whether the key is held.
+-- `rows::held::give_held` meets its contract: by whether the key is held.
 -- Assumes nothing.
 use mathlib.Core.Bool.{Bool}
 use mathlib.Core.Path.{refl, ap, _∙_}
 use Rattle.rows.specs.Tracks.{trackRow}
-use Rattle.addercoil.specs.Messages.{heldSaid}
-use Rattle.addercoil.proofs.Ways.{given-as, given-number, given-list}
+use Rattle.rows.specs.Held.{heldSaid}
+use Rattle.entries.proofs.Ways.{given-as, given-number, given-list}
 use borrow.Author.Needs.{needs}
-use Rattle.addercoil.proofs.numbers.give_held.Statement.{statement}
-use Rattle.addercoil.proofs.numbers.give_held.Tie as tie
+use Rattle.rows.proofs.held.give_held.Statement.{statement}
+use Rattle.rows.proofs.held.give_held.Tie as tie
 
 enum-told : tie.Need-enum-told
 enum-told c = search needs

@@ -7,7 +7,7 @@ use Rattle.refusals.specs.Said.{Said, number}
 use Rattle.keys.specs.Keys.{kindAt, isKind, keyFor}
 use Rattle.whereabouts.specs.declared.Site.{Site}
 use Rattle.replay.specs.Replay.{isLog, replayed}
-use Rattle.addercoil.specs.Messages.{lookedSaid}
+use Rattle.rows.specs.Held.{lookedSaid}
 
 -- 14, then 8 for a number that no kind has, or for what `replay` refuses; else the row of `addercoil_look_up`
 unfoldable pub replaySaid : List ℕ → ℕ → ℕ → Site → Said (List ℕ)

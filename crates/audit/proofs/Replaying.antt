@@ -9,9 +9,9 @@ use Rattle.keys.specs.Keys.{kindAt, isKind, keyFor}
 use Rattle.whereabouts.specs.declared.Site.{Site}
 use Rattle.track.specs.declared.held.Looked.{Looked}
 use Rattle.replay.specs.Replay.{isLog, replayed}
-use Rattle.addercoil.specs.Messages.{lookedSaid}
-use Rattle.addercoil.specs.Replays.{replaySaid}
-use Rattle.addercoil.specs.Sent.{Sent, sent, given}
+use Rattle.rows.specs.Held.{lookedSaid}
+use Rattle.audit.specs.Replays.{replaySaid}
+use Rattle.entries.specs.Sent.{Sent, sent, given}
 
 module _ (out log : List ℕ) (kind address : ℕ) (site : Site) {w : Bool} (w-is : w ≡ isLog (length log)) where
   abbrev Given : Sent → Type 0

@@ -1,0 +1,2 @@
+pub mod Replaying
+pub mod Unique
