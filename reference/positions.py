@@ -68,9 +68,8 @@ def pole_test(latitude):
 
 
 def hand_out(latitude, longitude):
-    """Exact results round to nearest, half up. A longitude that rounds to 2^32 becomes 0."""
-    east = nearest(longitude / UNIT)
-    return nearest(latitude / UNIT), 0 if east == 2**32 else east
+    """Exact results round to nearest, half up. Request R-11: no longitude of a zone and a count rounds to 2^32."""
+    return nearest(latitude / UNIT), nearest(longitude / UNIT)
 
 
 # Encode

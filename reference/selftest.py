@@ -381,8 +381,7 @@ def position_rows():
         refused(9, positions.pair, later, 0, 0, 98305, 0)
         refused(9, positions.pair, later, COUNTS - 1, 0, 32768, 0)
     equal("the site", positions.single(SURFACE, EVEN, 0, 0, north, east), (north, east))
-    equal("a longitude that rounds to 2^32", positions.hand_out(0, 360 - UNIT / 2), (0, 0))
-    equal("one that does not", positions.hand_out(0, 360 - UNIT * 51 / 100), (0, 2**32 - 1))
+    equal("short of a turn by more than half a unit", positions.hand_out(0, 360 - UNIT * 51 / 100), (0, 2**32 - 1))
     equal("half up, also under zero", positions.hand_out(-UNIT / 2, UNIT / 2), (0, 1))
     equal("j", (positions.latitude_zone(0, COUNTS - 1), positions.latitude_zone(COUNTS - 1, 0)), (-60, 59))
     for nl in range(1, 60):
@@ -391,6 +390,23 @@ def position_rows():
         _, longitude = positions.paired_place(ODD, even, 0, odd, COUNTS - 1)
         due = 360 - Fraction(360, max(nl - 1, 1) * COUNTS)
         equal("m of -NL, odd later: one count below a turn", longitude, due)
+
+
+def last_longitudes():
+    """Request R-11: every longitude is short of a turn by more than half a unit: every n, zone by zone, the outermost counts."""
+    for turn, shortfall, handed in ((AIRBORNE, 555, 555), (SURFACE, 138, 139)):
+        least, last = Fraction(360), 0
+        for n in range(1, 60):
+            for zone in range(n * 360 // turn):
+                for count in (0, 1, COUNTS - 2, COUNTS - 1):
+                    longitude = positions.in_zone(zone, count, n, turn)
+                    least, last = min(least, 360 - longitude), max(last, positions.hand_out(0, longitude)[1])
+            equal(f"the last of n = {n}", 360 - longitude, Fraction(turn, n * COUNTS))
+        true("more than half a unit", least > UNIT / 2)
+        equal("the least shortfall, whole units", floor(least / UNIT), shortfall)
+        equal("the last longitude handed out", last, 2**32 - handed)
+    for m in (2**33 - 1, 2**33):
+        equal(f"the last of {m} counts", positions.hand_out(0, 360 * Fraction(m - 1, m))[1], 2**32 - (m < 2**33))
 
 
 def published_encode(turn, i, latitude, longitude):
@@ -1079,6 +1095,7 @@ TESTS = [
     table,
     steps,
     position_rows,
+    last_longitudes,
     position_laws,
     position_ties,
     refusals_of_positions,

@@ -368,6 +368,20 @@ def either_side(chance, turn, i, whole):
                     yield asks_pair(later, (own[EVEN], *random_counts(chance, 1), own[ODD], *random_counts(chance, 1)))
 
 
+def last_longitudes():
+    """Request R-11: the longitudes nearest below a turn, of every n: the last counts of the last zone, paired, and read from either side of 0."""
+    for nl in range(1, 60):
+        latitude = band(nl)
+        even, _, odd, _ = both_ways(latitude, 0)
+        for count in (COUNTS - 1, COUNTS - 2):
+            yield from (asks_pair(later, (even, count, odd, count)) for later in BOTH)
+            for turn in BOTH_TURNS:
+                for i in BOTH:
+                    latitude_count, _ = encode(turn, i, latitude, 0)
+                    for longitude in (0, LAST):
+                        yield asks_single(turn, i, (latitude_count, count), (latitude, longitude))
+
+
 def asked():
     """The questions asked, each once."""
     chance = Random(4)
@@ -385,6 +399,7 @@ def asked():
         random_cases(chance),
         other_roundings(chance),
         figures.cases(chance),
+        last_longitudes(),
     ]
     return dict.fromkeys(tuple(question) for family in families for question in family)
 

@@ -4,7 +4,6 @@ use Prim.Native.Nat.{ℕ, zero, suc, _-_, _*_, _^_, _≤_, _<_}
 use mathlib.Core.Path.{_≡_, refl, sym, ap, _∙_}
 use mathlib.Core.Bool.{true, _&&_}
 use mathlib.Core.List.{List, [], _∷_}
-use native.Mathlib.Nat.{mod-lt}
 use native.Mathlib.Omega.{arith}
 use lib.Dec.{leb, eqb}
 use lib.IntN.{ℤ, natAbs, subℕ}
@@ -25,14 +24,11 @@ use Rattle.positions.specs.declared.Found.the-variants.{At, Refused}
 use Rattle.positions.specs.Positions.{
   units,
   latitudeZones,
-  longitudeZones,
   allRound,
   poleToPole,
   rounded,
-  roundedTurn,
   inside,
   pairLatitude,
-  pairLongitude,
   pairNL,
   pairSpot,
   pairFound,
@@ -44,8 +40,10 @@ use Rattle.positions.specs.Positions.{
   singly,
 }
 use Rattle.positions.specs.Code.{nearestℕ}
+use Rattle.positions.specs.Rounded.{HandedBy, pairZones, pairExact, singleZones, singleExact, lastShort}
 use Rattle.positions.proofs.Shift.{abs-is, lifted, lifted-is}
-use Rattle.positions.proofs.Naturals.{rounded-is, rounded-low, rounded-high, rounded-turn}
+use Rattle.positions.proofs.Naturals.{rounded-is, rounded-low, rounded-high}
+use Rattle.positions.proofs.Short.{paired-handed, singly-handed, last-room}
 use Rattle.layouts.specs.declared.surface.Surface.{Surface}
 use Rattle.layouts.specs.declared.airborne.Airborne.{Airborne}
 use Rattle.layouts.specs.declared.bodies.Body.{Body}
@@ -104,43 +102,27 @@ rounded-pole M r p e =
     let is : subℕ (lifted r M) M ≡ r = lifted-is r M (omega arith) in
     ap (λ (z : ℤ). poleToPole (rounded M z)) (sym is) ∙ rounded-up (lifted r M) M p (rw is h)
 
-turn-lt : (M v : ℕ) → roundedTurn M v < 2 ^ 32
-turn-lt M v = rw (rounded-turn M v) (mod-lt (nearestℕ (v * units) M) (omega arith))
-
-record FitsSpot (s : Spot) : Type 0 where
-  latitude : poleToPole (s .latitude) ≡ true
-  longitude : s .longitude < 2 ^ 32
-
-abbrev FitsFound : Found → Type 0
-FitsFound (At s) = FitsSpot s
-FitsFound (Refused r) = Unit
+-- its latitude is from pole to pole
+abbrev PolarFound : Found → Type 0
+PolarFound (At s) = poleToPole (s .latitude) ≡ true
+PolarFound (Refused r) = Unit
 
 pair-inside : (f : Format) (a b : ℕ) → (inside (60 * 131072) (pairLatitude 131072 Even a b) && inside (59 * 131072) (pairLatitude 131072 Odd a b)) ≡ true
     → poleToPole (rounded (latitudeZones f * 131072) (pairLatitude 131072 f a b)) ≡ true
 pair-inside Even a b e = rounded-pole (60 * 131072) (pairLatitude 131072 Even a b) (omega arith) (each (inside (60 * 131072) (pairLatitude 131072 Even a b)) _ e .0)
 pair-inside Odd a b e = rounded-pole (59 * 131072) (pairLatitude 131072 Odd a b) (omega arith) (each (inside (60 * 131072) (pairLatitude 131072 Even a b)) _ e .1)
 
-pair-spot-fits : (f : Format) (a b NL even odd : ℕ)
-    → (inside (60 * 131072) (pairLatitude 131072 Even a b) && inside (59 * 131072) (pairLatitude 131072 Odd a b)) ≡ true
-    → FitsSpot (pairSpot 131072 f (pairLatitude 131072 f a b) NL even odd)
-unfolding pairSpot
-pair-spot-fits f a b NL even odd e =
-    record { latitude = pair-inside f a b e; longitude = turn-lt (longitudeZones f NL * 131072) (pairLongitude 131072 f NL even odd) }
-
-pair-fits : (even odd : Counts) (later : Format) → FitsFound (pairFound 131072 even odd later)
-unfolding pairFound
-pair-fits even odd later =
+paired-polar : (even odd : Counts) (later : Format) → PolarFound (paired 131072 even odd later)
+unfolding pairFound pairSpot
+paired-polar even odd later =
     let a = even .latitude .0 in
     let b = odd .latitude .0 in
-    by-test FitsFound (inside (60 * 131072) (pairLatitude 131072 Even a b) && inside (59 * 131072) (pairLatitude 131072 Odd a b)) _ (Refused Latitude)
-    (λ e.
-    by-test FitsFound (eqb (pairNL 131072 Even a b) (pairNL 131072 Odd a b)) _ (Refused Zones)
-    (λ _. pair-spot-fits later a b (pairNL 131072 Even a b) (even .longitude .0) (odd .longitude .0) e)
+    by-test PolarFound (fit 131072 even && fit 131072 odd) (pairFound 131072 even odd later) (Refused Field)
+    (λ _.
+    by-test PolarFound (inside (60 * 131072) (pairLatitude 131072 Even a b) && inside (59 * 131072) (pairLatitude 131072 Odd a b)) _ (Refused Latitude)
+    (λ e. by-test PolarFound (eqb (pairNL 131072 Even a b) (pairNL 131072 Odd a b)) _ (Refused Zones) (λ _. pair-inside later a b e) (λ _. tt))
     (λ _. tt))
     (λ _. tt)
-
-paired-fits : (even odd : Counts) (later : Format) → FitsFound (paired 131072 even odd later)
-paired-fits even odd later = by-test FitsFound (fit 131072 even && fit 131072 odd) _ (Refused Field) (λ _. pair-fits even odd later) (λ _. tt)
 
 zones-pos : (k : Turn) (f : Format) → 0 < allRound k (latitudeZones f) * 131072
 unfolding allRound
@@ -149,19 +131,39 @@ zones-pos turn.Airborne Odd = omega arith
 zones-pos turn.Surface Even = omega arith
 zones-pos turn.Surface Odd = omega arith
 
-near-fits : (N : ℕ) (s : Spot) (c : Counts) (k : Turn) (f : Format) → 0 < N * 131072 → FitsFound (nearFound 131072 N s c k f)
+singly-polar : (s : Spot) (c : Counts) (k : Turn) (f : Format) → PolarFound (singly 131072 s c k f)
 unfolding nearFound nearSpot
-near-fits N s c k f p =
+singly-polar s c k f =
+    let N = allRound k (latitudeZones f) in
     let r = near 131072 N (s .latitude) (c .latitude .0) in
-    by-test FitsFound (inside (N * 131072) r) _ (Refused Latitude)
-    (λ e. record { latitude = rounded-pole (N * 131072) r p e; longitude = turn-lt _ _ })
+    by-test PolarFound (fit 131072 c && poleToPole (s .latitude)) (nearFound 131072 N s c k f) (Refused Field)
+    (λ _. by-test PolarFound (inside (N * 131072) r) _ (Refused Latitude) (λ e. rounded-pole (N * 131072) r (zones-pos k f) e) (λ _. tt))
     (λ _. tt)
+
+-- the spot that is found fits its bytes: from pole to pole, and short of a turn
+record FitsSpot (s : Spot) : Type 0 where
+  latitude : poleToPole (s .latitude) ≡ true
+  longitude : s .longitude < 2 ^ 32
+
+abbrev FitsFound : Found → Type 0
+FitsFound (At s) = FitsSpot s
+FitsFound (Refused r) = Unit
+
+spot-fits : (N r u : ℕ) (found : Found) → PolarFound found → HandedBy 131072 N r (suc u) found → FitsFound found
+spot-fits N r u (At s) p h = record { latitude = p; longitude = omega arith }
+spot-fits N r u (Refused e) p h = tt
+
+paired-fits : (even odd : Counts) (later : Format) → FitsFound (paired 131072 even odd later)
+paired-fits even odd later =
+    spot-fits (pairZones 131072 even odd later) (pairExact 131072 even odd later) 0 (paired 131072 even odd later)
+    (paired-polar even odd later)
+    (paired-handed 131072 0 (omega arith) even odd later)
 
 singly-fits : (s : Spot) (c : Counts) (k : Turn) (f : Format) → FitsFound (singly 131072 s c k f)
 singly-fits s c k f =
-    by-test FitsFound (fit 131072 c && poleToPole (s .latitude)) _ (Refused Field)
-    (λ _. near-fits (allRound k (latitudeZones f)) s c k f (zones-pos k f))
-    (λ _. tt)
+    spot-fits (singleZones 131072 s c k f) (singleExact 131072 s c k f) (lastShort k - 1) (singly 131072 s c k f)
+    (singly-polar s c k f)
+    (singly-handed 131072 (lastShort k - 1) k (last-room k) (omega arith) s c f)
 
 -- ---- the position
 

@@ -30,7 +30,7 @@ pub same : {p q : ℤ} {u v : ℕ} → p ≡ q → u ≡ v → spot p u ≡ spot
 same e f = λ i. spot (e i) (f i)
 
 -- the parts of a pair
-pub own-small : (f : Format) {even odd : ℕ} → even < 131072 → odd < 131072 → own f even odd < 131072
+pub own-small : (f : Format) {P even odd : ℕ} → even < P → odd < P → own f even odd < P
 own-small Even p q = p
 own-small Odd p q = q
 
@@ -65,10 +65,10 @@ module _ (k : Turn) (f : Format) (up longitude lz z y NL lo n x : ℕ) where
   unfolding countsOf count spotZones modulo
   counts elz ez ey eNL elo en ex = rw (← elz, ← ez, ey, ← eNL, ← elo, ← en, ex, sub-modulo y z 131072 (lit< tt))
 
-pub fit-counts : (c : Counts) → fit 131072 c ≡ true → (c .latitude .0 < 131072) × (c .longitude .0 < 131072)
-fit-counts c e =
-    let t = each (ltb (c .latitude .0) 131072) (ltb (c .longitude .0) 131072) e in
-    (ltb-true (c .latitude .0) 131072 (t .0), ltb-true (c .longitude .0) 131072 (t .1))
+pub fit-counts : (P : ℕ) (c : Counts) → fit P c ≡ true → (c .latitude .0 < P) × (c .longitude .0 < P)
+fit-counts P c e =
+    let t = each (ltb (c .latitude .0) P) (ltb (c .longitude .0) P) e in
+    (ltb-true (c .latitude .0) P (t .0), ltb-true (c .longitude .0) P (t .1))
 
 -- what a pair finds, with r and s the two latitudes one turn up
 module _ (even odd : Counts) (r s : ℕ) (er : Paired Even (even .latitude .0) (odd .latitude .0) r) (es : Paired Odd (even .latitude .0) (odd .latitude .0) s) where

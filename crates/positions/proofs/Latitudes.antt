@@ -116,9 +116,9 @@ first-range n (e ∷ es) a d h = by (leb a (e * d)) (first-range (n - 1) es a d 
     by true r = (omega arith, omega arith)
     by false r = (omega arith, omega arith)
 
-pub count-range : (a d : ℕ) → (0 < first 59 latitudes a d) × (first 59 latitudes a d ≤ 59)
-unfolding latitudes
-count-range a d = first-range 59 latitudes a d (lit< tt)
+pub zones-range : (M : ℕ) (r : ℤ) → (0 < zoneCount M r) × (zoneCount M r ≤ 59)
+unfolding zoneCount latitudes
+zones-range M r = first-range 59 latitudes (natAbs r * 36000000000) M (lit< tt)
 
 -- ---- the code's table for the paper's
 

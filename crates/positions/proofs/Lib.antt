@@ -10,6 +10,7 @@ pub mod Promised
 pub mod RoundTrip
 pub mod Rounding
 pub mod Shift
+pub mod Short
 pub mod Signed
 pub mod Trip
 pub mod Unique

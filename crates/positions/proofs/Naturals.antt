@@ -96,8 +96,8 @@ unfolding nearestℕ
 rounded-high r M p h = le-of-suc-le-suc (div-lt-iff-lt-mul {k = 2 * M} {y = 5368709121} (omega arith) .1 (omega arith))
 
 -- and a longitude
-pub rounded-turn : (M v : ℕ) → roundedTurn M v ≡ nearestℕ (v * units) M % units
-unfolding roundedTurn rounded nearest floor modulo nearestℕ
+pub rounded-turn : (M v : ℕ) → roundedTurn M v ≡ nearestℕ (v * units) M
+unfolding roundedTurn rounded nearest floor nearestℕ
 rounded-turn M v = refl
 
 -- the zone near a reference, of a number k turns up

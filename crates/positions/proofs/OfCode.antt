@@ -1,5 +1,6 @@
 -- Positions of the code: what meets the contracts of `encode` and `pair`, or of `encode` and `single`, one after the other, gives the rounded place back, and that is
--- within half a count of the true one. By the same of the definitions, at counts of 2^17; that `encode` gave counts says that the latitude is from pole to pole.
+-- within half a count of the true one; and no spot that `pair` or `single` gives has lost anything of its longitude. By the same of the definitions, at counts of
+-- 2^17; that `encode` gave counts says that the latitude is from pole to pole.
 -- Assumes nothing.
 use mathlib.Core.Path.{_≡_, refl, sym, ap, _∙_, subst}
 use mathlib.Core.Bool.{Bool, true, false, cond, _&&_}
@@ -22,12 +23,13 @@ use Rattle.positions.specs.declared.Found.the-variants.{At, Refused}
 use Rattle.positions.specs.Whole.{modulo}
 use Rattle.positions.specs.Zones.{zoneCount}
 use Rattle.positions.specs.Positions.{units, latitudeZones, longitudeZones, allRound, whole, spotZones, countsOf, poleToPole, roundedTurn, inside, fit, paired, near, nearSpot, nearFound}
-use Rattle.positions.specs.Rounded.{roundedNL, roundedSpot, roundTrip, Nearby, HalfACount}
+use Rattle.positions.specs.Rounded.{roundedNL, roundedSpot, roundTrip, Nearby, Handed, HandedBy, pairZones, pairExact, singleZones, singleExact, lastShort, HalfACount}
 use Rattle.fields.proofs.Bools.{each}
 use Rattle.positions.proofs.Answers.{fit-counts}
 use Rattle.positions.proofs.RoundTrip.{round-trip}
 use Rattle.positions.proofs.Half.{half-a-count, half-around}
 use Rattle.positions.proofs.Nearby.{near-alone}
+use Rattle.positions.proofs.Short.{paired-handed, singly-handed, last-room}
 use Rattle.positions.proofs.encode.Reads as encode
 use Rattle.positions.proofs.pair.Reads as pair
 use Rattle.positions.proofs.single.Reads as single
@@ -67,6 +69,22 @@ at-near : (t u : Bool) (r p : Spot) → At r ≡ cond t (cond u (At p) (Refused 
 at-near true true r p e = (refl, at-same r p e)
 at-near true false r p e = absurd (at-none r Latitude e)
 at-near false u r p e = absurd (at-none r Field e)
+
+-- ---- no longitude is a turn
+
+-- whatever spot a pair gives: its longitude is the pair's exact one rounded to nearest, all of it, and 555 units short of a turn or more
+pub code-pair-handed : (even odd : Counts) (later : Format) (r : Spot) → PairMet even odd later (At r)
+    → Handed 131072 (pairZones 131072 even odd later) (pairExact 131072 even odd later) 555 (r .longitude)
+code-pair-handed even odd later r pr =
+    subst (HandedBy 131072 (pairZones 131072 even odd later) (pairExact 131072 even odd later) 555) (sym pr) (paired-handed 131072 554 (omega arith) even odd later)
+
+-- and so of a single message, with 139 on the surface
+pub code-single-handed : (reference : Spot) (c : Counts) (k : Turn) (f : Format) (r : Spot) → SingleMet reference c k f (At r)
+    → Handed 131072 (singleZones 131072 reference c k f) (singleExact 131072 reference c k f) (lastShort k) (r .longitude)
+code-single-handed reference c Airborne f r pr =
+    subst (HandedBy 131072 (singleZones 131072 reference c Airborne f) (singleExact 131072 reference c Airborne f) 555) (sym pr) (singly-handed 131072 554 Airborne (last-room Airborne) (lit< tt) reference c f)
+code-single-handed reference c Surface f r pr =
+    subst (HandedBy 131072 (singleZones 131072 reference c Surface f) (singleExact 131072 reference c Surface f) 139) (sym pr) (singly-handed 131072 138 Surface (last-room Surface) (lit< tt) reference c f)
 
 -- ---- there are zones
 
@@ -140,7 +158,7 @@ module _ (s : Spot) where
       code-half-a-count-singly pe pr by-latitude z turned by-longitude =
           let y = near 131072 N (reference .latitude) (c .latitude .0) in
           let found = at-near (fit 131072 c && poleToPole (reference .latitude)) (inside (N * 131072) y) r _ pr in
-          let small = fit-counts c (each (fit 131072 c) (poleToPole (reference .latitude)) (found .0) .0) in
+          let small = fit-counts 131072 c (each (fit 131072 c) (poleToPole (reference .latitude)) (found .0) .0) in
           let same : whole 131072 N (s .latitude) ≡ y = near-alone 131072 N (reference .latitude) (c .latitude .0) (lit< tt) some-latitude (small .0) (whole 131072 N (s .latitude)) by-latitude in
           let round : z ≡ near 131072 n (pos (reference .longitude)) (c .longitude .0) = near-alone 131072 n (pos (reference .longitude)) (c .longitude .0) (lit< tt) some-longitude (small .1) z by-longitude in
           let spot : r ≡ nearSpot 131072 N (whole 131072 N (s .latitude)) n (reference .longitude) (c .longitude .0) =

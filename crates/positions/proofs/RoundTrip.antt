@@ -4,10 +4,9 @@
 use mathlib.Core.Path.{_≡_, refl, sym, ap}
 use mathlib.Core.Bool.{Bool, true, false, cond}
 use Prim.Native.Nat.{ℕ, _*_, _≤_, _<_}
-use native.Mathlib.Nat.{mod-lt}
 use native.Mathlib.Omega.{arith}
 use lib.Dec.{T, eqb, eqb→eq, lit<}
-use lib.IntN.{ℤ, pos, negsuc, natAbs}
+use lib.IntN.{pos}
 use borrow.Author.Tests.{lt-ltb}
 use Rattle.positions.specs.declared.Spot.{Spot}
 use Rattle.positions.specs.declared.Turn.the-variants.{Airborne}
@@ -19,7 +18,8 @@ use Rattle.positions.specs.Whole.{modulo}
 use Rattle.positions.specs.Zones.{zoneCount}
 use Rattle.positions.specs.Positions.{latitudeZones, longitudeZones, allRound, whole, count, spotZones, countsOf, poleToPole, inside, pairLatitude, pairLongitude, pairNL, pairSpot, pairFound, fit, paired}
 use Rattle.positions.specs.Rounded.{roundedNL, roundedSpot, roundTrip}
-use Rattle.positions.proofs.Latitudes.{count-range}
+use Rattle.positions.proofs.Shift.{modulo-lt}
+use Rattle.positions.proofs.Latitudes.{zones-range}
 use Rattle.positions.proofs.Trip.{latitude-again, longitude-again, whole-inside}
 
 -- an airborne turn is all round
@@ -27,18 +27,9 @@ air : (Z : ℕ) → allRound Airborne Z ≡ Z
 unfolding allRound
 air Z = omega arith
 
-range : (M : ℕ) (r : ℤ) → (0 < zoneCount M r) × (zoneCount M r ≤ 59)
-unfolding zoneCount
-range M r = count-range (natAbs r * 36000000000) M
-
 if-true : {A : Type 0} (b : Bool) (x y z : A) → (T b → x ≡ y) → cond b x z ≡ cond b y z
 if-true true x y z h = h tt
 if-true false x y z h = refl
-
-modulo-lt : (z : ℤ) (d : ℕ) → 0 < d → modulo z d < d
-unfolding modulo
-modulo-lt (pos a) d p = mod-lt a p
-modulo-lt (negsuc a) d p = omega arith
 
 -- counts of a size that is a multiple of 4 above 118; a spot from pole to pole, any longitude; either message later
 module _ (q : ℕ) (large : 118 < 4 * q) (s : Spot) (t : T (poleToPole (s .latitude))) where
@@ -67,7 +58,7 @@ module _ (q : ℕ) (large : 118 < 4 * q) (s : Spot) (t : T (poleToPole (s .latit
 
   range-of : (0 < roundedNL (4 * q) Even (s .latitude)) × (roundedNL (4 * q) Even (s .latitude) ≤ 59)
   unfolding roundedNL
-  range-of = range (60 * (4 * q)) (whole (4 * q) 60 (s .latitude))
+  range-of = zones-range (60 * (4 * q)) (whole (4 * q) 60 (s .latitude))
 
   -- with one NL for both, the spot of either message
   module _ (NL : ℕ) (same : (f : Format) → roundedNL (4 * q) f (s .latitude) ≡ NL) where

@@ -107,7 +107,13 @@ sub-floor a k d p =
     ap (λ (z : ℤ). floor z d) (sub-neg a (k * d) h) ∙ ap negsuc {x = (k * d - suc a) / d} {y = k - suc (a / d)} (div-eq-of-lt-le d l u) ∙ sym (sub-neg (a / d) k q))
     (order a (k * d))
 
--- its remainder: whole divisors added change nothing
+-- its remainder is below the divisor
+pub modulo-lt : (z : ℤ) (d : ℕ) → 0 < d → modulo z d < d
+unfolding modulo
+modulo-lt (pos a) d p = mod-lt a p
+modulo-lt (negsuc a) d p = omega arith
+
+-- and whole divisors added change nothing
 pub sub-modulo : (a k d : ℕ) → 0 < d → modulo (subℕ a (k * d)) d ≡ a % d
 unfolding modulo
 sub-modulo a k d p =

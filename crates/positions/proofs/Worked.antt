@@ -1,7 +1,7 @@
--- Worked positions at the edges of 8, 10 and 270 degrees, and beside the right answers the wrong ones that document 01's slips would give: each computed, so each holds by `refl`.
+-- Worked positions at the edges of 8, 10, 270 degrees and a turn, and beside the right answers the wrong ones that document 01's slips would give: each computed, so each holds by `refl`.
 -- Assumes nothing.
 use mathlib.Core.Path.{_≡_, refl}
-use Prim.Native.Nat.{ℕ, suc, _*_, _/_}
+use Prim.Native.Nat.{ℕ, suc, _-_, _*_, _/_}
 use lib.IntN.{ℤ, pos, negsuc, negℤ, _+ℤ_, _*ℤ_}
 use Rattle.refusals.specs.declared.Refusal.the-variants.{Field, Zones}
 use Rattle.positions.specs.declared.Spot.{Spot}
@@ -74,3 +74,18 @@ pole-itself = refl
 pub not-first-above : (zoneCount (60 * 131072) (pos 1900544) ≡ 2) × (zoneCount (60 * 131072) (pos 1900545) ≡ 1)
 unfolding latitudes first zoneCount
 not-first-above = (refl, refl)
+
+-- the last longitudes of all: of 59 zones in the air, by a pair and singly, 555 units short of a turn; of 236 on the surface 139; of one zone 32,768 and 8,192
+pub last-longitudes :
+    (paired 131072 (counts 0 131071) (counts 0 131071) Even ≡ At (spot (pos 0) 4294966741))
+    × (singly 131072 (spot (pos 0) 0) (counts 0 131071) Airborne Even ≡ At (spot (pos 0) 4294966741))
+    × (singly 131072 (spot (pos 0) 0) (counts 0 131071) Surface Even ≡ At (spot (pos 0) 4294967157))
+    × (singly 131072 (spot (pos 1073741824) 0) (counts 0 131071) Airborne Even ≡ At (spot (pos 1073741824) 4294934528))
+    × (singly 131072 (spot (pos 1073741824) 0) (counts 0 131071) Surface Even ≡ At (spot (pos 1073741824) 4294959104))
+unfolding floor modulo nearest latitudes first zoneCount allRound rounded roundedTurn inside pairZone inZone less360 pairLatitude pairLongitude pairNL pairSpot pairFound nearZone near nearSpot nearFound
+last-longitudes = (refl, refl, refl, refl, refl)
+
+-- a circle of 2^33 counts would be too fine: its last count is half a unit short, and rounds to a turn
+pub half-a-unit-is-needed : roundedTurn (2 * units) (2 * units - 1) ≡ units
+unfolding floor nearest rounded roundedTurn
+half-a-unit-is-needed = refl

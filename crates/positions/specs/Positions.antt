@@ -84,9 +84,9 @@ encoded P s k f = cond (poleToPole (s .latitude)) (As (countsOf P s k f)) (NotEn
 unfoldable pub rounded : ℕ → ℤ → ℤ
 rounded M r = nearest (r *ℤ pos units) M
 
--- a longitude from 0; one that rounds to 2^32 becomes 0
+-- a longitude from 0: r and so its rounded figure are never below zero
 unfoldable pub roundedTurn : ℕ → ℕ → ℕ
-roundedTurn M r = modulo (rounded M (pos r)) units
+roundedTurn M r = natAbs (rounded M (pos r))
 
 -- whether the latitude r / M of 360 degrees is in -90..90 degrees
 unfoldable pub inside : ℕ → ℤ → Bool

@@ -1,18 +1,21 @@
--- What the theorems speak of: the rounded place of a message, how far apart two places are, and the positions near a reference.
+-- What the theorems speak of: the rounded place of a message, how far apart two places are, the positions near a reference, and how far a longitude is short of a turn.
 use mathlib.Core.Path.{_≡_}
 use mathlib.Core.Bool.{cond}
-use Prim.Native.Nat.{ℕ, _+_, _-_, _*_, _≤_, min}
+use Prim.Native.Nat.{ℕ, _+_, _-_, _*_, _≤_, _<_, min}
 use lib.IntN.{ℤ, pos, natAbs, _+ℤ_, _-ℤ_, _*ℤ_}
 use lib.Dec.{eqb}
 use Rattle.refusals.specs.declared.Refusal.the-variants.{Zones}
 use Rattle.positions.specs.declared.Spot.{Spot}
+use Rattle.positions.specs.declared.Turn.{Turn}
+use Rattle.positions.specs.declared.Turn.the-variants.{Airborne, Surface}
 use Rattle.positions.specs.declared.Format.{Format}
 use Rattle.positions.specs.declared.Format.the-variants.{Even, Odd}
+use Rattle.positions.specs.declared.Counts.{Counts}
 use Rattle.positions.specs.declared.Found.{Found}
 use Rattle.positions.specs.declared.Found.the-variants.{At, Refused}
 use Rattle.positions.specs.Whole.{modulo}
 use Rattle.positions.specs.Zones.{zoneCount}
-use Rattle.positions.specs.Positions.{units, latitudeZones, longitudeZones, whole, rounded, roundedTurn}
+use Rattle.positions.specs.Positions.{units, latitudeZones, longitudeZones, allRound, whole, rounded, roundedTurn, pairLongitude, pairNL, near}
 
 -- NL of the rounded latitude of the airborne message of format f
 unfoldable pub roundedNL : ℕ → Format → ℤ → ℕ
@@ -45,6 +48,49 @@ pub record Nearby (P N : ℕ) (reference : ℤ) (c : ℕ) (z : ℤ) : Type 0 whe
   pub counted : modulo z P ≡ c
   pub within : 2 * natAbs (beyond P N reference z) ≤ units * P
   pub upper : pos 2 *ℤ beyond P N reference z +ℤ pos (units * P) ≡ pos 0 → ⊥
+
+-- the exact longitude r / M of 360 degrees is short of them by more than h halves of a unit
+abbrev pub ShortBy : ℕ → ℕ → ℕ → Type 0
+ShortBy h M r = 2 * (r * units) + h * M < 2 * (M * units)
+
+-- of counts of P and at most `most` zones to 360 degrees, a count is more than u units and a half
+abbrev pub Room : ℕ → ℕ → ℕ → Type 0
+Room P u most = (2 * u + 1) * (most * P) < 2 * units
+
+-- the longitude that is handed out for r counts of P, of N zones to 360 degrees: that exact one, less than a turn, is rounded to nearest and nothing else, and the
+-- figure is u units short of a turn, or more
+pub record Handed (P N r u longitude : ℕ) : Type 0 where
+  pub within : r < N * P
+  pub out : pos longitude ≡ rounded (N * P) (pos r)
+  pub short : longitude + u ≤ units
+
+-- .. in whatever spot is found
+abbrev pub HandedBy : ℕ → ℕ → ℕ → ℕ → Found → Type 0
+HandedBy P N r u (At s) = Handed P N r u (s .longitude)
+HandedBy P N r u (Refused e) = Unit
+
+-- the zones of a pair and its exact longitude, with NL that of both latitudes
+abbrev pub pairZones : ℕ → Counts → Counts → Format → ℕ
+pairZones P even odd later = longitudeZones later (pairNL P Even (even .latitude .0) (odd .latitude .0))
+
+abbrev pub pairExact : ℕ → Counts → Counts → Format → ℕ
+pairExact P even odd later = pairLongitude P later (pairNL P Even (even .latitude .0) (odd .latitude .0)) (even .longitude .0) (odd .longitude .0)
+
+-- .. and of a single message, with NL that of the decoded latitude
+abbrev pub singleZones : ℕ → Spot → Counts → Turn → Format → ℕ
+singleZones P reference c k f =
+    let N = allRound k (latitudeZones f) in
+    allRound k (longitudeZones f (zoneCount (N * P) (near P N (reference .latitude) (c .latitude .0))))
+
+abbrev pub singleExact : ℕ → Spot → Counts → Turn → Format → ℕ
+singleExact P reference c k f =
+    let n = singleZones P reference c k f in
+    modulo (near P n (pos (reference .longitude)) (c .longitude .0)) (n * P)
+
+-- so many units short of 360 degrees is the last longitude of 59 zones to a turn and counts of 2^17, as it is handed out
+abbrev pub lastShort : Turn → ℕ
+lastShort Airborne = 555
+lastShort Surface = 139
 
 -- s was encoded and r came back: r is an exact place rounded to 2^-32, and that place is within half a count of s on each axis, longitude around the circle.
 -- Its latitude is a whole number over N * P of 360 degrees and its longitude one over n * P, so in these differences a count is `units`

@@ -290,13 +290,13 @@ fn latitude_out(up: u64, n: u64) -> i32
     lower(nearest(up * TURN, n * SIZE))
 }
 
-// The longitude of a zone of n and a count; what rounds to 2^32 becomes 0.
+// The longitude of a zone of n and a count: short of a turn by more than half a unit, so that rounded it has 32 bits.
 fn longitude_out(zone: Zone, count: LongitudeCount, n: u64) -> u32
     requires { ⌜ (zone .0 < n) × ((count .0 < 131072) × (n ≤ 240)) ⌝ }
     ensures { λ r. ⌜ r ≡ roundedTurn (n * 131072) (zone .0 * 131072 + count .0) ⌝ }
 {
     let v = (zone.0 as u64) * SIZE + (count.0 as u64);
-    (nearest(v * TURN, n * SIZE) % TURN) as u32
+    nearest(v * TURN, n * SIZE) as u32
 }
 
 // A latitude one turn up, encoded by n zones: the whole number before the modulo, one turn up.

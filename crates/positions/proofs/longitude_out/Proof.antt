@@ -1,8 +1,10 @@
--- `positions::longitude_out` meets its contract, which is its formula.
+-- `positions::longitude_out` meets its contract, which is its formula. The cast loses nothing: a zone of n and a count are short of a turn.
 -- Assumes nothing.
-use Prim.Native.Nat.{ℕ, _+_, _*_, _%_}
-use mathlib.Core.Path.{sym, ap, _∙_}
+use Prim.Native.Nat.{_+_, _*_}
+use mathlib.Core.Path.{sym, _∙_}
+use native.Mathlib.Omega.{arith}
 use Rattle.positions.proofs.Naturals.{rounded-turn}
+use Rattle.positions.proofs.Short.{never-a-turn}
 use borrow.Author.Needs.{needs}
 use Rattle.positions.proofs.longitude_out.Statement.{statement}
 use Rattle.positions.proofs.longitude_out.Tie as tie
@@ -29,12 +31,15 @@ nearest-requires : tie.Need-nearest-requires
 nearest-requires c κs = search needs
 
 cast-result : tie.Need-cast-result
-cast-result c = search needs
+cast-result c =
+    let a = c .before .before .before .args in
+    let out = rounded-turn (a .n * 131072) (a .zone .0 * 131072 + a .count .0) in
+    omega (arith, c .nearest .ensures, out, never-a-turn 131072 (a .n) (a .zone .0) (a .count .0) (omega arith) (omega arith) (omega arith))
 
 returns : tie.Need-returns
 returns c =
     let a = c .before .before .before .args in
-    ap (λ (x : ℕ). x % 4294967296) (c .nearest .ensures) ∙ sym (rounded-turn (a .n * 131072) (a .zone .0 * 131072 + a .count .0))
+    c .nearest .ensures ∙ sym (rounded-turn (a .n * 131072) (a .zone .0 * 131072 + a .count .0))
 
 pub longitude-out-spec : {M : Type 1} → statement M
 longitude-out-spec =

@@ -19,7 +19,7 @@ pair-fitting-requires : tie.Need-pair-fitting-requires
 pair-fitting-requires c κs =
     let a = c .before .before .before .args in
     let t = each (fit 131072 (a .even)) (fit 131072 (a .odd)) (rw (c .before .before .fits2 .ensures, c .before .fits3 .ensures) at (c .if1 .taken)) in
-    (fit-counts (a .even) (t .0), fit-counts (a .odd) (t .1))
+    (fit-counts 131072 (a .even) (t .0), fit-counts 131072 (a .odd) (t .1))
 
 returns : tie.Need-returns
 returns c =

@@ -35,7 +35,7 @@ single-raised-requires c κs =
     let a = u .before .before .args in
     let t = each (fit 131072 (a .counts)) (leb 3221225472 (u .raise .result) && leb (u .raise .result) 5368709120)
     (rw (c .before .before .fits2 .ensures, c .before .pole-to-pole .ensures) at (c .if1 .taken)) in
-    (poles (u .raise .result) (t .1), fit-counts (a .counts) (t .0))
+    (poles (u .raise .result) (t .1), fit-counts 131072 (a .counts) (t .0))
 
 returns : tie.Need-returns
 returns c =
