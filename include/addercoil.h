@@ -46,11 +46,11 @@ extern "C" {
 #endif
 
 /*
- * 10,000 times the major number, 100 times the minor one, and the patch: this is 0.4.0. addercoil_version() says that
+ * 10,000 times the major number, 100 times the minor one, and the patch: this is 0.5.0. addercoil_version() says that
  * of the archive; where the two differ, the program was built with another header. The bytes of a table may change with
  * it.
  */
-#define ADDERCOIL_VERSION 400
+#define ADDERCOIL_VERSION 500
 
 /* The version of the archive, as ADDERCOIL_VERSION has it. */
 uint32_t addercoil_version(void);
@@ -62,7 +62,8 @@ enum {
     ADDERCOIL_REFUSED_LATE = 2,      /* a time below the table's clock, or a stamp 2^31 or more past the last one */
     ADDERCOIL_REFUSED_PARITY = 3,    /* a parity remainder that is not 0 */
     ADDERCOIL_REFUSED_FORMAT = 4,    /* a DF or CF that is not taken: DF 17 is, and DF 18 with CF 0, 1, 2 or 5 */
-    ADDERCOIL_REFUSED_TYPE = 5,      /* a TYPE or subtype that is not taken, or CF 5 with the flag of its address set */
+    ADDERCOIL_REFUSED_TYPE = 5,      /* a TYPE or subtype that is not taken, TYPE 31 under CF 2 or 5, or CF 5 with the
+                                        flag of its address set */
     ADDERCOIL_REFUSED_FULL = 6,      /* a new aircraft, and no place is free */
     ADDERCOIL_REFUSED_PLACES = 7,    /* a table that is not of 1 to 1,024 whole places */
     ADDERCOIL_REFUSED_FIELD = 8,     /* a field wider than its bits or that no such message has, a latitude beyond a
@@ -117,7 +118,7 @@ enum {
 /* ---- The table: tracks in bytes that the caller lends ---- */
 
 /* Bytes of a table of so many places, 1 to 1,024. As a function: addercoil_table_bytes. */
-#define ADDERCOIL_TABLE_BYTES(places) (16 + 79 * (size_t)(places))
+#define ADDERCOIL_TABLE_BYTES(places) (16 + 86 * (size_t)(places))
 
 /* How many bytes a table of so many places has. 0 if it is not 1 to 1,024 places. */
 size_t addercoil_table_bytes(size_t places);
@@ -194,6 +195,12 @@ uint32_t addercoil_next(const uint8_t *table, size_t table_len, uint32_t key, ui
  * An ME is the 56 bits of bytes 4 to 10 of a message as one number, byte 4 the highest; addercoil_me reads it. From
  * ADDERCOIL_TRACK_CALLSIGN_IS on stand the readings that are most often shown, each as addercoil_me gives it of the ME
  * that last gave its group, and unknown if none did.
+ *
+ * The last six say how far a position can be trusted. What the TYPE of a position message says of that depends on the
+ * version of the standard that the aircraft is built to: NUC, 0 to 9, in version 0, and NIC, 0 to 11, in versions 1 and
+ * 2; more is better, and 0 is a number too. Aircraft say their version in a status message, TYPE 31, and until one is
+ * heard it is 0; kinds T, M and N are version 1. Up to three bits supplement the TYPE: A (versions 1 and 2) and C
+ * (version 2, on the surface) stand in the status, B (version 2, in the air) in the position message.
  */
 enum {
     ADDERCOIL_TRACK_HELD,                  /* 0 or 1 */
@@ -201,8 +208,11 @@ enum {
     ADDERCOIL_TRACK_IDENTIFICATION,        /* ME of its last identification, 0 if it sent none */
     ADDERCOIL_TRACK_VELOCITY,              /* .. velocity */
     ADDERCOIL_TRACK_SURFACE,               /* .. surface position */
+    ADDERCOIL_TRACK_STATUS,                /* .. operational status */
     ADDERCOIL_TRACK_PRESSURE_CODE,         /* 12 bits, 0 unknown */
     ADDERCOIL_TRACK_HEIGHT_CODE,           /* 12 bits, 0 unknown */
+    ADDERCOIL_TRACK_POSITION_TYPE,         /* TYPE of its last position message, 0 if it sent none */
+    ADDERCOIL_TRACK_POSITION_BIT8,         /* bit 8 of its ME if that was airborne, else 0 */
     ADDERCOIL_TRACK_POSITION_KNOWN,        /* 0 or 1 */
     ADDERCOIL_TRACK_LATITUDE,              /* signed */
     ADDERCOIL_TRACK_LONGITUDE,
@@ -253,8 +263,20 @@ enum {
     ADDERCOIL_TRACK_SURFACE_HEADING,
     ADDERCOIL_TRACK_SURFACE_STATUS_IS,
     ADDERCOIL_TRACK_SURFACE_STATUS,        /* 1 if that heading is valid */
+    ADDERCOIL_TRACK_VERSION,               /* of the standard: 0 to 2, or 3 to 7, which are reserved */
+    ADDERCOIL_TRACK_SUPPLEMENT_A,          /* 0 or 1; 0 where the version has none, as the next two */
+    ADDERCOIL_TRACK_SUPPLEMENT_B,
+    ADDERCOIL_TRACK_SUPPLEMENT_C,
+    ADDERCOIL_TRACK_INTEGRITY_IS,          /* of its last position message: ADDERCOIL_INTEGRITY_NUC and so on */
+    ADDERCOIL_TRACK_INTEGRITY,             /* NUC or NIC */
     ADDERCOIL_TRACK                        /* how many there are */
 };
+
+/*
+ * What the integrity of a track is; these are not the numbers of a reading. It is unknown if its version is above 2, or
+ * it sent no position message.
+ */
+enum { ADDERCOIL_INTEGRITY_UNKNOWN = 0, ADDERCOIL_INTEGRITY_NUC = 1, ADDERCOIL_INTEGRITY_NIC = 2 };
 
 /*
  * The track of a key, into out of ADDERCOIL_TRACK entries: all 0 if it is not held. Or ADDERCOIL_REFUSED_LENGTH,
@@ -397,7 +419,8 @@ enum {
     ADDERCOIL_LAYOUT_SURFACE = 2,         /* TYPE 5-8 */
     ADDERCOIL_LAYOUT_AIRBORNE = 3,        /* TYPE 9-18 and 20-22; TYPE 0, whose F and counts mean nothing */
     ADDERCOIL_LAYOUT_GROUND = 4,          /* TYPE 19, subtypes 1 and 2: velocity over ground */
-    ADDERCOIL_LAYOUT_AIR = 5              /* TYPE 19, subtypes 3 and 4: velocity through air */
+    ADDERCOIL_LAYOUT_AIR = 5,             /* TYPE 19, subtypes 3 and 4: velocity through air */
+    ADDERCOIL_LAYOUT_STATUS = 6           /* TYPE 31, subtypes 0 and 1: operational status, of DF 17, CF 0 and CF 1 */
 };
 
 /* How many entries the fields of a message have. */
@@ -421,7 +444,7 @@ enum {
  * mean something else:
  *   - SURFACE_T, AIRBORNE_BIT8, GROUND_BIT9 and AIR_BIT9 are the flag of the address. Under CF 2 the kind is T if it is
  *     0, and M if it is 1; under CF 5 it is N if it is 0, and 1 is reserved. An identification has none: that counts as
- *     0.
+ *     0. There is no status.
  *   - Of a velocity NACp is 8 * BIT10 + NACV, and VERTICAL_SOURCE is the GEO flag. If that is 1, the height difference
  *     is as elsewhere. If it is 0, there is none, and its reading is unknown: of ME bits 47 to 56, which stand in
  *     VERTICAL_RESERVED (2 bits), _BELOW (1) and _DIFFERENCE_CODE (7), 48-50 are then NACv, 51-52 SIL and, through air,
@@ -451,7 +474,7 @@ enum {
 };
 enum {
     ADDERCOIL_AIRBORNE_SURVEILLANCE = 6,      /* 2 bits */
-    ADDERCOIL_AIRBORNE_BIT8 = 7,              /* under CF 2 and 5 the flag of the address */
+    ADDERCOIL_AIRBORNE_BIT8 = 7,              /* under CF 2 and 5 the flag of the address; in version 2 supplement B */
     ADDERCOIL_AIRBORNE_ALTITUDE_CODE = 8,     /* 12 bits: 0 unknown; if 16 is set, N of the others is 25 N - 1,000 ft */
     ADDERCOIL_AIRBORNE_T = 9,                 /* 1 if its time is tied to UTC */
     ADDERCOIL_AIRBORNE_F = 10,                /* 0 even, 1 odd */
@@ -505,6 +528,27 @@ enum {
     ADDERCOIL_VERTICAL_DIFFERENCE_IS = 26,    /* feet, signed: GNSS height less pressure altitude; see the GEO flag */
     ADDERCOIL_VERTICAL_DIFFERENCE = 27
 };
+enum {
+    ADDERCOIL_STATUS_SUBTYPE = 6,             /* 3 bits: 0 in the air, 1 on the surface */
+    ADDERCOIL_STATUS_CLASS = 7,               /* 11 bits: capability class */
+    ADDERCOIL_STATUS_BIT20 = 8,               /* of subtype 1 supplement C; of subtype 0 of the class, as the next */
+    ADDERCOIL_STATUS_WIDTH = 9,               /* 4 bits: of subtype 1 length and width */
+    ADDERCOIL_STATUS_MODE = 10,               /* 16 bits: operational mode */
+    ADDERCOIL_STATUS_VERSION_CODE = 11,       /* 3 bits: 0 to 2; 3 to 7 are reserved */
+    ADDERCOIL_STATUS_SUPPLEMENT_A_CODE = 12,
+    ADDERCOIL_STATUS_NACP = 13,               /* 4 bits */
+    ADDERCOIL_STATUS_BITS49 = 14,             /* 2 bits */
+    ADDERCOIL_STATUS_SIL = 15,                /* 2 bits */
+    ADDERCOIL_STATUS_BIT53 = 16,
+    ADDERCOIL_STATUS_BIT54 = 17,
+    ADDERCOIL_STATUS_BITS55 = 18,             /* 2 bits */
+    ADDERCOIL_STATUS_VERSION_IS = 20,         /* known for 0 to 2, else ADDERCOIL_NONE */
+    ADDERCOIL_STATUS_VERSION = 21,
+    ADDERCOIL_STATUS_SUPPLEMENT_A_IS = 22,    /* 0 or 1: known in versions 1 and 2, else unknown */
+    ADDERCOIL_STATUS_SUPPLEMENT_A = 23,
+    ADDERCOIL_STATUS_SUPPLEMENT_C_IS = 24,    /* 0 or 1: known in version 2, 0 there in subtype 0 */
+    ADDERCOIL_STATUS_SUPPLEMENT_C = 25
+};
 
 /*
  * What a message of ADDERCOIL_MESSAGE bytes says, into fields of ADDERCOIL_FIELDS entries. Or ADDERCOIL_REFUSED_LENGTH,
@@ -513,18 +557,19 @@ enum {
 uint32_t addercoil_decode(const uint8_t *message, size_t message_len, uint64_t *fields, size_t fields_len);
 
 /*
- * What an ME says, as ADDERCOIL_TRACK_IDENTIFICATION, _VELOCITY and _SURFACE have it, into fields of ADDERCOIL_FIELDS
- * entries, as addercoil_decode gives them; what stands before ME, which are entries 1 to 4, is 0. key is that of the
- * track: its kind tells what the height difference means, and no more of it is asked. An ME of 0, which a track has
- * where it heard none, reads as TYPE 0: look at the ME first, or at ADDERCOIL_LAYOUT. Or ADDERCOIL_REFUSED_LENGTH,
- * ADDERCOIL_REFUSED_FIELD for an ME of more than 56 bits or what is no key, ADDERCOIL_REFUSED_TYPE.
+ * What an ME says, as ADDERCOIL_TRACK_IDENTIFICATION, _VELOCITY, _SURFACE and _STATUS have it, into fields of
+ * ADDERCOIL_FIELDS entries, as addercoil_decode gives them; what stands before ME, which are entries 1 to 4, is 0. key
+ * is that of the track: its kind tells what the height difference means, and no more of it is asked. An ME of 0, which
+ * a track has where it heard none, reads as TYPE 0: look at the ME first, or at ADDERCOIL_LAYOUT. Or
+ * ADDERCOIL_REFUSED_LENGTH, ADDERCOIL_REFUSED_FIELD for an ME of more than 56 bits or what is no key,
+ * ADDERCOIL_REFUSED_TYPE.
  */
 uint32_t addercoil_me(uint64_t me, uint32_t key, uint64_t *fields, size_t fields_len);
 
 /*
  * The message that says the fields, its parity included, into message of ADDERCOIL_MESSAGE bytes. It reads the layout,
  * DF, CA or CF, AA and the fields of ME of that layout, and no other entry. Or ADDERCOIL_REFUSED_LENGTH for either
- * array, ADDERCOIL_REFUSED_FIELD for a layout that is not 1 to 5, a field wider than its bits, or fields that
+ * array, ADDERCOIL_REFUSED_FIELD for a layout that is not 1 to 6, a field wider than its bits, or fields that
  * addercoil_decode would refuse; each leaves message as it was.
  */
 uint32_t addercoil_encode(const uint64_t *fields, size_t fields_len, uint8_t *message, size_t message_len);

@@ -67,8 +67,11 @@ struct addercoil_track {
     uint64_t identification; /* an ME, for addercoil_easy_me; 0 if none was heard */
     uint64_t velocity;
     uint64_t surface;
+    uint64_t status;
     uint32_t pressure_code;
     uint32_t height_code;
+    uint32_t position_type;
+    int position_bit8;
     int position_known;
     struct addercoil_spot position;
     uint64_t position_time;
@@ -92,6 +95,11 @@ struct addercoil_track {
     struct addercoil_reading movement;
     struct addercoil_reading surface_heading;
     struct addercoil_reading surface_status;
+    uint32_t version;
+    int supplement_a;
+    int supplement_b;
+    int supplement_c;
+    struct addercoil_reading integrity; /* is: ADDERCOIL_INTEGRITY_NUC and so on */
 };
 
 /*
@@ -120,6 +128,9 @@ struct addercoil_message {
     struct addercoil_reading airspeed;
     struct addercoil_reading rate; /* of either velocity, as the next */
     struct addercoil_reading difference;
+    struct addercoil_reading version; /* of a status, as the next two */
+    struct addercoil_reading supplement_a;
+    struct addercoil_reading supplement_c;
     uint64_t fields[ADDERCOIL_FIELDS];
 };
 
@@ -178,8 +189,11 @@ static inline uint32_t addercoil_easy_to_track(uint32_t number, const uint64_t *
     track->identification = row[ADDERCOIL_TRACK_IDENTIFICATION];
     track->velocity = row[ADDERCOIL_TRACK_VELOCITY];
     track->surface = row[ADDERCOIL_TRACK_SURFACE];
+    track->status = row[ADDERCOIL_TRACK_STATUS];
     track->pressure_code = (uint32_t)row[ADDERCOIL_TRACK_PRESSURE_CODE];
     track->height_code = (uint32_t)row[ADDERCOIL_TRACK_HEIGHT_CODE];
+    track->position_type = (uint32_t)row[ADDERCOIL_TRACK_POSITION_TYPE];
+    track->position_bit8 = (int)row[ADDERCOIL_TRACK_POSITION_BIT8];
     track->position_known = (int)row[ADDERCOIL_TRACK_POSITION_KNOWN];
     track->position = addercoil_easy_spot(row + ADDERCOIL_TRACK_LATITUDE);
     track->position_time = row[ADDERCOIL_TRACK_POSITION_TIME];
@@ -203,6 +217,11 @@ static inline uint32_t addercoil_easy_to_track(uint32_t number, const uint64_t *
     track->movement = addercoil_easy_reading(row + ADDERCOIL_TRACK_MOVEMENT_IS);
     track->surface_heading = addercoil_easy_reading(row + ADDERCOIL_TRACK_SURFACE_HEADING_IS);
     track->surface_status = addercoil_easy_reading(row + ADDERCOIL_TRACK_SURFACE_STATUS_IS);
+    track->version = (uint32_t)row[ADDERCOIL_TRACK_VERSION];
+    track->supplement_a = (int)row[ADDERCOIL_TRACK_SUPPLEMENT_A];
+    track->supplement_b = (int)row[ADDERCOIL_TRACK_SUPPLEMENT_B];
+    track->supplement_c = (int)row[ADDERCOIL_TRACK_SUPPLEMENT_C];
+    track->integrity = addercoil_easy_reading(row + ADDERCOIL_TRACK_INTEGRITY_IS);
     return ADDERCOIL_OK;
 }
 
@@ -221,6 +240,7 @@ static inline struct addercoil_reading addercoil_easy_of(const struct addercoil_
 static inline void addercoil_easy_to_readings(struct addercoil_message *message) {
     const uint32_t named = ADDERCOIL_LAYOUT_IDENTIFICATION, surface = ADDERCOIL_LAYOUT_SURFACE;
     const uint32_t airborne = ADDERCOIL_LAYOUT_AIRBORNE, ground = ADDERCOIL_LAYOUT_GROUND, air = ADDERCOIL_LAYOUT_AIR;
+    const uint32_t status = ADDERCOIL_LAYOUT_STATUS;
     const uint64_t *fields = message->fields;
     uint32_t is = message->layout, velocity = is == air ? air : ground;
     addercoil_easy_callsign(addercoil_easy_at(message, named, ADDERCOIL_IDENTIFICATION_TEXT_IS), message->callsign);
@@ -239,6 +259,9 @@ static inline void addercoil_easy_to_readings(struct addercoil_message *message)
     message->airspeed = addercoil_easy_of(message, air, ADDERCOIL_AIR_SPEED_IS);
     message->rate = addercoil_easy_of(message, velocity, ADDERCOIL_VERTICAL_RATE_IS);
     message->difference = addercoil_easy_of(message, velocity, ADDERCOIL_VERTICAL_DIFFERENCE_IS);
+    message->version = addercoil_easy_of(message, status, ADDERCOIL_STATUS_VERSION_IS);
+    message->supplement_a = addercoil_easy_of(message, status, ADDERCOIL_STATUS_SUPPLEMENT_A_IS);
+    message->supplement_c = addercoil_easy_of(message, status, ADDERCOIL_STATUS_SUPPLEMENT_C_IS);
 }
 
 /* A call that filled the entries answered so: the struct of them, if it did. */

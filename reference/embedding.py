@@ -11,6 +11,7 @@ from typing import NamedTuple
 
 import captures
 import degrees
+import integrity
 import messages
 import positions
 import readings
@@ -73,11 +74,12 @@ def reading(name, value):
 # Tracks
 
 
-def track_row(track, traffic):
-    """The entries of a track that is held, of a ground station's traffic or not."""
+def track_row(track, kind):
+    """The entries of a track that is held, of this kind."""
     entries = {"TRACK_HELD": 1, "TRACK_HEARD": track.heard, "TRACK_IDENTIFICATION": track.identification}
-    entries |= {"TRACK_VELOCITY": track.velocity, "TRACK_SURFACE": track.surface}
+    entries |= {"TRACK_VELOCITY": track.velocity, "TRACK_SURFACE": track.surface, "TRACK_STATUS": track.status}
     entries |= {"TRACK_PRESSURE_CODE": track.pressure, "TRACK_HEIGHT_CODE": track.height}
+    entries |= {"TRACK_POSITION_TYPE": track.typecode, "TRACK_POSITION_BIT8": track.bit8}
     entries |= {"TRACK_POSITION_KNOWN": track.position.known, "TRACK_POSITION_TIME": track.position.time}
     entries |= {"TRACK_LATITUDE": track.position.latitude, "TRACK_LONGITUDE": track.position.longitude}
     for name, saved in zip(("EVEN", "ODD"), track.saved):
@@ -85,7 +87,18 @@ def track_row(track, traffic):
         entries |= {f"TRACK_{name}_LATITUDE_COUNT": saved.latitude, f"TRACK_{name}_LONGITUDE_COUNT": saved.longitude}
     for name, code in (("TRACK_ALTITUDE", track.pressure), ("TRACK_GNSS_HEIGHT", track.height)):
         entries |= reading(name, readings.altitude(code)) | reading(f"{name}_STEP", readings.step(code))
-    return entries | shown(track, traffic)
+    return entries | shown(track, kind in GROUND_KINDS) | integrity_row(track, kind)
+
+
+def integrity_row(track, kind):
+    """The version of a key's messages, the supplements that it has, and the integrity of the latest position message."""
+    entries = {"TRACK_VERSION": integrity.version(kind, track.status)}
+    for name, bit in zip("ABC", integrity.supplements(kind, track.status, track.bit8)):
+        entries[f"TRACK_SUPPLEMENT_{name}"] = bit
+    said = integrity.integrity(kind, track.status, track.typecode, track.bit8)
+    if said == readings.UNKNOWN:
+        return entries | {"TRACK_INTEGRITY_IS": AT["INTEGRITY_UNKNOWN"]}
+    return entries | {"TRACK_INTEGRITY_IS": AT[f"INTEGRITY_{said[0]}"], "TRACK_INTEGRITY": said[1]}
 
 
 # What people are shown of a track, by the header's names: of a layout its readings, and fields as readings that are known
@@ -120,12 +133,15 @@ def shown(track, traffic):
 PLACE = ["T", "F", "LATITUDE_COUNT", "LONGITUDE_COUNT"]
 VERTICAL = ["SOURCE", "DOWN", "RATE_CODE", "RESERVED", "BELOW", "DIFFERENCE_CODE"]
 VELOCITY = ["SUBTYPE", "BIT9", "BIT10", "NACV"]
+STATUS = ["SUBTYPE", "CLASS", "BIT20", "WIDTH", "MODE", "VERSION_CODE", "SUPPLEMENT_A_CODE", "NACP"]
+STATUS += ["BITS49", "SIL", "BIT53", "BIT54", "BITS55"]
 LAYOUTS = {
     "IDENTIFICATION": (messages.IDENTIFICATION, ["CATEGORY", "CHARACTERS"]),
     "SURFACE": (messages.SURFACE, ["MOVEMENT_CODE", "STATUS", "HEADING_CODE", *PLACE]),
     "AIRBORNE": (messages.AIRBORNE, ["SURVEILLANCE", "BIT8", "ALTITUDE_CODE", *PLACE]),
     "GROUND": (messages.OVER_GROUND, [*VELOCITY, "WEST", "EASTWARD_CODE", "SOUTH", "NORTHWARD_CODE"]),
     "AIR": (messages.THROUGH_AIR, [*VELOCITY, "STATUS", "HEADING_CODE", "AIRSPEED_KIND", "AIRSPEED_CODE"]),
+    "STATUS": (messages.STATUS, STATUS),
 }
 
 
@@ -165,6 +181,7 @@ READINGS = {
     "AIRBORNE": ["AIRBORNE_ALTITUDE", "AIRBORNE_GNSS", "AIRBORNE_STEP"],
     "GROUND": ["GROUND_EAST", "GROUND_NORTH", "VERTICAL_RATE", "VERTICAL_DIFFERENCE"],
     "AIR": ["AIR_TURN", "AIR_SPEED", "VERTICAL_RATE", "VERTICAL_DIFFERENCE"],
+    "STATUS": ["STATUS_VERSION", "STATUS_SUPPLEMENT_A", "STATUS_SUPPLEMENT_C"],
 }
 
 
@@ -292,14 +309,14 @@ def look_up(table, key):
     """The track of a key, all 0 if it is not held."""
     key %= 2**32
     track = tables.look_up(table, key)
-    return row(AT["TRACK"], {} if track is None else track_row(track, key >> 24 in GROUND_KINDS))
+    return row(AT["TRACK"], {} if track is None else track_row(track, key >> 24))
 
 
 def replayed(log, kind, address, site):
     """The track of a key worked out again, all 0 if it is not held; 14, then 8 for a kind that is none too."""
     kind, address = kind % 2**32, address % 2**32
     track = plain_method.replay(log, kind, address if kind in KINDS else 2**24, site)
-    return row(AT["TRACK"], {} if track is None else track_row(track, kind in GROUND_KINDS))
+    return row(AT["TRACK"], {} if track is None else track_row(track, kind))
 
 
 def replay(log, kind, address):

@@ -99,7 +99,7 @@ def roll_call(chance, all_flights):
 
 
 def with_faults(chance, records):
-    """Some messages damaged, some that are not taken, some records late."""
+    """Some messages damaged, some that are not taken, some of status, some records late."""
     for place in chance.sample(range(len(records)), 100):
         time, string = records[place]
         records[place] = time, flipped(string, chance.randrange(1, 113))

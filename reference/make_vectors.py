@@ -10,13 +10,14 @@ import argparse
 import sys
 from pathlib import Path
 
-from vectors import message_vectors, parity_vectors, position_vectors, readings_vectors, stamps_vectors, table_vectors
+from vectors import integrity_vectors, message_vectors, parity_vectors, position_vectors, readings_vectors, stamps_vectors, table_vectors
 
 PROGRAMS = {
     "parity_vectors": parity_vectors,
     "readings_vectors": readings_vectors,
     "position_vectors": position_vectors,
     "message_vectors": message_vectors,
+    "integrity_vectors": integrity_vectors,
     "table_vectors": table_vectors,
     "stamps_vectors": stamps_vectors,
 }

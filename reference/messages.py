@@ -1,5 +1,5 @@
 """The paper, "What the decoder covers" and "ME fields, by bit numbers of ME"; of TYPE 0 the request R-2, of DF 18 with CF 2
-and 5, a ground station's traffic service, the request R-3.
+and 5, a ground station's traffic service, the request R-3, of operational status the request R-10.
 
 A message is its fields by name, in the order of their bits; those the paper leaves without a
 name are called by their bit numbers. All bits, reserved ones included, are kept.
@@ -41,6 +41,22 @@ THROUGH_AIR = [
     ("airspeed", 26, 35),
     *VELOCITY_TAIL,
 ]
+# Operational status: source 000, figure 2-11. Its capability class and mode are kept whole
+STATUS = [
+    ("subtype", 6, 8),
+    ("class", 9, 19),
+    ("bit 20", 20, 20),
+    ("width", 21, 24),
+    ("mode", 25, 40),
+    ("version", 41, 43),
+    ("supplement A", 44, 44),
+    ("NACp", 45, 48),
+    ("bits 49-50", 49, 50),
+    ("SIL", 51, 52),
+    ("bit 53", 53, 53),
+    ("bit 54", 54, 54),
+    ("bits 55-56", 55, 56),
+]
 
 
 def field(string, first, last):
@@ -60,7 +76,7 @@ def is_traffic(message):
 
 
 def layout(type_code, subtype):
-    """The fields of ME after TYPE, or none: TYPE 23-31, and TYPE 19 but for subtypes 1-4. TYPE 0 has the airborne layout."""
+    """The fields of ME after TYPE, or none: TYPE 23-30, 19 but for subtypes 1-4, 31 but for 0 and 1. TYPE 0 has the airborne layout."""
     if 1 <= type_code <= 4:
         return IDENTIFICATION
     if 5 <= type_code <= 8:
@@ -71,16 +87,18 @@ def layout(type_code, subtype):
         return OVER_GROUND
     if type_code == 19 and subtype in (3, 4):
         return THROUGH_AIR
+    if type_code == 31 and subtype in (0, 1):
+        return STATUS
     return None
 
 
 def flag_name(fields):
-    """What says which address AA is: ME bit 21 on the surface, 8 airborne, 9 of a velocity; an identification has none."""
+    """What says which address AA is: ME bit 21 on the surface, 8 airborne, 9 of a velocity; what names or tells a status has none."""
     if fields is SURFACE:
         return "T"
     if fields is AIRBORNE:
         return "bit 8"
-    return None if fields is IDENTIFICATION else "bit 9"
+    return None if fields in (IDENTIFICATION, STATUS) else "bit 9"
 
 
 def flag(message):
@@ -91,6 +109,11 @@ def flag(message):
 def is_reserved(message):
     """CF 5 with the flag set."""
     return message["DF"] == 18 and message["CA or CF"] == 5 and flag(message) == 1
+
+
+def is_ground_status(message):
+    """TYPE 31 under CF 2 and 5, whatever its subtype: a ground station sends none."""
+    return message["TYPE"] == 31 and is_traffic(message)
 
 
 def decode(string):
@@ -107,7 +130,7 @@ def decode(string):
     if fields is None:
         raise Refused(5)
     message |= {name: field(me, first, last) for name, first, last in fields}
-    if is_reserved(message):
+    if is_reserved(message) or is_ground_status(message):
         raise Refused(5)
     return message
 
@@ -117,7 +140,9 @@ def encode(message):
     if not df_taken(message["DF"], message["CA or CF"]):
         raise Refused(8)
     fields = layout(message["TYPE"], message.get("subtype"))
-    if fields is None or list(message) != [name for name, _, _ in HEAD + fields] or is_reserved(message):
+    if fields is None or list(message) != [name for name, _, _ in HEAD + fields]:
+        raise Refused(8)
+    if is_reserved(message) or is_ground_status(message):
         raise Refused(8)
     whole = 0
     for name, first, last in HEAD + fields:

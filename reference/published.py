@@ -1,7 +1,7 @@
 """Published vectors, and the paper's own examples, as data.
 
 The coding rows stand in the draft of DO-260B; the messages and positions are the well-known public
-ones. Rows that the paper leaves out (coarse speed, integrity, surface pairs) are not here.
+ones. Rows that the paper leaves out (coarse speed, surface pairs) are not here; those of integrity are in integrity.py.
 """
 
 import csv
@@ -151,13 +151,13 @@ NO_POSITION_ROWS = [
 # The TYPEs with an altitude, by source 003's table A: whether it is a GNSS height
 GNSS_HEIGHTS = {0: False, **dict.fromkeys(range(9, 19), False), **dict.fromkeys(range(20, 23), True)}
 
-# Operational status, TYPE 31: refused with 5
-STATUS_MESSAGES = [
-    "8DABCDEFF8000000004000B0CA3C",
-    "8DABCDEFF800000000500050123C",
-    "8DABCDEFF9001000005000BCC42B",
-    "8DABCDEFF800000000300012DE27",
-    "8DABCDEFF80000000060008E8E35",
+# Operational status, TYPE 31, by source 000's figure 2-11: subtype, version, supplement A, and ME bit 20, C of subtype 1
+STATUS_ROWS = [
+    ("8DABCDEFF8000000004000B0CA3C", {"subtype": 0, "version": 2, "supplement A": 0, "bit 20": 0}),
+    ("8DABCDEFF800000000500050123C", {"subtype": 0, "version": 2, "supplement A": 1, "bit 20": 0}),
+    ("8DABCDEFF9001000005000BCC42B", {"subtype": 1, "version": 2, "supplement A": 1, "bit 20": 1}),
+    ("8DABCDEFF800000000300012DE27", {"subtype": 0, "version": 1, "supplement A": 1, "bit 20": 0}),
+    ("8DABCDEFF80000000060008E8E35", {"subtype": 0, "version": 3, "supplement A": 0, "bit 20": 0}),
 ]
 
 TEXTS = [("8D406B902015A678D4D220AA4BDA", "EZY85MH "), ("8D4840D6202CC371C32CE0576098", "KLM1023 ")]
@@ -165,7 +165,7 @@ TEXTS = [("8D406B902015A678D4D220AA4BDA", "EZY85MH "), ("8D4840D6202CC371C32CE05
 
 def messages():
     """Every published message, once."""
-    texts = [row[0] for row in PARITY_ROWS + FIELD_ROWS] + STATUS_MESSAGES
+    texts = [row[0] for row in PARITY_ROWS + FIELD_ROWS + STATUS_ROWS]
     return [bytes.fromhex(text) for text in dict.fromkeys(texts)]
 
 

@@ -1,4 +1,4 @@
-"""What codes mean: the paper, "ME fields, by bit numbers of ME" and "Altitude".
+"""What codes mean: the paper, "ME fields, by bit numbers of ME" and "Altitude"; of operational status the request R-10.
 
 A reading is a number, or a word where the paper has one: unknown, over, stopped, reserved.
 A code wider than its bits is refused with 8, before everything else; so is a body with such a field, as a whole.
@@ -159,6 +159,20 @@ def text(characters):
     return "".join(chr(character(characters >> place & 63)) for place in range(42, -1, -6))
 
 
+def version(code):
+    """Codes 0, 1 and 2 are DO-260, DO-260A and DO-260B; 3 to 7 are reserved."""
+    fits(code, 3)
+    return code if code <= 2 else "reserved"
+
+
+def status(message):
+    """The version, and the supplements that it has: A from version 1 on; C in version 2, in subtype 1, so that subtype 0 says 0."""
+    said = version(message["version"])
+    a = message["supplement A"] if said in (1, 2) else UNKNOWN
+    c = message["bit 20"] * message["subtype"] if said == 2 else UNKNOWN
+    return {"version": said, "supplement A": a, "supplement C": c}
+
+
 def body(fields, message, traffic=False):
     """What the fields of a layout mean, by name, in a message of a ground station's traffic service or another one.
 
@@ -176,6 +190,8 @@ def body(fields, message, traffic=False):
     if fields is messages.AIRBORNE:
         code = message["altitude"]
         return {"altitude": altitude(code), "GNSS": message["TYPE"] in (20, 21, 22), "step": step(code)}
+    if fields is messages.STATUS:
+        return status(message)
     subtype = message["subtype"]
     if fields is messages.OVER_GROUND:
         east = speed(subtype, message["east-west direction"], message["east-west speed"])

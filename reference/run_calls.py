@@ -28,15 +28,15 @@ from tracks import KINDS as KIND_NUMBERS
 from tracks import I, Track
 from traffic import GROUND, OTHER, TRANSPONDER
 from vectors import figures
-from vectors.message_vectors import random_acceptable, random_reserved, sealed_message
+from vectors.message_vectors import random_acceptable, random_reserved, random_status, sealed_message
 from vectors.position_vectors import random_counts, random_latitude, random_longitude
-from vectors.table_vectors import random_track
+from vectors.table_vectors import random_track, with_status
 
 CALLS = 800  # of each function
-RECEIVED = 20  # times as many of receive, so that tracks grow; and twice as many of decode, for the sorts of message
+RECEIVED = 20  # times as many of receive, so that tracks grow; and twice as many of decode and look_up, for the sorts of message
 LISTED = ["header", "next", "line"]  # what a listing calls
 DOUBLED = 150  # of each of these, on tables that hold keys twice
-OLD_LENGTHS = [("header", 97), ("line", 97), ("look_up", 23), ("look_up", 27)]  # of results in older headers, which are refused with 1
+OLD_LENGTHS = [("header", 97), ("line", 97), *(("look_up", length) for length in (23, 27, 57))]  # of older headers, refused with 1
 REPLAYS = "replay", "replay_at"
 LATER = {"receive_stamp": 4_000, "degrees": 1_000, "from_degrees": 3_000, "version": 1}  # so many of these, behind all others
 LATER |= dict.fromkeys(REPLAYS, 1_500)
@@ -80,7 +80,7 @@ def random_tracks(chance, least=1, most=6):
     for place in range(places):
         tables.put(made, tables.key_at(place), 4, chance.choice(KEYS))
         at = tables.body_at(made, place)
-        made[at : at + tables.BODY] = tables.body_of(random_track(chance, clock))
+        made[at : at + tables.BODY] = tables.body_of(with_status(chance, random_track(chance, clock)))
         if chance.randrange(6) == 0:
             tables.put(made, at + tables.LATITUDE, 4, chance.choice((2**31, 2**31 + 1, 2**32 - 1)))
     return made
@@ -89,7 +89,7 @@ def random_tracks(chance, least=1, most=6):
 def wrong_length(chance):
     """Bytes of a length that no table has."""
     near = tables.length_of(chance.choice((1, 2, 3, 1024))) + chance.choice((-1, 1))
-    return bytearray(chance.choice((0, 1, 15, 16, 17, near, tables.length_of(1025), chance.randrange(79) + 17)))
+    return bytearray(chance.choice((0, 1, 15, 16, 17, near, tables.length_of(1025), chance.randrange(tables.length_of(1) - 17) + 17)))
 
 
 def full(places):
@@ -162,8 +162,14 @@ def some_block(chance, table):
 
 
 def placed(chance):
-    """An airborne message of one place and one AA, even or odd, so that two of a kind pair."""
-    return traffic.airborne(chance.choice((TRANSPONDER, OTHER, *GROUND)), 0xABCDEF, chance.choice((EVEN, ODD)), (2**29, 2**30))
+    """An airborne message of one place and one AA, even or odd, so that two of a kind pair; of any TYPE and bit 8."""
+    head, i, type_code = chance.choice((TRANSPONDER, OTHER, *GROUND)), chance.choice((EVEN, ODD)), chance.choice((*range(9, 19), 20, 21, 22))
+    return traffic.airborne(head, 0xABCDEF, i, (2**29, 2**30), type_code, bit8=chance.randrange(2))
+
+
+def told(chance):
+    """A status of the same AA."""
+    return random_status(chance, chance.choice((TRANSPONDER, OTHER)), 0xABCDEF)
 
 
 def some_log(chance):
@@ -172,7 +178,7 @@ def some_log(chance):
     for _ in range(chance.randrange(24)):
         step = chance.choice((0, 1, 400) if close else (0, 1, 400, 400, 5_000, 10_001, 120_001, 124_999, 125_000, -1))
         time = min(LAST, max(0, time + step))
-        log += time.to_bytes(8, "big") + chance.choice((placed,) if close else (message, message, edge_message))(chance)
+        log += time.to_bytes(8, "big") + chance.choice((placed, placed, told) if close else (message, message, edge_message))(chance)
     most = MOST_LOGGED * RECORD
     return log.ljust(chance.choice((*[len(log)] * 40, len(log) + 1, len(log) + 21, most, most + RECORD)), b"\0")
 
@@ -189,22 +195,26 @@ def edge(chance, bits):
     return max(0, chance.choice((0, 1, last - 3, last - 1, last, chance.getrandbits(bits))))
 
 
-LAYOUTS = [(0, None), (1, None), (4, None), (5, None), (11, None), (21, None), (19, 1), (19, 2), (19, 3), (19, 4)]
+LAYOUTS = [(0, None), (1, None), (4, None), (5, None), (11, None), (21, None), (19, 1), (19, 2), (19, 3), (19, 4), (31, 0), (31, 1)]
 
 
 def edge_message(chance):
     """A message of one of a few aircraft, its codes mostly at the ends of their ranges."""
     type_code, subtype = chance.choice(LAYOUTS)
     fields = {name: edge(chance, last - first + 1) for name, first, last in messages.layout(type_code, subtype)}
-    fields |= {"subtype": subtype} if subtype else {}
-    return traffic.message(chance.choice((TRANSPONDER, OTHER, *GROUND)), chance.choice(KEYS) % 2**24, type_code, **fields)
+    fields |= {} if subtype is None else {"subtype": subtype}
+    heads = TRANSPONDER, OTHER, *(GROUND if type_code != 31 else ())
+    return traffic.message(chance.choice(heads), chance.choice(KEYS) % 2**24, type_code, **fields)
 
 
 def some_message(chance):
-    """A message, one in ten of any DF, CF and TYPE, or with the reserved flag, one in ten of another length than 14."""
+    """A message, one in ten of any DF, CF and TYPE, or with the reserved flag, or of TYPE 31; one in ten of another length than 14."""
     length, made = about(chance, 14), chance.choice((message, edge_message))(chance)
     if chance.randrange(20) == 0:
         made = random_reserved(chance, chance.choice(KEYS) % 2**24)
+    if chance.randrange(20) == 0:
+        head = chance.choice(((17, 5), *((18, cf) for cf in (0, 1, 2, 5))))
+        made = sealed_message(*head, chance.choice(KEYS) % 2**24, 31, chance.choice((0, chance.randrange(8))) << 48 | chance.getrandbits(48))
     if chance.randrange(10) == 0:
         head = chance.choice((17, 18, chance.randrange(32))), chance.randrange(8)
         made = sealed_message(*head, chance.choice(KEYS) % 2**24, chance.randrange(32), chance.getrandbits(51))
@@ -226,6 +236,8 @@ def some_fields(chance):
     entries = row(AT["FIELDS"], message_row(messages.decode(random_acceptable(chance))))
     if entries[AT["CA"]] == 5 and entries[AT["LAYOUT"]] in FLAG and chance.randrange(2):
         entries[FLAG[entries[AT["LAYOUT"]]]] = 1  # reserved under DF 18
+    if entries[AT["LAYOUT"]] == AT["LAYOUT_STATUS"] and chance.randrange(2):
+        entries[AT["DF"]], entries[AT["CA"]] = 18, chance.choice((0, 1, 2, 5))  # not sent under CF 2 and 5
     for at in (AT["KEY"], *range(FIRST_READING, AT["FIELDS"])):
         entries[at] = number(chance)
     if chance.randrange(2):
@@ -317,7 +329,7 @@ def given_for(name, chance, table):
 def named(chance):
     """The functions, in any order, each with a table; then those of a listing, with tables of many places and few keys; then the later ones."""
     pool = Tables(chance)
-    names = [*(name for name in FUNCTIONS if name not in LATER), "decode", *["receive"] * RECEIVED] * CALLS
+    names = [*(name for name in FUNCTIONS if name not in LATER), "decode", "look_up", *["receive"] * RECEIVED] * CALLS
     chance.shuffle(names)
     yield from ((name, pool.choose()) for name in names)
     yield from ((name, random_tracks(chance, 9, 40)) for name in LISTED * DOUBLED)
@@ -376,6 +388,9 @@ KINDS = {
     ("AIR", "AIR_SPEED_IS"): STEPPED,
     ("AIR", "VERTICAL_RATE_IS"): STEPPED,
     ("GROUND", "VERTICAL_DIFFERENCE_IS"): STEPPED,
+    ("STATUS", "STATUS_VERSION_IS"): {"KNOWN", "NONE"},
+    ("STATUS", "STATUS_SUPPLEMENT_A_IS"): {"UNKNOWN", "KNOWN"},
+    ("STATUS", "STATUS_SUPPLEMENT_C_IS"): {"UNKNOWN", "KNOWN"},
 }
 
 
@@ -518,9 +533,47 @@ def me_missing(asked):
             if entries[AT["LAYOUT"]] in (AT["LAYOUT_GROUND"], AT["LAYOUT_AIR"]):
                 traffic = int(call.split()[-1]) >> 24 > 2
                 seen.add((traffic, entries[AT["VERTICAL_SOURCE"]], entries[AT["VERTICAL_DIFFERENCE_IS"]]))
-    due = {AT[f"LAYOUT_{name}"] for name in ("IDENTIFICATION", "SURFACE", "AIRBORNE", "GROUND", "AIR")}
+    due = {AT[f"LAYOUT_{name}"] for name in ("IDENTIFICATION", "SURFACE", "AIRBORNE", "GROUND", "AIR", "STATUS")}
     due |= {(traffic, 1, AT[kind]) for traffic in (False, True) for kind in STEPPED}
     return (due | {(True, 0, AT["UNKNOWN"])} | {(False, 0, AT[kind]) for kind in STEPPED}) - seen
+
+
+def status_sort(string):
+    """Of a status its DF and CF, by the kind or CF 2 or 5, and whether its subtype is taken; else None."""
+    if len(string) != 14 or string[4] >> 3 != 31 or string[0] >> 3 not in (17, 18):
+        return None
+    sender = "I" if string[0] >> 3 == 17 else {0: "I", 1: "O", 2: "CF 2", 5: "CF 5"}.get(string[0] % 8)
+    return sender, string[4] % 8 < 2
+
+
+def of_status(name, words, outcome):
+    """What one call tried of a status, and of what a track says of its version and its integrity."""
+    if name in ("receive", "decode"):
+        return {(name, status_sort(array_of(words[name == "receive"], BYTES)), outcome[1])}
+    if name == "encode" and len(array_of(words[0], WORDS)) == AT["FIELDS"]:
+        entries = array_of(words[0], WORDS)
+        return {(name, entries[AT["DF"]], entries[AT["CA"]], outcome[1])} if entries[AT["LAYOUT"]] == AT["LAYOUT_STATUS"] else set()
+    if name not in ("look_up", *REPLAYS) or outcome[1] != "0" or not array_of(outcome[2], WORDS)[AT["TRACK_HELD"]]:
+        return set()
+    entries = array_of(outcome[2], WORDS)
+    kind = int(words[-1]) >> 24 if name == "look_up" else int(words[2])
+    said = {(name, kind > 2, "integrity", entries[AT["TRACK_VERSION"]], entries[AT["TRACK_INTEGRITY_IS"]])}
+    return said | {(name, letter, entries[AT["TRACK_VERSION"]]) for letter in "ABC" if entries[AT[f"TRACK_SUPPLEMENT_{letter}"]]}
+
+
+def status_missing(asked):
+    """What was never tried of it: taken, 6 and 5; encoded or not, by CF; each version, supplement and sort of integrity of a track."""
+    seen = set().union(*(of_status(call.split()[0], call.split()[1:], outcome.split()) for call, outcome in asked))
+    due = {("receive", (kind, True), number) for kind in "IO" for number in ("0", "6")}
+    due |= {(name, (kind, False), "5") for name in ("receive", "decode") for kind in "IO"} | {("decode", (kind, True), "0") for kind in "IO"}
+    due |= {(name, (cf, taken), "5") for name in ("receive", "decode") for cf in ("CF 2", "CF 5") for taken in (False, True)}
+    due |= {("encode", 18, cf, "8" if cf in (2, 5) else "0") for cf in (0, 1, 2, 5)}
+    unknown, nuc, nic = (AT[f"INTEGRITY_{name}"] for name in ("UNKNOWN", "NUC", "NIC"))
+    of_version = {0: (unknown, nuc), 1: (unknown, nic), 2: (unknown, nic), **dict.fromkeys(range(3, 8), (unknown,))}
+    due |= {("look_up", False, "integrity", version, sort) for version, sorts in of_version.items() for sort in sorts}
+    due |= {("look_up", True, "integrity", 1, sort) for sort in (unknown, nic)}
+    due |= {(name, letter, version) for name in ("look_up", *REPLAYS) for letter, version in (("A", 1), ("A", 2), ("B", 2), ("C", 2))}
+    return due - seen
 
 
 def replays_missing(asked):
@@ -586,7 +639,7 @@ def main():
             return 1
     untried = [header_faults(), numbers_missing(asked), kinds_missing(asked), lost_missing(asked), traffic_missing(asked)]
     untried += [steps_missing(asked), shown_missing(asked), me_missing(asked), full_missing(asked), doubled_missing(asked)]
-    untried += [replays_missing(asked)]
+    untried += [replays_missing(asked), status_missing(asked)]
     if any(untried):
         print(f"the header has other numbers than the paper, or these were never tried: {untried}")
         return 1

@@ -16,7 +16,7 @@ from make_samples import SAMPLES, resealed
 from positions import EVEN, ODD
 from programs import ROOT, ran
 from traffic import GROUND, NO_TRANSPONDER, OTHER, TRANSPONDER
-from vectors.message_vectors import flipped, random_acceptable, random_no_position, random_reserved
+from vectors.message_vectors import flipped, random_acceptable, random_no_position, random_reserved, random_status
 
 RANDOM_CAPTURES = 200
 
@@ -33,6 +33,7 @@ def message(chance):
         lambda: traffic.identification(head, aa, "ADDER1"),
         lambda: chance.choice((traffic.velocity(head, aa, 9, 9), random_reserved(chance, aa))),
         lambda: random_no_position(chance, head, aa),
+        lambda: random_status(chance, head, aa),  # of a ground station 5
         lambda: random_acceptable(chance),
         lambda: flipped(random_acceptable(chance), chance.randrange(1, 113)),
         lambda: chance.randbytes(14),

@@ -152,7 +152,7 @@ def damaged_lines():
     yield from [(b"*%b;" % good[:14], 1), (b"*0000;", 1), (b"*%b00;" % good, 1), (b"@%b%b;" % (stamp, good[:26]), 1)]
     yield b"*%b;" % flipped(GOOD, 50).hex().encode(), 3
     yield b"*%b;" % bytes(14).hex().encode(), 4
-    yield b"*%b;" % sealed_message(17, 5, 0xABCDEF, 31, 0).hex().encode(), 5
+    yield b"*%b;" % sealed_message(17, 5, 0xABCDEF, 30, 0).hex().encode(), 5
     yield b"*%b;" % traffic.no_position(TRANSPONDER, 0x123456).hex().encode(), 12
     none = [b"", b" ", b"\r", b"*", b"@", b";", b"*;", b"@;", b"**", b"@%b;" % stamp, b"@%b;" % stamp[:10], b"hello", b"*hello;"]
     none += [good, b"%b;" % good, b"*%b" % good, b"*%b0;" % good, b"*%b;;" % good, b"**%b;" % good, b"*%b;*%b;" % (good, good)]

@@ -30,7 +30,7 @@ from positions import encode as counts_of
 from programs import ROOT
 from refusals import Refused, answer
 from run_captures import damaged, random_capture
-from table import BODY, KEY, POLE, bits, get
+from table import BODY, KEY, LATITUDE, LONGITUDE, MARKS, POLE, SAVED, TIME, bits, get
 from tracks import Position, Saved, Track
 from traffic import OTHER, TRANSPONDER, airborne
 from vectors import table_vectors
@@ -73,10 +73,11 @@ def place_in(string):
     key, body = get(string, 0, KEY), string[KEY:]
     if string == NOBODY:
         return key, Track()
-    marks, latitude = get(body, 29, 4), signed(get(body, 33, 4) - POLE)
-    position = Position(bits(marks, 24, 24), latitude, get(body, 37, 4), get(body, 41, 8))
-    groups = get(body, 0, 8), get(body, 8, 7), get(body, 15, 7), get(body, 22, 7), bits(marks, 0, 11), bits(marks, 12, 23)
-    return key, Track(*groups, position, (saved_in(body, 49), saved_in(body, 62)))
+    marks, latitude = get(body, MARKS, 4), signed(get(body, LATITUDE, 4) - POLE)
+    position = Position(bits(marks, 24, 24), latitude, get(body, LONGITUDE, 4), get(body, TIME, 8))
+    groups = get(body, 0, 8), *(get(body, at, 7) for at in (8, 15, 22, 29))
+    of_marks = (bits(marks, first, last) for first, last in ((0, 11), (12, 23), (25, 29), (30, 30)))
+    return key, Track(*groups, *of_marks, position, tuple(saved_in(body, at) for at in SAVED))
 
 
 def timed_bytes(found):
@@ -86,8 +87,8 @@ def timed_bytes(found):
 
 def track_bytes(track):
     """All values of a track in their order."""
-    halves = track.pressure << 16 | track.height
-    return eights(*track[:4]) + fours(halves) + b"".join(map(timed_bytes, (track.position, *track.saved)))
+    halves = fours(track.pressure << 16 | track.height) + bytes([track.typecode, track.bit8])
+    return eights(*track[:5]) + halves + b"".join(map(timed_bytes, (track.position, *track.saved)))
 
 
 def place_bytes(key, track):
@@ -222,8 +223,9 @@ class Slices(Bench):
 
 BEYOND = (POLE + 1, -POLE - 1, 2**31 - 1, -(2**31))
 RANGES = [  # the value, those that are in its range, those that are not
-    *((name, (0, 1, 2**56 - 1), (2**56, 2**63, 2**64 - 1)) for name in ("identification", "velocity", "surface")),
+    *((name, (0, 1, 2**56 - 1), (2**56, 2**63, 2**64 - 1)) for name in ("identification", "velocity", "surface", "status")),
     *((name, (0, 1, 4095), (4096, 65535)) for name in ("pressure", "height")),
+    ("typecode", (0, 1, 31), (32, 255)),
     ("heard", (0, 5_400, 5_401, LAST), ()),
 ]
 
@@ -347,7 +349,7 @@ def blocks_and_captures(bench):
         read_block(bench, string)
     for whole in (*wholes, b"", bytes(700)):
         feed(bench, table.length_of(4), whole)
-    for size in (0, 94, table.length_of(1)):
+    for size in (0, table.length_of(1) - 1, table.length_of(1)):
         feed(bench, size, wholes[-1])
 
 
@@ -432,16 +434,21 @@ def me_of(type_code, i, counts):
     return type_code << 51 | i << 34 | counts[0] << 17 | counts[1]
 
 
+def hand_made(position, saved):
+    """A track whose other values are all different."""
+    return Track(1, 2, 3, 4, 5, 6, 7, 8, 1, position, saved)
+
+
 def step_airborne(bench, position, partner, i):
     """A track after an airborne message; on 8 its position is as it was."""
-    track, counts = Track(1, 2, 3, 4, 5, 6, position, saved_of(i, partner)), counts_by(AIRBORNE, i)[0]
+    track, counts = hand_made(position, saved_of(i, partner)), counts_by(AIRBORNE, i)[0]
     bench.tried.add(("step", ("airborne", how(tracks.airborne_position, position, partner, i, counts, NOW)[1])))
     step_me(bench, track, me_of(11, i, counts), SITES[0])
 
 
 def step_on_surface(bench, position, site, i):
     """The same of a surface message."""
-    track, counts = Track(1, 2, 3, 4, 5, 6, position, saved_of(i, Saved(1, 5, 6, NOW))), counts_by(SURFACE, i)[0]
+    track, counts = hand_made(position, saved_of(i, Saved(1, 5, 6, NOW))), counts_by(SURFACE, i)[0]
     place = site[1:] if site[0] else None
     bench.tried.add(("step", ("surface", how(tracks.surface_position, position, place, i, counts, NOW)[1])))
     step_me(bench, track, me_of(7, i, counts), site)
@@ -449,7 +456,7 @@ def step_on_surface(bench, position, site, i):
 
 def step_lost(bench, position, site, i, code):
     """The same of TYPE 0 with an altitude code: no value of a place is read, so none is out of its range."""
-    track = Track(1, 2, 3, 4, 5, 6, position, saved_of(i, Saved(1, 2**32 - 1, 6, NOW)))
+    track = hand_made(position, saved_of(i, Saved(1, 2**32 - 1, 6, NOW)))
     bench.tried.add(("step", ("lost", code)))
     step_me(bench, track, me_of(0, i, counts_by(AIRBORNE, i)[0]) | code << 36, site)
 
@@ -475,6 +482,8 @@ def hand_made_edges(bench):
         step_lost(bench, position, site, i, code)
     for type_code, beyond in product(range(32), (0, 2**56, 2**63)):
         step_me(bench, Track(position=POSITIONS[0]), beyond + me_of(type_code, ODD, (5, 6)), SITES[0])
+    for subtype, beyond in product(range(8), (0, 2**48 - 1, 2**56, 2**63)):
+        step_me(bench, hand_made(POSITIONS[0], saved_of(ODD, Saved())), beyond | 31 << 51 | subtype << 48, SITES[0])
 
 
 def any_of(chance, values, bits):
@@ -502,8 +511,10 @@ def hand_made_at_random(bench):
         counts = chance.getrandbits(17), chance.getrandbits(chance.choice((17, 17, 32)))
         put_airborne(bench, position, partner, i, counts, time)
         put_on_surface(bench, position, site, i, counts, time)
-        groups = time, *(chance.getrandbits(64) for _ in range(3)), chance.getrandbits(16), chance.getrandbits(16)
-        step_me(bench, Track(*groups, position, saved_of(i, partner)), chance.getrandbits(64), site, time)
+        groups = time, *(chance.getrandbits(64) for _ in range(4)), chance.getrandbits(16), chance.getrandbits(16)
+        latest = chance.getrandbits(8), chance.getrandbits(1)
+        me = chance.choice((chance.getrandbits(64), 31 << 51 | chance.randrange(2) << 48 | chance.getrandbits(48)))
+        step_me(bench, Track(*groups, *latest, position, saved_of(i, partner)), me, site, time)
 
 
 # The run
@@ -511,7 +522,7 @@ def hand_made_at_random(bench):
 
 def run():
     """All scripts."""
-    bench = table_vectors.run(Slices())
+    bench = table_vectors.run_told(table_vectors.run(Slices()))
     for script in (refused_set_ups, odd_places, blocks_and_captures, identifications, hand_made_edges, hand_made_at_random):
         script(bench)
     return bench

@@ -26,6 +26,12 @@ def kind(call, outcome):
     return KINDS[kind_of(messages.decode(bytes.fromhex(words[1])))] if name == "receive" and outcome.startswith("0 ") else None
 
 
+def is_status(call, outcome):
+    """Was a status received, and accepted?"""
+    name, *words = call.split()
+    return name == "receive" and outcome.startswith("0 ") and int(words[1][8:10], 16) >> 3 == 31
+
+
 def main():
     seed, calls, every = [*map(int, sys.argv[1:]), *(SEED, CALLS, EVERY)[len(sys.argv) - 1 :]]
     done = ran(f"{C}/stress", seed, calls, every, seconds=MOST_SECONDS * max(1, calls // CALLS))
@@ -33,7 +39,7 @@ def main():
     if done.returncode != 0:
         print(f"status {done.returncode} {done.stderr.decode()}\n{sample[-1] if sample else ''}")
         return 1
-    names, answers, kinds = Counter(), Counter(), set()
+    names, answers, kinds, statuses = Counter(), Counter(), set(), 0
     for line in sample:
         call, outcome = line.split(" = ")
         if f"= {outcome}" != outcome_text(call):
@@ -42,7 +48,8 @@ def main():
         names[call.split()[0]] += 1
         answers[outcome.split()[0]] += call.split()[0] != "table_bytes"
         kinds.add(kind(call, outcome))
-    missing = {*FUNCTIONS} - {*names} | NUMBERS - {*answers} | {*KINDS.values()} - kinds
+        statuses += is_status(call, outcome)
+    missing = {*FUNCTIONS} - {*names} | NUMBERS - {*answers} | {*KINDS.values()} - kinds | ({"status"} if not statuses else set())
     if missing and (seed, calls, every) == (SEED, CALLS, EVERY):
         print(f"the sample has none of {missing}")
         return 1

@@ -15,6 +15,7 @@ from random import Random
 import captures
 import degrees
 import embedding
+import integrity
 import make_samples
 import messages
 import positions
@@ -63,7 +64,7 @@ def parity_rows():
     """Published remainders and the paper's examples."""
     for text, due, _ in published.PARITY_ROWS:
         equal(f"remainder of {text}", remainder(bytes.fromhex(text)), due)
-    for text in [text for text, _ in published.FIELD_ROWS] + published.STATUS_MESSAGES:
+    for text, _ in published.FIELD_ROWS + published.STATUS_ROWS:
         equal(f"remainder of {text}", remainder(bytes.fromhex(text)), 0)
         equal(f"seal of {text}", seal(bytes.fromhex(text)[:11]), int(text[22:], 16))
     equal("remainder of 14 zero bytes", remainder(bytes(14)), 0)
@@ -98,7 +99,7 @@ def parity_laws():
 
 def flipped_bits():
     """An acceptable message with any one of its 112 bits flipped is refused with 3."""
-    for text, _ in published.FIELD_ROWS:
+    for text, _ in published.FIELD_ROWS + published.STATUS_ROWS:
         message = bytes.fromhex(text)
         for bit in range(1, 113):
             refused(3, messages.decode, (int.from_bytes(message, "big") ^ 1 << 112 - bit).to_bytes(14, "big"))
@@ -203,13 +204,11 @@ def message_rows():
             refused(number, messages.decode, string)
         else:
             equal(text, messages.encode(messages.decode(string)), string)
-    for text, fields in published.FIELD_ROWS + published.NO_POSITION_ROWS:
+    for text, fields in published.FIELD_ROWS + published.NO_POSITION_ROWS + published.STATUS_ROWS:
         message = messages.decode(bytes.fromhex(text))
         for name, due in fields.items():
             equal(f"{text} {name}", message[name], due)
         equal(text, messages.encode(message).hex().upper(), text)
-    for text in published.STATUS_MESSAGES:
-        refused(5, messages.decode, bytes.fromhex(text))
     for text, due in published.TEXTS:
         equal(text, readings.text(messages.decode(bytes.fromhex(text))["characters"]), due)
     refused(4, messages.decode, bytes(14))
@@ -244,9 +243,13 @@ def layouts():
         equal("bits in order", [first for _, first, _ in fields], [last + 1 for last in ends[:-1]])
         equal("last bit", ends[-1], 56)
     taken = {type_code for (type_code, _), fields in of_type.items() if fields}
-    equal("TYPEs taken", taken, set(range(23)))
+    equal("TYPEs taken", taken, {*range(23), 31})
     equal("TYPE 0, whatever bits 6-8 are", {id(of_type[0, subtype]) for subtype in range(8)}, {id(messages.AIRBORNE)})
     equal("subtypes taken", [s for s in range(8) if of_type[19, s]], [1, 2, 3, 4])
+    equal("subtypes of status", [s for s in range(8) if of_type[31, s]], [0, 1])
+    places = {name: (first, last) for name, first, last in messages.STATUS}
+    equal("version and A, as source 000 has them", (places["version"], places["supplement A"]), ((41, 43), (44, 44)))
+    equal("C, and the rest", (places["bit 20"], places["NACp"], places["SIL"]), ((20, 20), (45, 48), (51, 52)))
 
 
 def flag_in(bits):
@@ -268,7 +271,9 @@ def message_laws():
             due = 3
         elif bits[:5] != "10001" and bits[:8] not in ("10010000", "10010001", "10010010", "10010101"):
             due = 4
-        elif bits[32:37] > "10110":
+        elif "10110" < bits[32:37] < "11111":
+            due = 5
+        elif bits[32:37] == "11111" and (bits[37:40] > "001" or bits[:8] in ("10010010", "10010101")):
             due = 5
         elif bits[32:37] == "10011" and not "001" <= bits[37:40] <= "100":
             due = 5
@@ -287,10 +292,15 @@ def message_laws():
         name, first, last = chance.choice(fields)
         refused(8, messages.encode, message | {name: message[name] + (1 << last - first + 1)})
         refused(8, messages.encode, message | {"DF": 18, "CA or CF": chance.choice((3, 4, 6, 7))})
+        is_status = fields[4:] == messages.STATUS
         reserved = answer(messages.encode, message | {"DF": 18, "CA or CF": 5}) == "refused 8"
-        equal("CF 5 encoded, unless the flag is set", reserved, flag_in(bits) == "1")
-        refused(8, messages.encode, message | {"TYPE": chance.choice(range(23, 32))})
+        equal("CF 5 encoded, unless the flag is set or it is a status", reserved, flag_in(bits) == "1" or is_status)
+        refused(8, messages.encode, message | {"TYPE": chance.choice(range(23, 31))})
         refused(8, messages.encode, message | {"TYPE": 4 if message["TYPE"] > 4 else 5})
+        equal("TYPE 31 of a status alone", answer(messages.encode, message | {"TYPE": 31}) != "refused 8", is_status)
+        if is_status:
+            refused(8, messages.encode, message | {"subtype": chance.randrange(2, 8)})
+            refused(8, messages.encode, message | {"DF": 18, "CA or CF": 2})
         if fields[4:] == messages.AIRBORNE:
             equal("TYPE 0 encoded", messages.decode(messages.encode(message | {"TYPE": 0})), message | {"TYPE": 0})
         else:
@@ -630,7 +640,8 @@ def track_rules():
         equal("one that is not read", tracks.surface_position(unread, None, EVEN, (0, 0), 100), unread)
 
 
-FULL = Track(5, 1 << 51, 19 << 51 | 1 << 48, 5 << 51, 888, 77, Position(1, *HERE, 3), (Saved(1, 1, 2, 3), Saved(1, 4, 5, 4)))
+MES = 1 << 51, 19 << 51 | 1 << 48, 5 << 51, 31 << 51 | 5 << 12  # of each group
+FULL = Track(5, *MES, 888, 77, 12, 1, Position(1, *HERE, 3), (Saved(1, 1, 2, 3), Saved(1, 4, 5, 4)))
 
 
 def lost_positions():
@@ -742,9 +753,9 @@ def bytes_of_tracks():
     """A body of a track, read again; the layout's offsets; a table that no set-up made."""
     chance = Random(16)
     for _ in range(500):
-        track = table_vectors.random_track(chance, 10**6)
+        track = table_vectors.with_status(chance, table_vectors.random_track(chance, 10**6))
         body = lent_table.body_of(track)
-        equal("75 bytes", len(body), 75)
+        equal("82 bytes", len(body), 82)
         read = lent_table.track_of(body)
         equal("read again", lent_table.track_of(lent_table.body_of(read)), read)
         for value, due in zip((read.position, *read.saved), (track.position, *track.saved)):
@@ -754,19 +765,26 @@ def bytes_of_tracks():
             equal(f"{name} of its TYPE", getattr(read, name), me if me >> 51 in types else 0)
         of_velocity = [19 << 3 | subtype for subtype in (1, 2, 3, 4)]
         equal("velocity of its TYPE", read.velocity, track.velocity if track.velocity >> 48 in of_velocity else 0)
-    for offset, size, name in ((0, 8, "heard"), (8, 7, "identification"), (15, 7, "velocity"), (22, 7, "surface")):
-        equal(name, lent_table.get(lent_table.body_of(Track(**{name: 2**55 + 7})), offset, size), 2**55 + 7)
-    equal("a new track's latitude", lent_table.get(lent_table.body_of(Track()), 33, 4), 2**30)
+        equal("status of its TYPE", read.status, track.status if track.status >> 48 in (0xF8, 0xF9) else 0)
+        equal("any TYPE and bit 8", (read.typecode, read.bit8), (track.typecode, track.bit8))
+    offsets = {"heard": 0, "identification": 8, "velocity": 15, "surface": 22, "status": 29}
+    for name, offset in offsets.items():
+        due, size = 2**55 + 7, 8 if name == "heard" else 7
+        equal(name, lent_table.get(lent_table.body_of(Track(**{name: due})), offset, size), due)
+    for name, bit, width in (("pressure", 0, 12), ("height", 12, 12), ("typecode", 25, 5), ("bit8", 30, 1)):
+        marks = lent_table.get(lent_table.body_of(Track(**{name: 2**width - 1})), 36, 4)
+        equal(f"{name} in the marks", marks, (2**width - 1) << bit)
+    equal("a new track's latitude", lent_table.get(lent_table.body_of(Track()), 40, 4), 2**30)
     for length in range(400):
         made = answer(lent_table.places, bytearray(length))
-        equal(f"length {length}", made, {95: "1", 174: "2", 253: "3", 332: "4"}.get(length, "refused 7"))
-    for length, due in ((80_912, "1024"), (80_991, "refused 7"), (80_911, "refused 7")):
+        equal(f"length {length}", made, {102: "1", 188: "2", 274: "3", 360: "4"}.get(length, "refused 7"))
+    for length, due in ((88_080, "1024"), (88_166, "refused 7"), (88_079, "refused 7"), (80_912, "refused 7")):
         equal(f"length {length}", answer(lent_table.places, bytearray(length)), due)
     made = heard(new_table(3), (from_air(EVEN), 1_000), (from_air(EVEN, aa=TWO), 1_000))
     equal("order of the walk", [key for key, _ in lent_table.walk(made)], [1 << 24 | TWO, KEY])
     lent_table.put(made, lent_table.key_at(1), 4, KEY)
     equal("twins show once", [key for key, _ in lent_table.walk(made)], [KEY])
-    lent_table.put(made, lent_table.body_at(made, 0) + 33, 4, 2**31 + 1)
+    lent_table.put(made, lent_table.body_at(made, 0) + lent_table.LATITUDE, 4, 2**31 + 1)
     heard(made, (from_air(EVEN), 1_500))
     equal("the lowest held twin", lent_table.get(made, lent_table.body_at(made, 1), 8), 1_500)
     lent_table.put(made, lent_table.body_at(made, 1), 8, 2**64 - 1)
@@ -776,8 +794,8 @@ def bytes_of_tracks():
         lent_table.put(made, 8, 4, number)
         site = lent_table.site_of(made)
         equal("the site's number", site and site[0], due)
-    refused(7, lent_table.set_up, bytearray(94), (2**30 + 1, 0))
-    refused(8, lent_table.set_up, bytearray(95), (2**30 + 1, 0))
+    refused(7, lent_table.set_up, bytearray(101), (2**30 + 1, 0))
+    refused(8, lent_table.set_up, bytearray(102), (2**30 + 1, 0))
 
 
 class Swept:
@@ -821,6 +839,8 @@ def swept_tables():
             string = table_vectors.random_message(chance, head, aa, table_vectors.moved(chance, HERE))
             if chance.randrange(4) == 0:
                 string = message_vectors.random_no_position(chance, head, aa)
+            if chance.randrange(6) == 0:
+                string = message_vectors.random_status(chance, head, aa)
             if chance.randrange(12) == 0:
                 string = message_vectors.flipped(string, chance.randrange(1, 113))
             now = time - chance.randrange(2) * chance.randrange(2) if time else 0
@@ -828,7 +848,7 @@ def swept_tables():
             given = answer(lent_table.receive, made, string, now)
             due = answer(swept.receive, string, now)
             equal("refused or not", given if given.startswith("refused") else "None", due)
-            sort = "TYPE 0" if string[4] < 8 else "position" if string[4] >> 3 not in (1, 2, 3, 4, 19) else "other"
+            sort = "TYPE 0" if string[4] < 8 else "position" if string[4] >> 3 not in (1, 2, 3, 4, 19, 31) else "other"
             answers.add((string[0] in (0x92, 0x95), sort, due))
             equal("the tracks held", lent_table.walk(made), swept.held())
             mine = int.from_bytes(string[1:4], "big") if not given.startswith("refused") else -1
@@ -841,6 +861,157 @@ def swept_tables():
     equal("6 and 12", {row for row in answers if row[2][-2:] in (" 6", "12")}, full | unheld)
     accepted = {(ground, sort, "None") for ground in (False, True) for sort in ("TYPE 0", "position", "other")}
     equal("accepted", accepted - answers, set())
+
+
+# Versions and integrity
+
+# By TYPE: NUC of version 0; NIC of version 1 with A 0 and 1; NIC of version 2 with A B, or A C for TYPE 5-8, of 00, 01, 10 and 11
+INTEGRITY = {
+    5: (9, (11, 11), (11, 11, 11, 11)),
+    6: (8, (10, 10), (10, 10, 10, 10)),
+    7: (7, (8, 9), (8, 8, 9, 8)),
+    8: (6, (0, 0), (0, 6, 6, 7)),
+    9: (9, (11, 11), (11, 11, 11, 11)),
+    10: (8, (10, 10), (10, 10, 10, 10)),
+    11: (7, (8, 9), (8, 8, 8, 9)),
+    12: (6, (7, 7), (7, 7, 7, 7)),
+    13: (5, (6, 6), (6, 6, 6, 6)),
+    14: (4, (5, 5), (5, 5, 5, 5)),
+    15: (3, (4, 4), (4, 4, 4, 4)),
+    16: (2, (2, 3), (2, 2, 2, 3)),
+    17: (1, (1, 1), (1, 1, 1, 1)),
+    18: (0, (0, 0), (0, 0, 0, 0)),
+    20: (9, (11, 11), (11, 11, 11, 11)),
+    21: (8, (10, 10), (10, 10, 10, 10)),
+    22: (0, (0, 0), (0, 0, 0, 0)),
+}
+
+
+def me_of_status(version, subtype=0, a=0, c=0):
+    """The ME of a status."""
+    return int.from_bytes(traffic.status(TRANSPONDER, ONE, version, subtype, a, c)[4:11], "big")
+
+
+def integrity_rows():
+    """R-10: each TYPE by each version and each set of supplements, of both subtypes; what is unknown; T, M and N."""
+    for (type_code, (nuc, by_a, by_two)), subtype in product(INTEGRITY.items(), (0, 1)):
+        for a, b, c in product((0, 1), repeat=3):
+            told = [integrity.integrity(tracks.O, me_of_status(version, subtype, a, c), type_code, b) for version in range(8)]
+            second = c * subtype if type_code <= 8 else b
+            due = [("NUC", nuc), ("NIC", by_a[a]), ("NIC", by_two[2 * a + second])]
+            equal(f"TYPE {type_code}, A {a} B {b} C {c}, subtype {subtype}", told, due + ["unknown"] * 5)
+            for kind, version in product((tracks.T, tracks.M, tracks.N), range(8)):
+                found = integrity.integrity(kind, me_of_status(version, subtype, a, c), type_code, b)
+                equal("of traffic as version 1 with A 0", found, ("NIC", by_a[0]))
+    for kind, version, type_code in product(tracks.KINDS, range(8), {*range(32)} - {*INTEGRITY}):
+        equal("no position message heard", integrity.integrity(kind, me_of_status(version), type_code, 1), "unknown")
+    for wide in ((2**56, 11), (0, 32), (2**64 - 1, 255)):
+        refused(8, integrity.integrity, tracks.I, *wide, 0)
+    refused(8, integrity.version, tracks.T, 2**56)
+
+
+def published_rows():
+    """The tables as data: their rows are the published ones, each once; the radius falls as NUC and NIC rise."""
+    equal("the 17 TYPEs", [*integrity.TYPES], [*INTEGRITY])
+    tables = integrity.NUC, integrity.NIC_1, integrity.NIC_2_AIRBORNE, integrity.NIC_2_SURFACE
+    equal("rows", [len(table) for table in tables], [17, 21, 17, 8])
+    for table in tables:
+        equal("no row twice", len({row[:-2] for row in table}), len(table))
+    for type_code, *named, nic, radius in integrity.NIC_1 + integrity.NIC_2_AIRBORNE + integrity.NIC_2_SURFACE:
+        miles = {"m": Fraction(1, 1852), "NM": Fraction(1), "km": Fraction(1000, 1852)}
+        sign, size, unit = radius.replace(",", "").split()[:3]
+        bounds = {11: "7.5 m", 10: "25 m", 9: "75 m", 8: "0.1 NM", 7: "0.2 NM", 6: "0.6 NM", 5: "1 NM", 4: "2 NM", 3: "4 NM", 2: "8 NM", 1: "20 NM"}
+        if sign == "<":
+            most, of = bounds[nic].split()
+            true(f"TYPE {type_code}, {named}: {radius}", Fraction(size) * miles[unit] <= Fraction(most) * miles[of])
+        else:
+            equal(f"TYPE {type_code}: {radius}", nic, 0)
+    sixteen = [integrity.integrity(tracks.I, me_of_status(1, 0, a), 16, 0) for a in (0, 1)]
+    equal("TYPE 16, not as source 003 has it", sixteen, [("NIC", 2), ("NIC", 3)])
+    for text, said in published.STATUS_ROWS:
+        me = int.from_bytes(bytes.fromhex(text)[4:11], "big")
+        equal(text, integrity.version(tracks.I, me), said["version"])
+        a, _, c = integrity.supplements(tracks.I, me, 1)
+        has = said["version"] in (1, 2)
+        equal(text, (a, c), (said["supplement A"] * has, said["bit 20"] * (said["version"] == 2)))
+
+
+def versions():
+    """R-10: none heard is version 0, and so is what is no status; T, M and N are 1; the supplements that a version has."""
+    for kind, due in zip(tracks.KINDS, (0, 0, 1, 1, 1)):
+        for me in (0, 31 << 51 | 2 << 48 | 7 << 13, 30 << 51 | 2 << 13):
+            equal(f"kind {kind}, none heard", integrity.version(kind, me), due)
+        for version, subtype, bit in product(range(8), (0, 1), (0, 1)):
+            me = me_of_status(version, subtype, bit, bit)
+            equal("the version", integrity.version(kind, me), 1 if due else version)
+            has = {1: (bit, 0, 0), 2: (bit, 1, bit * subtype)}.get(version, (0, 0, 0))
+            equal("the supplements", integrity.supplements(kind, me, 1), (0, 0, 0) if due else has)
+    for place in range(1, 57):
+        changed = me_of_status(2, 1, 1, 1) ^ 1 << 56 - place
+        found = [integrity.version(tracks.I, changed), integrity.supplements(tracks.I, changed, 1), integrity.integrity(tracks.I, changed, 8, 0)]
+        same = found == [2, (1, 1, 1), ("NIC", 7)]
+        equal(f"ME bit {place} decides", not same, place <= 8 or place in (20, 41, 42, 43, 44))
+
+
+def statuses():
+    """R-10: a status starts a track of I and O, replaces its group whole, and leaves all else; 5 for the others."""
+    for head, kind in ((TRANSPONDER, tracks.I), (traffic.NO_TRANSPONDER, tracks.I), (OTHER, tracks.O)):
+        for version, subtype, bit in product(range(8), (0, 1), (0, 1)):
+            told = traffic.status(head, ONE, version, subtype, bit, bit)
+            me = int.from_bytes(told[4:11], "big")
+            equal("encoded back", messages.encode(messages.decode(told)), told)
+            made = heard(new_table(1), (told, 1_000))
+            equal("a status alone", dict(lent_table.walk(made)), {kind << 24 | ONE: Track(heard=1_000, status=me)})
+            equal("its group and last heard", tracks.step(FULL, told, HERE, 9), FULL._replace(heard=9, status=me))
+            refused(6, lent_table.receive, made, traffic.status(head, TWO, version), 1_000)
+    for (df, cf), subtype, rest in product(((17, 5), (18, 0), (18, 1), (18, 2), (18, 5)), range(8), (0, 2**48 - 1)):
+        string = message_vectors.sealed_message(df, cf, ONE, 31, subtype << 48 | rest)
+        given = answer(lent_table.receive, new_table(1), string, 5)
+        equal("5", given == "refused 5", subtype >= 2 or cf in (2, 5) and df == 18)
+
+
+def latest_positions():
+    """R-10: TYPE and ME bit 8 are the latest position message's, which a surface one does not have; TYPE 0 leaves both."""
+    for head, type_code, bit in product((TRANSPONDER, OTHER), INTEGRITY, (0, 1)):
+        string = message_vectors.of_head(head, ONE, type_code, bit << 48 | 12345)
+        after = tracks.step(Track(typecode=30, bit8=1, status=7), string, None, 9)
+        equal(f"TYPE {type_code}, bit {bit}", (after.typecode, after.bit8, after.status), (type_code, bit * (type_code > 8), 7))
+    for string in (traffic.no_position(TRANSPONDER, ONE), message_vectors.sealed_message(17, 5, ONE, 0, 2**51 - 1)):
+        after = tracks.step(FULL, string, None, 9)
+        equal("TYPE 0 leaves both", (after.typecode, after.bit8), (FULL.typecode, FULL.bit8))
+    told = [traffic.status(TRANSPONDER, ONE, *row) for row in ((2, 1, 1, 1), (2, 0, 1, 0), (1, 0, 0, 0), (3, 0, 0, 0))]
+    track, due = Track(), ["unknown", ("NUC", 7), ("NIC", 9), ("NIC", 9), ("NIC", 8), "unknown", "unknown"]
+    found = [integrity.integrity(tracks.I, track.status, track.typecode, track.bit8)]
+    for string in (message_vectors.sealed_message(17, 5, ONE, 11, 1 << 48), *told, traffic.no_position(TRANSPONDER, ONE)):
+        track = tracks.step(track, string, None, 9)
+        found.append(integrity.integrity(tracks.I, track.status, track.typecode, track.bit8))
+    equal("a status changes it at once", found, due)
+    down = tracks.step(tracks.step(track, told[0], None, 9), traffic.surface(TRANSPONDER, ONE, EVEN, HERE, 8), None, 9)
+    equal("down, B is 0", integrity.supplements(tracks.I, down.status, down.bit8), (1, 0, 1))
+    equal("down", integrity.integrity(tracks.I, down.status, down.typecode, down.bit8), ("NIC", 7))
+    after = tracks.step(down, told[1], None, 9)
+    equal("after subtype 0, C is 0", integrity.integrity(tracks.I, after.status, after.typecode, after.bit8), ("NIC", 6))
+
+
+def rows_of_tracks():
+    """R-10: what C is told of a track: 66 entries, the new ones where they stand; of an ME by itself, version, A and C."""
+    equal("entries", embedding.AT["TRACK"], 66)
+    names = "STATUS POSITION_TYPE POSITION_BIT8 VERSION SUPPLEMENT_A SUPPLEMENT_B SUPPLEMENT_C INTEGRITY_IS INTEGRITY".split()
+    equal("where they stand", [embedding.AT[f"TRACK_{name}"] for name in names], [5, 8, 9, 60, 61, 62, 63, 64, 65])
+    track = Track(status=me_of_status(2, 1, 1, 1), typecode=11, bit8=1)
+    due = {tracks.I: [2, 1, 1, 1, 2, 9], tracks.O: [2, 1, 1, 1, 2, 9], **dict.fromkeys((3, 4, 5), [1, 0, 0, 0, 2, 8])}
+    for kind, last in due.items():
+        made = embedding.row(66, embedding.track_row(track, kind))
+        equal(f"kind {kind}", [made[5], *made[8:10], *made[60:]], [track.status, 11, 1, *last])
+    equal("NUC 0 is a number", embedding.row(66, embedding.track_row(Track(typecode=18), tracks.I))[60:], [0, 0, 0, 0, 1, 0])
+    equal("unknown", embedding.row(66, embedding.track_row(Track(status=me_of_status(7)), tracks.I))[60:], [7, 0, 0, 0, 0, 0])
+    known, unknown, none = (embedding.AT[name] for name in ("KNOWN", "UNKNOWN", "NONE"))
+    for version, subtype in product(range(8), (0, 1)):
+        made = embedding.me(me_of_status(version, subtype, 1, 1), KEY)
+        first = [known, version] if version <= 2 else [none, 0]
+        a = [known, 1] if version in (1, 2) else [unknown, 0]
+        c = [known, subtype] if version == 2 else [unknown, 0]
+        equal(f"version {version}, subtype {subtype}", made[20:26], first + a + c)
 
 
 # Captures and the listing
@@ -893,7 +1064,7 @@ def positioned():
 
 
 def random_captures():
-    """Among the records of the random captures are TYPE 0s, and CF 2 and 5, that are accepted, and some that earn 12 or 5."""
+    """Among the records of the random captures are TYPE 0s, status, and CF 2 and 5, that are accepted, and some that earn 12 or 5."""
     chance, seen = Random(11), set()
     for whole in [run_captures.random_capture(chance) for _ in range(20)]:
         made = new_table(captures.PLACES)
@@ -903,10 +1074,11 @@ def random_captures():
                 given = answer(lent_table.receive, made, string, time)
                 given = given if given.startswith("refused") else "accepted"
                 seen |= {given} if string[4] < 8 else set()
+                seen |= {("status", given)} if string[4] >> 3 == 31 else set()
                 seen |= {(string[0] & 7, given)} if string[0] in (0x92, 0x95) and string[4] >= 8 else set()
-    due = {"accepted", "refused 12", "refused 2", (5, "refused 5")}
+    due = {"accepted", "refused 12", "refused 2", (5, "refused 5"), ("status", "accepted"), ("status", "refused 5")}
     due |= {(cf, given) for cf in (2, 5) for given in ("accepted", "refused 12")}
-    equal("TYPE 0 and traffic in captures", due - seen, set())
+    equal("TYPE 0, status and traffic in captures", due - seen, set())
 
 
 def blocks():
@@ -1106,6 +1278,12 @@ TESTS = [
     begun,
     differences,
     on_the_ground,
+    integrity_rows,
+    published_rows,
+    versions,
+    statuses,
+    latest_positions,
+    rows_of_tracks,
     bytes_of_tracks,
     swept_tables,
     listings,

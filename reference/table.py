@@ -1,16 +1,16 @@
 """The lent table as bytes: the paper, "Tracks", in the layout of docs/TABLE.md.
 
-A table of n places has 16 + 79 n bytes: the clock, the site, a column of n keys, n bodies of 75 bytes.
+A table of n places has 16 + 86 n bytes: the clock, the site, a column of n keys, n bodies of 82 bytes.
 Numbers are low byte first. A call changes the table in place, or raises Refused.
 """
 
-from messages import IDENTIFICATION, OVER_GROUND, SURFACE, THROUGH_AIR, decode, layout
+from messages import IDENTIFICATION, OVER_GROUND, STATUS, SURFACE, THROUGH_AIR, decode, layout
 from positions import latitude_test
 from refusals import Refused
 from tracks import KINDS, Position, Saved, Track, is_stale, key_of, starts, step
 
-HEAD, KEY, BODY = 16, 4, 75
-HEARD, LATITUDE = 0, 33  # in a body; the latitude is the only value of it that has a range
+HEAD, KEY, BODY = 16, 4, 82
+HEARD, MARKS, LATITUDE, LONGITUDE, TIME, SAVED = 0, 36, 40, 44, 48, (56, 69)  # in a body; of its values only the latitude has a range
 MOST_PLACES = 1024
 POLE = 2**30
 
@@ -49,23 +49,26 @@ def saved_of(body, at):
 
 def position_of(body):
     """The position, if bit 24 of its marks says that it is known."""
-    if not bits(get(body, 29, 4), 24, 24):
+    if not bits(get(body, MARKS, 4), 24, 24):
         return Position()
-    return Position(1, get(body, LATITUDE, 4) - POLE, get(body, 37, 4), get(body, 41, 8))
+    return Position(1, get(body, LATITUDE, 4) - POLE, get(body, LONGITUDE, 4), get(body, TIME, 8))
 
 
 def track_of(body):
     """The track of a body that is in range. Bits that no value has are ignored, and so is what has no mark."""
-    marks = get(body, 29, 4)
+    marks = get(body, MARKS, 4)
     return Track(
         heard=get(body, HEARD, 8),
         identification=group_of(body, 8, IDENTIFICATION),
         velocity=group_of(body, 15, OVER_GROUND, THROUGH_AIR),
         surface=group_of(body, 22, SURFACE),
+        status=group_of(body, 29, STATUS),
         pressure=bits(marks, 0, 11),
         height=bits(marks, 12, 23),
+        typecode=bits(marks, 25, 29),
+        bit8=bits(marks, 30, 30),
         position=position_of(body),
-        saved=(saved_of(body, 49), saved_of(body, 62)),
+        saved=tuple(saved_of(body, at) for at in SAVED),
     )
 
 
@@ -76,18 +79,19 @@ def put_saved(body, at, saved):
 
 
 def body_of(track):
-    """The 75 bytes of a track. Bits that no value has are 0."""
+    """The 82 bytes of a track. Bits that no value has are 0."""
     body = bytearray(BODY)
     put(body, HEARD, 8, track.heard)
     put(body, 8, 7, track.identification)
     put(body, 15, 7, track.velocity)
     put(body, 22, 7, track.surface)
-    put(body, 29, 4, track.pressure | track.height << 12 | track.position.known << 24)
+    put(body, 29, 7, track.status)
+    put(body, MARKS, 4, track.pressure | track.height << 12 | track.position.known << 24 | track.typecode << 25 | track.bit8 << 30)
     put(body, LATITUDE, 4, track.position.latitude + POLE)
-    put(body, 37, 4, track.position.longitude)
-    put(body, 41, 8, track.position.time)
-    put_saved(body, 49, track.saved[0])
-    put_saved(body, 62, track.saved[1])
+    put(body, LONGITUDE, 4, track.position.longitude)
+    put(body, TIME, 8, track.position.time)
+    for at, saved in zip(SAVED, track.saved):
+        put_saved(body, at, saved)
     return body
 
 

@@ -1,4 +1,5 @@
-"""The paper, "Tracks": one track, and its step by one message; of TYPE 0 the request R-2, of kinds T, M and N the request R-3.
+"""The paper, "Tracks": one track, and its step by one message; of TYPE 0 the request R-2, of kinds T, M and N the request R-3,
+of status the request R-10.
 
 Times are whole milliseconds.
 """
@@ -6,7 +7,7 @@ Times are whole milliseconds.
 from typing import NamedTuple
 
 from messages import AIRBORNE as AIRBORNE_FIELDS
-from messages import IDENTIFICATION, decode, flag, is_traffic, layout
+from messages import IDENTIFICATION, STATUS, decode, flag, is_traffic, layout
 from messages import SURFACE as SURFACE_FIELDS
 from positions import AIRBORNE, EVEN, ODD, SURFACE, pair, single
 from refusals import Refused
@@ -37,14 +38,20 @@ class Position(NamedTuple):
 
 
 class Track(NamedTuple):
-    """What a track holds. Of three groups the ME that gave it, 0 for none; of two heights the code."""
+    """What a track holds. Of four groups the ME that gave it, 0 for none; of two heights the code.
+
+    Of the latest position message its TYPE, 0 if none was heard, and ME bit 8 if it was an airborne one, else 0.
+    """
 
     heard: int = 0
     identification: int = 0
     velocity: int = 0
     surface: int = 0
+    status: int = 0
     pressure: int = 0
     height: int = 0
+    typecode: int = 0
+    bit8: int = 0
     position: Position = Position()
     saved: tuple = (Saved(), Saved())  # the latest even and the latest odd one, by F
 
@@ -148,7 +155,7 @@ def airborne(track, message, time):
     saved = (mine, track.saved[ODD]) if i == EVEN else (track.saved[EVEN], mine)
     position = unless_out_of_range(track.position, airborne_position, track.saved[1 - i], i, counts, time)
     group = {"pressure": message["altitude"]} if message["TYPE"] <= 18 else {"height": message["altitude"]}
-    return track._replace(saved=saved, position=position, **group)
+    return track._replace(saved=saved, position=position, typecode=message["TYPE"], bit8=message["bit 8"], **group)
 
 
 def without_position(track, message):
@@ -160,7 +167,7 @@ def on_surface(track, message, me, site, time):
     """Clears the two saved ones; read against the track's position within 120,000, else the site."""
     counts = message["latitude"], message["longitude"]
     position = unless_out_of_range(track.position, surface_position, site, message["F"], counts, time)
-    return track._replace(saved=(Saved(), Saved()), position=position, surface=me)
+    return track._replace(saved=(Saved(), Saved()), position=position, surface=me, typecode=message["TYPE"], bit8=0)
 
 
 def step(track, string, site, time):
@@ -177,4 +184,6 @@ def step(track, string, site, time):
         return on_surface(track, message, me, site, time)
     if fields is IDENTIFICATION:
         return track._replace(identification=me)
+    if fields is STATUS:
+        return track._replace(status=me)
     return track._replace(velocity=me)

@@ -32,10 +32,10 @@ def hundreds_code(feet):
     return next(code for code in range(4096) if not code & 16 and altitude_of(code) == feet)
 
 
-def airborne(head, aa, i, place, type_code=11, altitude=888):
-    """An airborne message from a place, in 2^-32 of a turn."""
+def airborne(head, aa, i, place, type_code=11, altitude=888, bit8=0):
+    """An airborne message from a place, in 2^-32 of a turn. Where the head has a flag, that is bit 8."""
     latitude, longitude = counts_of(AIRBORNE, i, *place)
-    return message(head, aa, type_code, altitude=altitude, F=i, latitude=latitude, longitude=longitude)
+    return message(head, aa, type_code, altitude=altitude, F=i, latitude=latitude, longitude=longitude, **{"bit 8": bit8})
 
 
 def airborne_counts(head, aa, i, counts, type_code=11, altitude=888):
@@ -68,6 +68,11 @@ def identification(head, aa, text, type_code=4, category=3):
     for letter in text.ljust(8):
         characters = characters << 6 | code_of(letter)
     return message(head, aa, type_code, category=category, characters=characters)
+
+
+def status(head, aa, version, subtype=0, a=0, c=0):
+    """An operational status; in version 2, subtype 1, bit 20 is supplement C."""
+    return message(head, aa, 31, **{"subtype": subtype, "version": version, "supplement A": a, "bit 20": c})
 
 
 def velocity(head, aa, east, north, rate=0):

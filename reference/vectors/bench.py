@@ -27,7 +27,7 @@ from refusals import Refused, answer
 from replay import replay
 from tracks import Track, key_of
 
-SPACE = 81_000
+SPACE = 88_200
 
 
 def fours(*numbers):
@@ -45,9 +45,10 @@ def filling(length, seed):
 
 
 def track_text(track):
-    """Every value of a track."""
-    groups = track[:6]  # heard, three groups, two heights
-    return " ".join(str(value) for value in (*groups, *track.position, *track.saved[0], *track.saved[1]))
+    """Every value of a track; those of R-10 stand behind the others."""
+    groups = track.heard, track.identification, track.velocity, track.surface, track.pressure, track.height
+    status = track.status, track.typecode, track.bit8
+    return " ".join(str(value) for value in (*groups, *track.position, *track.saved[0], *track.saved[1], *status))
 
 
 def found_text(question, *arguments):

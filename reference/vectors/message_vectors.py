@@ -2,18 +2,20 @@
 
 A record: one byte n, then n bytes. A line: `refused N`; or the fields in the order of their bits,
 then the message encoded again, in hex.
+Where n is 254 a status made by hand follows, its 17 fields of eight bytes each. A line: `refused 8`, or what it is encoded to.
 """
 
 from itertools import product
 from random import Random
 
 import published
-from messages import AIRBORNE, IDENTIFICATION, SURFACE, decode, encode, layout
+from messages import AIRBORNE, HEAD, IDENTIFICATION, STATUS, SURFACE, decode, encode, layout
 from parity import GENERATOR, sealed
 from refusals import answer
-from traffic import GROUND, NO_TRANSPONDER, OTHER
+from traffic import GROUND, NO_TRANSPONDER, OTHER, TRANSPONDER
 
-STARTING_TYPES = [*range(1, 23)]  # those that may start a track of kind I or O: all that are taken but TYPE 0
+STARTING_TYPES = [*range(1, 23)]  # those that may start a track of kind I or O: all that are taken but TYPE 0, and but for status
+BY_HAND = 254  # in the place of a length
 NOT_TAKEN = (3, 3, 4, 4, 6, 7)  # CFs of DF 18, for a draw
 FLAGS = 1 << 35, 1 << 48, 1 << 47  # ME bits 21, 8 and 9 in the last 51 bits of ME
 
@@ -27,7 +29,7 @@ def sealed_message(df, ca_or_cf, aa, type_code, rest):
 def flag_bit(type_code):
     """Where a TYPE has the flag, in the last 51 bits of ME: on the surface, airborne, of a velocity; 0 where it has none."""
     fields = layout(type_code, 1)
-    if fields in (None, IDENTIFICATION):
+    if fields in (None, IDENTIFICATION, STATUS):
         return 0
     return FLAGS[0] if fields is SURFACE else FLAGS[1] if fields is AIRBORNE else FLAGS[2]
 
@@ -82,13 +84,20 @@ def random_reserved(chance, aa):
     return of_head((18, 5, 1), aa, type_code, random_rest(chance, type_code))
 
 
+def random_status(chance, head, aa):
+    """A status with any bits, of subtype 0 or 1, its version often one of those that are assigned."""
+    rest = chance.getrandbits(48) & ~(7 << 13) | chance.choice((0, 1, 2, 2, 2, chance.randrange(8))) << 13
+    return of_head(head, aa, 31, chance.randrange(2) << 48 | rest)
+
+
 def random_acceptable(chance):
-    """An acceptable message of any kind and TYPE, often of TYPE 0."""
-    kind = chance.randrange(8)
+    """An acceptable message of any kind and TYPE, often of TYPE 0 or 31."""
+    kind, own = chance.randrange(9), [(17, chance.randrange(8)), NO_TRANSPONDER, OTHER]
     if kind < 5:
         return random_valid(chance) if kind < 3 else random_traffic(chance)
-    head = chance.choice([(17, chance.randrange(8)), NO_TRANSPONDER, OTHER, *GROUND])
-    return random_no_position(chance, head, chance.getrandbits(24))
+    if kind == 5:
+        return random_status(chance, chance.choice(own), chance.getrandbits(24))
+    return random_no_position(chance, chance.choice([*own, *GROUND]), chance.getrandbits(24))
 
 
 def flipped(string, *places):
@@ -209,6 +218,51 @@ def of_ground_stations(chance):
         yield random_no_position(chance, chance.choice(GROUND), chance.getrandbits(24))
 
 
+STATUS_BITS = 1 << 36, 1 << 12  # ME bits 20 and 44 in the last 48 bits
+
+
+def each_status(chance):
+    """Each subtype under each DF, CA and CF; each version with bits 20 and 44, set or not."""
+    heads = [(17, ca) for ca in range(8)] + [(18, cf) for cf in range(8)] + [(11, 0), (19, 2)]
+    for head, subtype in product(heads, range(8)):
+        for rest in (0, 2**48 - 1, chance.getrandbits(48)):
+            yield sealed_message(*head, chance.getrandbits(24), 31, subtype << 48 | rest)
+    for head, subtype, version in product((TRANSPONDER, NO_TRANSPONDER, OTHER), (0, 1), range(8)):
+        for bits in product((0, 1), repeat=2):
+            rest = version << 13 | sum(bit * place for bit, place in zip(bits, STATUS_BITS))
+            yield sealed_message(*head, 0xABCDEF, 31, subtype << 48 | rest)
+
+
+def of_status(chance):
+    """TYPE 31: each subtype, version and bit; 3 and 4 before 5; a bit wrong at each place; random ones."""
+    yield from each_status(chance)
+    for (head, subtype), place in product(((TRANSPONDER, 0), (TRANSPONDER, 1), (OTHER, 0), ((18, 2), 0), ((18, 5), 1)), range(48)):
+        yield sealed_message(*head, 0, 31, subtype << 48 | 1 << place)
+    for cf, subtype, wrong in product(range(8), (0, 1, 2, 7), (False, True)):
+        string = sealed_message(18, cf, 0xABCDEF, 31, subtype << 48)
+        yield flipped(string, 100) if wrong else string
+    good = sealed_message(*OTHER, 0x123456, 31, 1 << 48 | 0b010_1 << 12)
+    yield from (flipped(good, place) for place in range(1, 113))
+    for _ in range(200):
+        yield random_status(chance, chance.choice((TRANSPONDER, NO_TRANSPONDER, OTHER)), chance.getrandbits(24))
+
+
+def by_hand():
+    """Statuses as fields: each that is taken or not by DF, CF and subtype, then each field at its last value and past it.
+
+    The mode cannot be past it: a struct has 16 bits for it.
+    """
+    names = [name for name, _, _ in HEAD + STATUS]
+    for head, type_code, subtype in product(((17, 0), (17, 2), (17, 5), *((18, cf) for cf in range(9)), (16, 0), (19, 0)), (30, 31), range(9)):
+        yield dict.fromkeys(names, 0) | {"DF": head[0], "CA or CF": head[1], "AA": 0xABCDEF, "TYPE": type_code, "subtype": subtype}
+    for head, subtype in product((TRANSPONDER, OTHER, (18, 2), (18, 5)), (0, 1)):
+        good = dict.fromkeys(names, 1) | {"DF": head[0], "CA or CF": head[1], "TYPE": 31, "subtype": subtype}
+        for name, first, last in HEAD + STATUS:
+            yield good | {name: 2 ** (last - first + 1) - 1}
+            if name != "mode":
+                yield good | {name: 2 ** (last - first + 1)}
+
+
 def strings():
     """The byte strings decoded."""
     chance = Random(3)
@@ -223,6 +277,7 @@ def strings():
         yield random_valid(chance)
     yield from no_position(Random(4))
     yield from of_ground_stations(Random(5))
+    yield from of_status(Random(6))
 
 
 def answered(string):
@@ -237,3 +292,6 @@ def cases():
     """Records and their lines."""
     for string in strings():
         yield bytes([len(string)]) + string, answer(answered, string)
+    for message in by_hand():
+        record = b"".join(value.to_bytes(8, "big") for value in message.values())
+        yield bytes([BY_HAND]) + record, answer(lambda: encode(message).hex().upper())

@@ -44,6 +44,7 @@ LAYOUTS = [
     ("ground", messages.OVER_GROUND, [(19, 1), (19, 2)]),
     ("air", messages.THROUGH_AIR, [(19, 3), (19, 4)]),
 ]
+STATUS = len(LAYOUTS)  # a layout more, whose bodies stand behind all others
 FIELDS = 15  # that a record carries
 
 
@@ -165,9 +166,30 @@ def bodies_of_traffic():
         yield from ((number, body | {"TYPE": wrong}, True) for wrong in (0, 4, 8, 11, 19, 22, 23, 31))
 
 
+def bodies_of_status():
+    """Each version with both subtypes and both bits; each field at its last value and past it; other TYPEs and subtypes; any.
+
+    The mode cannot be past it: a struct has 16 bits for it.
+    """
+    chance = Random(6)
+    for version, subtype, bit_20, a in product(range(8), (0, 1), (0, 1), (0, 1)):
+        chosen = {"version": version, "bit 20": bit_20, "supplement A": a}
+        yield fitting_body(chance, messages.STATUS, 31, subtype) | chosen, False
+    for subtype, traffic in product((0, 1), (False, True)):
+        good = fitting_body(chance, messages.STATUS, 31, subtype)
+        for name, width in widths(messages.STATUS).items():
+            yield good | {name: (1 << width) - 1}, traffic
+            if name != "mode":
+                yield good | {name: 1 << width}, traffic
+        yield from ((good | {"TYPE": wrong}, traffic) for wrong in (*range(33), 63, 255))
+        yield from ((good | {"subtype": wrong}, traffic) for wrong in (*range(10), 255))
+    for _ in range(60):
+        yield fitting_body(chance, messages.STATUS, 31, chance.randrange(2)), chance.choice((False, True))
+
+
 def body_reading(number, message, traffic):
     """The layout's name, and its readings with a comma after each but the last."""
-    name, fields, _ = LAYOUTS[number]
+    name, fields, _ = [*LAYOUTS, ("status", messages.STATUS, None)][number]
     meant = readings.body(fields, message, traffic)
     if "text" in meant:
         meant["text"] = int.from_bytes(meant["text"].encode("ascii"), "big")
@@ -183,7 +205,8 @@ def cases():
         record = bytes([question, a, b]) + code.to_bytes(2, "big")
         yield record, answer(QUESTIONS[question][3], a, b, code)
     others = [(number, message, False) for number, message in (*bodies(), *bodies_without_position())]
-    for number, message, traffic in (*others, *bodies_of_traffic()):
+    later = [(STATUS, message, traffic) for message, traffic in bodies_of_status()]
+    for number, message, traffic in (*others, *bodies_of_traffic(), *later):
         fields = [*message.values(), *[0] * (FIELDS - len(message))]
         record = bytes([BODY, number, traffic, 0, 0]) + b"".join(value.to_bytes(8, "big") for value in fields)
         yield record, answer(body_reading, number, message, traffic)

@@ -5,8 +5,8 @@ from random import Random
 from positions import EVEN, ODD
 from replay import MOST_RECORDS, RECORD
 from tracks import KINDS, I
-from traffic import ANOTHER, ICAO, MODE_A, NO_TRANSPONDER, OTHER, TRANSPONDER, airborne, identification, no_position, surface, velocity
-from vectors.message_vectors import flipped, random_reserved, sealed_message
+from traffic import ANOTHER, ICAO, MODE_A, NO_TRANSPONDER, OTHER, TRANSPONDER, airborne, identification, no_position, status, surface, velocity
+from vectors.message_vectors import flipped, random_reserved, random_status, sealed_message
 
 POKED = 11  # records at a time
 HERE, SITE, SOUTH = (2**29, 2**30), (2**29 + 5_000, 2**30 - 7_000), (-(2**28), 2**31)
@@ -50,7 +50,7 @@ def of_each_sort(head, aa, i=EVEN):
 
 def damaged(aa):
     """What is refused with 3, 4 and 5, and whose AA is the aircraft's."""
-    return [flipped(sealed_message(17, 5, aa, 11, 12345), 60), sealed_message(17 + 2, 5, aa, 11, 1), sealed_message(18, 3, aa, 11, 1), sealed_message(17, 5, aa, 31, 0)]
+    return [flipped(sealed_message(17, 5, aa, 11, 12345), 60), sealed_message(17 + 2, 5, aa, 11, 1), sealed_message(18, 3, aa, 11, 1), sealed_message(17, 5, aa, 30, 0)]
 
 
 def whole_logs(bench):
@@ -120,6 +120,25 @@ def any_run(bench):
             head, aa = chance.choice(HEADS), chance.choice((ONE, ONE, TWO))
             records.append((time, chance.choice([*of_each_sort(head, aa, chance.randrange(2)), *of_each_sort(head, aa, chance.randrange(2)), *damaged(aa)])))
         every_key(bench, lend(bench, records), chance.choice((SITE, SOUTH)), addresses=(ONE, TWO))
+
+
+def status_in_logs(bench):
+    """A status alone, before a position message and after it, under each kind; then runs with any status."""
+    for head in HEADS[:3]:
+        told, placed = status(head, ONE, 2, 1, 1, 1), airborne(head, ONE, EVEN, HERE)
+        for strings in ([told], [told, placed], [placed, told], [told, placed, status(head, ONE, 1)], [status(head, ONE, 5), surface(head, ONE, ODD, HERE)]):
+            every_key(bench, lend(bench, [*enumerate(strings, 1_000)]), SITE)
+    for cf, subtype in ((2, 0), (5, 1), (1, 2), (0, 7)):  # 5
+        every_key(bench, lend(bench, [(5, airborne(ICAO, ONE, EVEN, HERE)), (6, sealed_message(18, cf, ONE, 31, subtype << 48))]))
+    chance = Random(83)
+    for _ in range(30):
+        time, records = 0, []
+        for _ in range(chance.randrange(4, 24)):
+            time += chance.choice((0, 1, 400, 5_000, 124_999, 125_000))
+            head, aa = chance.choice(HEADS), chance.choice((ONE, ONE, TWO))
+            sorts = of_each_sort(head, aa, chance.randrange(2))
+            records.append((time, chance.choice(sorts) if chance.randrange(3) else random_status(chance, chance.choice(HEADS[:3]), aa)))
+        every_key(bench, lend(bench, records), SOUTH, addresses=(ONE, TWO))
 
 
 SCRIPTS = [whole_logs, late_records, ages, kinds_apart, sites, any_run]

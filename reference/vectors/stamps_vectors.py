@@ -33,7 +33,7 @@ HERE = 2**29, 2**30
 EDGES = (0, 1, HALF - 1, HALF, HALF + 1, TURN - 2, TURN - 1)
 NOISE = flipped(sealed_message(17, 5, ONE, 11, 12345), 60)  # earns 3
 OF_RADAR = bytes(14)  # 4
-STATUS = sealed_message(17, 5, ONE, 31, 0)  # 5
+NOT_TAKEN = sealed_message(17, 5, ONE, 30, 0)  # 5
 SILENT = no_position(TRANSPONDER, TWO, 888)  # 12 where TWO is not held
 
 
@@ -121,7 +121,7 @@ def wraps(bench):
         bench.set_up(2)
         time = start
         for _ in range(24):
-            string = chance.choice((mine(), mine(TWO), identification(OTHER, ONE, "KLM1023"), NOISE, OF_RADAR, STATUS))
+            string = chance.choice((mine(), mine(TWO), identification(OTHER, ONE, "KLM1023"), NOISE, OF_RADAR, NOT_TAKEN))
             bench.stamp(string, time % TURN)
             time += chance.choice((0, 1, 400, 124_999, 125_000, HALF - 1, HALF - 1, chance.randrange(HALF)))
 
@@ -138,7 +138,7 @@ def half_turn(bench):
 def accepted(bench):
     """3, 4, 5, 6 and 12 are accepted stamps, and 1, 7, 2 and 13 are none: after each a stamp 2^31 - 1 past the one before it."""
     full, short = table.length_of(1), mine()[:13]
-    wrong = [(NOISE, 5), (OF_RADAR, 5), (STATUS, 5), (mine(TWO), 5), (SILENT, 5), (short, 5), (mine(), HALF + 5), (mine(), 5)]
+    wrong = [(NOISE, 5), (OF_RADAR, 5), (NOT_TAKEN, 5), (mine(TWO), 5), (SILENT, 5), (short, 5), (mine(), HALF + 5), (mine(), 5)]
     for string, more in wrong:
         for second in (HALF - 1, HALF, HALF + 4, HALF + 5):
             bench.set_up()

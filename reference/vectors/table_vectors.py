@@ -7,7 +7,7 @@ from random import Random
 
 import published
 from positions import AIRBORNE, COUNTS, EVEN, FIGURES, ODD, SURFACE, zones
-from table import BODY, POLE, body_of, key_at, length_of
+from table import BODY, HEARD, KEY, LATITUDE, MARKS, POLE, SAVED, TIME, body_of, key_at, length_of
 from tracks import Position, Saved, Track
 from traffic import (
     ANOTHER,
@@ -22,6 +22,7 @@ from traffic import (
     identification,
     message,
     no_position,
+    status,
     surface,
     velocity,
 )
@@ -34,6 +35,7 @@ from vectors.message_vectors import (
     flipped,
     of_head,
     random_no_position,
+    random_status,
     random_valid,
     sealed_message,
 )
@@ -134,7 +136,7 @@ def holding_ages(bench):
 def nothing_refreshes(bench):
     """A refused message refreshes no track: bad parity, DF, TYPE, length, late."""
     good = airborne(TRANSPONDER, ONE, EVEN, NEAR)
-    bad = [damaged(good), sealed_message(18, 3, ONE, 11, 0), sealed_message(17, 5, ONE, 31, 0)]
+    bad = [damaged(good), sealed_message(18, 3, ONE, 11, 0), sealed_message(17, 5, ONE, 31, 2 << 48)]
     bad += [sealed_message(17, 5, ONE, 23, 0), sealed_message(17, 5, ONE, 19, 5 << 48), good[:13], good + b"\0"]
     for string, end in product(bad, (125_999, 126_000)):
         bench.set_up(2)
@@ -316,7 +318,7 @@ def published_runs(bench):
 
 def refused_message(bad_length, bad_parity, bad_df, bad_type):
     """A message with some of these faults."""
-    string = sealed_message(*((18, 3) if bad_df else (17, 2)), TWO, 31 if bad_type else 11, 12345)
+    string = sealed_message(*((18, 3) if bad_df else (17, 2)), TWO, 30 if bad_type else 11, 12345)
     if bad_parity:
         string = damaged(string)
     return string[:13] if bad_length else string
@@ -340,7 +342,7 @@ def order(bench):
 def lengths(bench):
     """Tables of whole places and just off them; every call earns 7 for the latter."""
     whole = [length_of(count) for count in (1, 2, 3, 255, 256, 257, 1023, 1024)]
-    off = [0, 1, 8, 15, 16, 17, 78, 79, 94, 96, length_of(2) - 16, length_of(1025), SPACE]
+    off = [0, 1, 8, 15, 16, 17, KEY + BODY - 1, KEY + BODY, length_of(2) - 16, length_of(1025), SPACE]
     for length in sorted({*off, *whole, *(size + more for size in whole for more in (-1, 1))}):
         bench.set_up_bytes(length)
         bench.set_up_bytes_at(length, HERE)
@@ -447,8 +449,8 @@ def moved(chance, place):
     return max(-POLE, min(POLE, latitude)), (place[1] + chance.randrange(-(2**20), 2**20)) % 2**32
 
 
-def random_run(bench, seed, places, steps, lost=False, heads=HEADS, weights=(6, 1, 2)):
-    """A few aircraft and fewer places; times that step by the edges; faults now and then; TYPE 0 if positions get lost."""
+def random_run(bench, seed, places, steps, lost=False, heads=HEADS, weights=(6, 1, 2), told=False):
+    """A few aircraft and fewer places; times that step by the edges; faults now and then; TYPE 0 if positions get lost; status if told."""
     chance = Random(seed)
     spots = {}
     for aa in chance.sample(range(2**24), places + 1):
@@ -475,6 +477,8 @@ def random_run(bench, seed, places, steps, lost=False, heads=HEADS, weights=(6, 
             string = random_no_position(chance, head, aa)
         elif fault == 14 and ANOTHER in heads:
             string = sealed_message(18, 5, aa, chance.choice((0, 7, 11, 19)), sum(FLAGS))
+        elif told and fault < 22:
+            string = random_status(chance, head, aa) if head in HEADS else sealed_message(*head[:2], aa, 31, chance.getrandbits(51))
         bench.receive(string, now)
         if step % 8 == 7:
             bench.whole()
@@ -521,12 +525,18 @@ def random_track(chance, clock):
     """A track of any values, its times about the clock; with an ME of another group, or values without a mark."""
     latitude = chance.choice((-POLE, POLE, 0, random_latitude(chance), random_latitude(chance)))
     saved = [Saved(chance.randrange(4) > 0, *random_counts(chance, 2), random_time(chance, clock)) for _ in BOTH]
-    return Track(
-        *(random_time(chance, clock), *(random_me(chance, types) for types in GROUPS)),
-        *(chance.getrandbits(12), chance.getrandbits(12)),
-        Position(chance.randrange(4) > 0, latitude, random_longitude(chance), random_time(chance, clock)),
-        tuple(saved),
-    )
+    heard, (identification, velocity, surface) = random_time(chance, clock), [random_me(chance, types) for types in GROUPS]
+    pressure, height = chance.getrandbits(12), chance.getrandbits(12)
+    position = Position(chance.randrange(4) > 0, latitude, random_longitude(chance), random_time(chance, clock))
+    return Track(heard, identification, velocity, surface, 0, pressure, height, 0, 0, position, tuple(saved))
+
+
+def with_status(chance, track):
+    """The same with any status, now and then an ME of another TYPE or subtype; of the latest position message any TYPE and bit 8."""
+    me = chance.choice((0, chance.getrandbits(56), *[31 << 51 | chance.randrange(2) << 48 | chance.getrandbits(48)] * 6))
+    assigned = me & ~(7 << 13) | chance.randrange(3) << 13  # version 0, 1 or 2
+    type_code = chance.choice((*range(5, 19), 20, 21, 22, chance.randrange(32)))
+    return track._replace(status=chance.choice((me, assigned, assigned)), typecode=type_code, bit8=chance.randrange(2))
 
 
 def any_track_stepped(bench):
@@ -575,7 +585,7 @@ def one_value_off(bench):
             bench.look_up(key)
         for number in (0, 1, 2**31 - 1, 2**31, 2**31 + 1, 2**32 - 1):
             three(bench)
-            poke_number(bench, body_start(3, place) + 33, 4, number)
+            poke_number(bench, body_start(3, place) + LATITUDE, 4, number)
             used(bench)
 
 
@@ -584,29 +594,29 @@ def off_and_unknown(bench):
     for number in (2**31, 2**31 + 1):
         three(bench)
         at = body_start(3, 1)
-        poke_number(bench, at + 29, 4, 888)
-        poke_number(bench, at + 33, 4, number)
+        poke_number(bench, at + MARKS, 4, 888)
+        poke_number(bench, at + LATITUDE, 4, number)
         used(bench)
 
 
 def bits_without_value(bench):
     """Bits that no value has are ignored when read, and 0 when written."""
-    for offset, size in ((29, 4), (49, 5), (62, 5)):
+    for offset, size in ((MARKS, 4), *((at, 5) for at in SAVED)):
         three(bench)
         at = body_start(3, 1) + offset
         old = int.from_bytes(bench.buffer[at : at + size], "little")
-        free = 0xFE000000 if size == 4 else 0xF800000000
+        free = 0x80000000 if size == 4 else 0xF800000000
         poke_number(bench, at, size, old | free)
         used(bench)
     three(bench)
-    bench.poke(body_start(3, 1) + 29, bytes([255] * 4))
-    bench.poke(body_start(3, 1) + 49, bytes([255] * 26))
+    bench.poke(body_start(3, 1) + MARKS, bytes([255] * 4))
+    bench.poke(body_start(3, 1) + SAVED[0], bytes([255] * 26))
     used(bench)
 
 
 def values_that_nobody_has(bench):
     """A position, or a saved one, whose mark says that there is none: it reads as zeros, and a step writes it so."""
-    for at, size, bit in ((29, 4, 24), (49, 5, 34), (62, 5, 34)):
+    for at, size, bit in ((MARKS, 4, 24), *((at, 5, 34) for at in SAVED)):
         three(bench)
         start = body_start(3, 0) + at
         old = int.from_bytes(bench.buffer[start : start + size], "little")
@@ -628,7 +638,7 @@ def foreign_types(bench):
     for top in range(256):
         me = top << 48 | 0x123456
         bench.set_up(1)
-        poke_place(bench, 1, 0, I | ONE, Track(identification=me, velocity=me, surface=me))
+        poke_place(bench, 1, 0, I | ONE, Track(identification=me, velocity=me, surface=me, status=me))
         bench.look_up(I | ONE)
         bench.receive(airborne(TRANSPONDER, ONE, EVEN, HERE), 1_000)
         bench.whole()
@@ -658,7 +668,7 @@ def twins(bench):
 def times_after_the_clock(bench):
     """A time after the clock has age 0: last heard, position, partner."""
     for later in (5_401, 10**6, 2**63, LAST):
-        for offset in (0, 41, 54, 67):
+        for offset in (HEARD, TIME, *(at + 5 for at in SAVED)):
             three(bench)
             poke_number(bench, body_start(3, 0) + offset, 8, later)
             bench.look_up(I | ONE)
@@ -713,7 +723,7 @@ def random_bytes(bench):
             bench.receive(random_message(chance, head, key % 2**24, moved(chance, HERE)), 2**62 + at)
         bench.walk()
         bench.whole()
-    for length in (94, 96, length_of(256) + 1):
+    for length in (length_of(1) - 1, length_of(1) + 1, length_of(256) + 1):
         bench.fill(length, chance.getrandbits(32))
         bench.walk()
         bench.receive(random_valid(chance), LAST)
@@ -899,7 +909,7 @@ def lost_in_any_table(bench):
         bench.receive(no_position(TRANSPONDER, ONE, 888), 130_000)
         bench.receive(no_position(TRANSPONDER, ONE, 0), 130_001)
         seen(bench)
-    for at, size, number in ((key_at(0), 4, ONE), (body_start(3, 0) + 33, 4, 2**31 + 1)):
+    for at, size, number in ((key_at(0), 4, ONE), (body_start(3, 0) + LATITUDE, 4, 2**31 + 1)):
         three(bench)
         poke_number(bench, at, size, number)
         bench.receive(no_position(TRANSPONDER, ONE, 16), 6_000)
@@ -1099,6 +1109,176 @@ def any_traffic_stepped(bench):
         bench.whole()
 
 
+# Operational status
+
+
+def every_status(head, aa):
+    """A status of each version and subtype, with supplements and without; and the published ones, under DF 17."""
+    for version, subtype, bit in product(range(8), (0, 1), (0, 1)):
+        yield status(head, aa, version, subtype, bit, bit)
+    if (head, aa) == (TRANSPONDER, ONE):
+        yield from (bytes.fromhex(text) for text, _ in published.STATUS_ROWS)
+
+
+def status_starts(bench):
+    """A status alone starts a track of kind I or O, and is written again to its 14 bytes; in a full table it earns 6."""
+    for head in HEADS:
+        for string in every_status(head, ONE):
+            bench.set_up(1)
+            bench.receive(string, 1_000)
+            bench.look_up(I | ONE, O | ONE)
+            bench.whole()
+            bench.receive(status(OTHER, TWO, 2), 1_000)
+        seen(bench)
+
+
+def status_not_taken(bench):
+    """5 for subtypes 2-7, and under CF 2 and 5 for any: the clock moves, so that stale tracks go, and no track is started or refreshed."""
+    heads = [*HEADS, (18, 2), (18, 5), (18, 3)]  # the last earns 4
+    for head, subtype, end in product(heads, range(8), (125_599, 125_600)):
+        bench.set_up(2)
+        both(bench, ONE, HERE, 200, ICAO)
+        bench.receive(airborne(OTHER, ONE, EVEN, HERE), 600)
+        for rest in (0, 2**48 - 1):
+            bench.receive(sealed_message(*head, ONE, 31, subtype << 48 | rest), end)
+        seen(bench)
+
+
+def status_and_nothing_else(bench):
+    """Each bit of a status in a track that has every value: the status is replaced whole, and but for last heard all else stays."""
+    for head in HEADS:
+        bench.set_up_at(1, NEAR)
+        every_value(bench, head, ONE, HERE, 0)
+        for place, subtype in product(range(48), (0, 1)):
+            bench.receive(sealed_message(*head, ONE, 31, subtype << 48 | 1 << place), 1_000 + 400 * place)
+        bench.whole()
+        for string in every_status(head, ONE):
+            bench.receive(string, 30_000)
+        seen(bench)
+
+
+def type_of_the_latest(bench):
+    """Each TYPE of a position message with ME bit 8 set and not, whether it gives a position or not; no other message changes either."""
+    for head, site in product(HEADS, (None, NEAR)):
+        new(bench, 1, site)
+        time = 0
+        for type_code, bit in product((*range(5, 19), 20, 21, 22), (0, 1)):
+            time += 12_000
+            bench.receive(of_head(head, ONE, type_code, bit << 48 | 12345), time)
+            others = identification(head, ONE, "TYPES"), velocity(head, ONE, 1, 2), status(head, ONE, 2, 1, 1, 1)
+            for string in (*others, no_position(head, ONE, 888), of_head(head, ONE, 0, 2**51 - 1)):
+                bench.receive(string, time)
+        seen(bench)
+        bench.receive(of_head(head, ONE, 11, 1 << 48), time)
+        bench.receive(surface(head, ONE, EVEN, NEAR), time)
+        seen(bench)
+
+
+def type_of_traffic(bench):
+    """Of T, M and N too, where ME bit 8 is the flag; a status is none of theirs."""
+    for head in GROUND:
+        bench.set_up(2)
+        for time, type_code in enumerate((*range(9, 19), 20, 21, 22, *range(5, 9))):
+            bench.receive(of_head(head, ONE, type_code, 12345), time)
+        for subtype in range(8):
+            bench.receive(sealed_message(*head[:2], ONE, 31, subtype << 48), 20)
+        seen(bench)
+
+
+def versions_apart(bench):
+    """A status is of its key alone: of the other kinds of its address, and of others, nothing changes."""
+    bench.set_up_at(7, HERE)
+    for head in FIVE:
+        both(bench, ONE, HERE, 1_000, head)
+    both(bench, TWO, NEAR, 1_400)
+    for time, (head, aa) in enumerate(product(HEADS, (ONE, TWO))):
+        bench.receive(status(head, aa, 1 + time % 2, time % 2, 1, 1), 2_000 + time)
+        seen(bench)
+
+
+def pairs_across_status(bench):
+    """An even and an odd message pair across a status, which is no position message; nor does it refresh a position."""
+    for first, subtype, gap in product(BOTH, (0, 1), (10_000, 10_001)):
+        bench.set_up_at(1, NEAR)
+        bench.receive(airborne(TRANSPONDER, ONE, first, HERE), 1_000)
+        bench.receive(status(TRANSPONDER, ONE, 2, subtype, 1, 1), 5_000)
+        bench.receive(airborne(TRANSPONDER, ONE, 1 - first, HERE), 1_000 + gap)
+        seen(bench)
+    for site, gap, made in product((None, NEAR), (120_000, 120_001), (airborne, surface)):
+        new(bench, 1, site)
+        both(bench, ONE, HERE, 1_000)
+        for time in range(1_400, 1_400 + gap + 1, 40_000):
+            bench.receive(status(TRANSPONDER, ONE, 2, a=1), time)
+        bench.receive(made(TRANSPONDER, ONE, EVEN, NEAR), 1_400 + gap)
+        seen(bench)
+
+
+def status_refreshes(bench):
+    """It refreshes its own track, as any other: held at 124,999 after it, gone at 125,000, and then it starts anew."""
+    for head, gap in product((TRANSPONDER, OTHER), (124_999, 125_000)):
+        bench.set_up(3)
+        every_value(bench, head, ONE, HERE, 0)
+        bench.receive(status(head, ONE, 1, 1, 1, 1), 100_000)
+        bench.receive(status(head, TWO, 2), 100_000 + gap)
+        bench.look_up(I | ONE, O | ONE)
+        bench.receive(status(head, ONE, 0), 100_000 + gap)
+        seen(bench)
+
+
+def order_of_status(bench):
+    """Every set of faults of a status: 1, 7, 2, 3, 4, 5, then 6 for a key that is not held; and what each leaves."""
+    for faults in product((False, True), repeat=8):
+        bad_length, bad_table, late, bad_parity, bad_cf, bad_subtype, full, held = faults
+        bench.set_up(1)
+        bench.receive(identification(OTHER, TWO if held else ONE, "EZY85MH"), 1_000 if full else 0)
+        bench.receive(damaged(bytes(14)), 125_000)
+        if bad_table:
+            bench.lend(length_of(1) - 1)
+        string = sealed_message(18, 3 if bad_cf else 1, TWO, 31, (2 if bad_subtype else 1) << 48 | 0b0101 << 12)
+        string = damaged(string) if bad_parity else string
+        bench.receive(string[:13] if bad_length else string, 124_999 if late else 125_999)
+        bench.lend(length_of(1))
+        seen(bench)
+
+
+def types_in_the_marks(bench):
+    """Each TYPE and bit 8 in the bytes, also a TYPE that no position has: they are read and written again as they are."""
+    for type_code, bit, known in product(range(32), (0, 1), (0, 1)):
+        bench.set_up(1)
+        track = Track(status=31 << 51 | 0b0101 << 12, pressure=4095, height=0, typecode=type_code, bit8=bit, position=Position(known, *HERE, 5))
+        poke_place(bench, 1, 0, O | ONE, track)
+        bench.look_up(O | ONE)
+        for string in (velocity(OTHER, ONE, 5, 5), status(OTHER, ONE, 1), airborne(OTHER, ONE, EVEN, NEAR), surface(OTHER, ONE, EVEN, NEAR)):
+            bench.receive(string, 1_000)
+            bench.whole()
+
+
+def earlier_lengths(bench):
+    """7 for the lengths that tables of 1, 2, 256 and 1,024 places had before a track kept its status: 79 bytes a place."""
+    for places in (1, 2, 256, 1024):
+        bench.set_up_bytes(16 + 79 * places)
+        bench.receive(status(OTHER, TWO, 2), 77)
+        bench.look_up(O | TWO)
+        bench.walk()
+
+
+def any_status_stepped(bench):
+    """Tracks of any values, a status among them, each stepped by one message of any sort."""
+    chance = Random(34)
+    for _ in range(250):
+        clock, head = chance.choice((0, 130_000, 10**9, LAST - 5)), chance.choice([*FIVE])
+        new(bench, 1, chance.choice((None, HERE)))
+        poke_number(bench, 0, 8, clock)
+        track = with_status(chance, random_track(chance, clock))
+        poke_place(bench, 1, 0, FIVE[head] | ONE, track)
+        bench.look_up(FIVE[head] | ONE)
+        spot = moved(chance, (track.position.latitude, track.position.longitude))
+        told = chance.randrange(3) == 0 and head in HEADS
+        string = random_status(chance, head, ONE) if told else random_message(chance, head, ONE, spot)
+        bench.receive(string, min(LAST, clock + chance.choice((0, 1, 5))))
+        bench.whole()
+
+
 SCRIPTS = [
     listing_example,
     partner_ages,
@@ -1162,6 +1342,22 @@ TRAFFIC = [
     any_traffic_stepped,
 ]
 TRAFFIC_RUNS = [(63, 1, 150), (64, 3, 250), (65, 8, 300)]
+TOLD = [
+    status_starts,
+    status_not_taken,
+    status_and_nothing_else,
+    type_of_the_latest,
+    type_of_traffic,
+    versions_apart,
+    pairs_across_status,
+    status_refreshes,
+    order_of_status,
+    types_in_the_marks,
+    earlier_lengths,
+    any_status_stepped,
+]
+TOLD_RUNS = [(66, 1, 150), (67, 3, 250), (68, 8, 300)]
+EVERY_HEAD, EVERY_WEIGHT = [*HEADS, *GROUND], (3, 1, 2, 4, 4, 4)
 
 
 def run(bench):
@@ -1179,12 +1375,23 @@ def run(bench):
     for script in TRAFFIC:
         script(bench)
     for seed, places, steps in TRAFFIC_RUNS:
-        random_run(bench, seed, places, steps, lost=True, heads=[*HEADS, *GROUND], weights=(3, 1, 2, 4, 4, 4))
+        random_run(bench, seed, places, steps, lost=True, heads=EVERY_HEAD, weights=EVERY_WEIGHT)
+    return bench
+
+
+def run_told(bench):
+    """The scripts of status, over the same buffer."""
+    for script in TOLD:
+        script(bench)
+    for seed, places, steps in TOLD_RUNS:
+        random_run(bench, seed, places, steps, lost=True, heads=EVERY_HEAD, weights=EVERY_WEIGHT, told=True)
     return bench
 
 
 def cases():
-    """Records and their lines; behind those of the table the logs that are replayed."""
+    """Records and their lines; behind those of the table the logs that are replayed, then status in both."""
     bench = run(Bench())
     replays.run(bench)
+    run_told(bench)
+    replays.status_in_logs(bench)
     return bench.cases

@@ -75,6 +75,17 @@ static void put_readings(uint64_t *row, const struct addercoil_track *track) {
     put(row, ADDERCOIL_TRACK_MOVEMENT_IS, track->movement);
     put(row, ADDERCOIL_TRACK_SURFACE_HEADING_IS, track->surface_heading);
     put(row, ADDERCOIL_TRACK_SURFACE_STATUS_IS, track->surface_status);
+    put(row, ADDERCOIL_TRACK_INTEGRITY_IS, track->integrity);
+}
+
+/* The version and the supplements, and of the last position message what the integrity goes by. */
+static void put_standard(uint64_t *row, const struct addercoil_track *track) {
+    row[ADDERCOIL_TRACK_POSITION_TYPE] = track->position_type;
+    row[ADDERCOIL_TRACK_POSITION_BIT8] = (uint64_t)track->position_bit8;
+    row[ADDERCOIL_TRACK_VERSION] = track->version;
+    row[ADDERCOIL_TRACK_SUPPLEMENT_A] = (uint64_t)track->supplement_a;
+    row[ADDERCOIL_TRACK_SUPPLEMENT_B] = (uint64_t)track->supplement_b;
+    row[ADDERCOIL_TRACK_SUPPLEMENT_C] = (uint64_t)track->supplement_c;
 }
 
 /* Whether a struct is as it was filled before the call. */
@@ -100,6 +111,7 @@ static uint32_t put_track(uint32_t number, const struct addercoil_track *track, 
     row[ADDERCOIL_TRACK_IDENTIFICATION] = track->identification;
     row[ADDERCOIL_TRACK_VELOCITY] = track->velocity;
     row[ADDERCOIL_TRACK_SURFACE] = track->surface;
+    row[ADDERCOIL_TRACK_STATUS] = track->status;
     row[ADDERCOIL_TRACK_PRESSURE_CODE] = track->pressure_code;
     row[ADDERCOIL_TRACK_HEIGHT_CODE] = track->height_code;
     row[ADDERCOIL_TRACK_POSITION_KNOWN] = (uint64_t)track->position_known;
@@ -109,6 +121,7 @@ static uint32_t put_track(uint32_t number, const struct addercoil_track *track, 
     put_saved(row, ADDERCOIL_TRACK_ODD_KNOWN, track->odd);
     put_identification(row, track);
     put_readings(row, track);
+    put_standard(row, track);
     return number;
 }
 
@@ -148,6 +161,11 @@ static void put_meant(uint64_t *row, const struct addercoil_message *m) {
         put(row, ADDERCOIL_AIRBORNE_STEP_IS, m->altitude_step);
         put(row, ADDERCOIL_AIRBORNE_GNSS_IS, m->gnss);
         return;
+    case ADDERCOIL_LAYOUT_STATUS:
+        put(row, ADDERCOIL_STATUS_VERSION_IS, m->version);
+        put(row, ADDERCOIL_STATUS_SUPPLEMENT_A_IS, m->supplement_a);
+        put(row, ADDERCOIL_STATUS_SUPPLEMENT_C_IS, m->supplement_c);
+        return;
     case ADDERCOIL_LAYOUT_GROUND:
         put(row, ADDERCOIL_GROUND_EAST_IS, m->east);
         put(row, ADDERCOIL_GROUND_NORTH_IS, m->north);
@@ -166,13 +184,14 @@ static int others_unknown(const struct addercoil_message *m) {
     uint32_t is = m->layout;
     int named = is == ADDERCOIL_LAYOUT_IDENTIFICATION, airborne = is == ADDERCOIL_LAYOUT_AIRBORNE;
     int surface = is == ADDERCOIL_LAYOUT_SURFACE, ground = is == ADDERCOIL_LAYOUT_GROUND,
-        air = is == ADDERCOIL_LAYOUT_AIR;
+        air = is == ADDERCOIL_LAYOUT_AIR, status = is == ADDERCOIL_LAYOUT_STATUS;
     return (named || (m->callsign[0] | m->category[0]) == 0) &&
            (surface || ((m->movement.is | m->surface_heading.is) == 0 && !m->surface_status)) &&
            (airborne || (m->altitude.is | m->altitude_step.is | m->gnss.is) == 0) &&
            (ground || (m->east.is | m->north.is) == 0) &&
            (air || ((m->heading.is | m->airspeed.is) == 0 && !m->heading_status)) &&
-           (ground || air || (m->rate.is | m->difference.is) == 0);
+           (ground || air || (m->rate.is | m->difference.is) == 0) &&
+           (status || (m->version.is | m->supplement_a.is | m->supplement_c.is) == 0);
 }
 
 /* Whether a key, if there is one, is made of its kind and the address, and comes apart. */

@@ -89,17 +89,20 @@ static void seal(uint8_t *bytes, size_t size) {
 /* 14 bytes: often a message of one of a few aircraft, so that tracks grow; else of anybody, damaged, or noise. */
 static void make_message(uint8_t *message) {
     uint64_t kind = below(16), one = below(23), other = below(23), rare = below(16) == 0 ? below(32) : 11;
-    uint64_t type = ONE_OF(19, one, other, rare);
+    uint64_t type = ONE_OF(19, 31, one, other, rare);
     fill(message, ADDERCOIL_MESSAGE);
     if (kind == 0) {
         return;
     }
     if (kind > 1) {
         message[0] = (uint8_t)ONE_OF(17 << 3 | 5, 17 << 3, 18 << 3, 18 << 3 | 1, 18 << 3 | 2, 18 << 3 | 2, 18 << 3 | 5);
-        message[4] = (uint8_t)(type << 3 | (type == 19 ? 1 + below(4) : below(8)));
+        message[4] = (uint8_t)(type << 3 | (type == 19 ? 1 + below(4) : below(type == 31 && below(8) != 0 ? 2 : 8)));
         if (type == 0 && below(4) == 0) { /* no altitude either */
             message[5] = 0;
             message[6] &= 15;
+        }
+        if (type == 31 && below(8) != 0) { /* of version 0 to 3 */
+            message[9] &= 0x7F;
         }
     }
     if (kind > 2) {
@@ -173,10 +176,10 @@ static void put_low(uint8_t *bytes, uint64_t number, size_t size) {
 static void fill_places(uint8_t *table, size_t places) {
     uint8_t *bodies = table + 16 + 4 * places;
     size_t i;
-    memset(bodies, 0, 75 * places);
+    memset(bodies, 0, 82 * places);
     for (i = 0; i < places; i++) {
         put_low(table + 16 + 4 * i, 1 << 24 | (i + 1), 4);
-        memcpy(bodies + 75 * i, table, 8); /* last heard at the clock */
+        memcpy(bodies + 82 * i, table, 8); /* last heard at the clock */
     }
 }
 
@@ -184,7 +187,7 @@ static void fill_places(uint8_t *table, size_t places) {
 static size_t bad_length(void) {
     size_t whole = ADDERCOIL_TABLE_BYTES(1 + below(6));
     return below(4) == 0 ? below(LENT_MOST / (below(16) == 0 ? 1 : 64))
-                         : ONE_OF(0, 1, 8, 15, 16, 17, whole - 1, whole + 1, ADDERCOIL_TABLE_BYTES(1025), 79);
+                         : ONE_OF(0, 1, 8, 15, 16, 17, whole - 1, whole + 1, ADDERCOIL_TABLE_BYTES(1025), 86);
 }
 
 /* A live table, sometimes with a byte of it changed, or full; or a strange one. */
@@ -579,7 +582,7 @@ static int every_length(void) {
     uint64_t clock[1];
     size_t length;
     for (length = 0; length <= sizeof strange; length++) {
-        int whole = length >= 16 + 79 && length <= 16 + 79 * 1024 && (length - 16) % 79 == 0;
+        int whole = length >= 16 + 86 && length <= 16 + 86 * 1024 && (length - 16) % 86 == 0;
         if (addercoil_clock(strange, length, clock, 1) != (whole ? ADDERCOIL_OK : ADDERCOIL_REFUSED_PLACES)) {
             fprintf(stderr, "a table of %zu bytes\n", length);
             return 0;

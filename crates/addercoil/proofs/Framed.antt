@@ -47,6 +47,7 @@ not-taken layout.Surface n e = absurd (true≢false e)
 not-taken layout.Airborne n e = absurd (true≢false e)
 not-taken layout.Ground n e = absurd (true≢false e)
 not-taken layout.Air n e = absurd (true≢false e)
+not-taken layout.Status n e = absurd (true≢false e)
 not-taken layout.NotTaken n e = refl
 
 module _ (f : Frame) (out : List ℕ) where

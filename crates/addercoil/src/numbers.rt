@@ -12,12 +12,12 @@ ghost use Rattle.entries.specs.Sent.{sent, given, into};
 ghost use Rattle.rows.specs.Held.{lookedSaid};
 ghost use Rattle.addercoil.specs.Messages.{messageSaid, encodedNumber, encodedAs, encodedFrom};
 
-// The track of a key, zeros if it is not held, into 57 entries. Or 1, then 7.
+// The track of a key, zeros if it is not held, into 66 entries. Or 1, then 7.
 #[no_mangle]
 pub extern "C" fn addercoil_look_up(table: &[u8], key: u32, out: &mut [u64]) -> u32
-    ensures { λ r. ⌜ sent r (now (out .exit)) ≡ into 57 (now (out .entry)) (lookedSaid key (lookedUp (now (table .entry)) key)) ⌝ }
+    ensures { λ r. ⌜ sent r (now (out .exit)) ≡ into 66 (now (out .entry)) (lookedSaid key (lookedUp (now (table .entry)) key)) ⌝ }
 {
-    if out.len() != 57 {
+    if out.len() != 66 {
         return 1;
     }
     let looked = table::look_up(table, key);

@@ -22,12 +22,12 @@ fn give_replay(out: &mut [u64], log: &[u8], kind: u32, address: u32, site: Site)
     rows::give_held(out, keys::key_for(its, address), track, answer)
 }
 
-// The track of a kind and an address after the records of a log, zeros if it is not held, into 57 entries. Or 1, then 14, then 8.
+// The track of a kind and an address after the records of a log, zeros if it is not held, into 66 entries. Or 1, then 14, then 8.
 #[no_mangle]
 pub extern "C" fn addercoil_replay(log: &[u8], kind: u32, address: u32, out: &mut [u64]) -> u32
-    ensures { λ r. ⌜ sent r (now (out .exit)) ≡ into 57 (now (out .entry)) (replaySaid (now (log .entry)) kind address noSite) ⌝ }
+    ensures { λ r. ⌜ sent r (now (out .exit)) ≡ into 66 (now (out .entry)) (replaySaid (now (log .entry)) kind address noSite) ⌝ }
 {
-    if out.len() != 57 {
+    if out.len() != 66 {
         return 1;
     }
     give_replay(out, log, kind, address, whereabouts::no_site())
@@ -43,9 +43,9 @@ pub extern "C" fn addercoil_replay_at(
     longitude: u32,
     out: &mut [u64],
 ) -> u32
-    ensures { λ r. ⌜ sent r (now (out .exit)) ≡ into 57 (now (out .entry)) (replaySaid (now (log .entry)) kind address (siteAt (record { latitude = latitude; longitude = longitude }))) ⌝ }
+    ensures { λ r. ⌜ sent r (now (out .exit)) ≡ into 66 (now (out .entry)) (replaySaid (now (log .entry)) kind address (siteAt (record { latitude = latitude; longitude = longitude }))) ⌝ }
 {
-    if out.len() != 57 {
+    if out.len() != 66 {
         return 1;
     }
     let spot = Spot {

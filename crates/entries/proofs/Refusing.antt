@@ -1,11 +1,11 @@
--- What was refused has a number of its own, 5: a reading that gives something, a reserved movement too, has one below. A step is known, unknown or refused as its altitude is. By the cases.
+-- What was refused has a number of its own, 5: a reading that gives something, a reserved code too, has one below. A step is known, unknown or refused as its altitude is. By the cases.
 -- Assumes nothing.
 use Prim.Native.Nat.{_<_}
 use mathlib.Core.Path.{_≡_, refl}
 use native.Mathlib.Omega.{arith}
 use Rattle.characters.specs.Said.{categorySetSaid, textSaid}
 use Rattle.readings.specs.Said.{Given, altitudeSaid, speedSaid, rateSaid, differenceSaid, headingSaid, movementSaid}
-use Rattle.entries.specs.Means.{altitudeReading, stepReading, speedReading, rateReading, differenceReading, headingReading, movementReading, setReading, textReading}
+use Rattle.entries.specs.Means.{altitudeReading, stepReading, speedReading, rateReading, differenceReading, headingReading, movementReading, setReading, textReading, versionReading, supplementReading}
 use Rattle.readings.specs.declared.altitude.Altitude.{Altitude}
 use Rattle.readings.specs.declared.altitude.Altitude.the-variants as altitude
 use Rattle.readings.specs.declared.amounts.Speed.{Speed}
@@ -18,6 +18,10 @@ use Rattle.readings.specs.declared.headings.Heading.{Heading}
 use Rattle.readings.specs.declared.headings.Heading.the-variants as heading
 use Rattle.readings.specs.declared.movement.Movement.{Movement}
 use Rattle.readings.specs.declared.movement.Movement.the-variants as movement
+use Rattle.readings.specs.declared.status.Version.{Version}
+use Rattle.readings.specs.declared.status.Version.the-variants as version
+use Rattle.readings.specs.declared.status.Supplement.{Supplement}
+use Rattle.readings.specs.declared.status.Supplement.the-variants as supplement
 use Rattle.characters.specs.declared.CategorySet.{CategorySet}
 use Rattle.characters.specs.declared.CategorySet.the-variants as set
 use Rattle.characters.specs.declared.Text.{Text}
@@ -75,3 +79,12 @@ set-given (set.Refused r) g = absurd g
 pub text-given : (x : Text) → Given (textSaid x) → textReading x .what < 5
 text-given (text.Shown n) g = omega arith
 text-given (text.Refused r) g = absurd g
+
+-- of a status none is ever refused
+pub version-given : (x : Version) → versionReading x .what < 5
+version-given (version.Number n) = omega arith
+version-given version.Reserved = omega arith
+
+pub supplement-given : (x : Supplement) → supplementReading x .what < 5
+supplement-given supplement.Unknown = omega arith
+supplement-given (supplement.Bit n) = omega arith

@@ -24,6 +24,10 @@ use Rattle.entries.proofs.set_reading.Kinds as set-reading-kinds
 use Rattle.entries.proofs.set_reading.Reads as set-reading
 use Rattle.entries.proofs.text_reading.Kinds as text-reading-kinds
 use Rattle.entries.proofs.text_reading.Reads as text-reading
+use Rattle.entries.proofs.version_reading.Kinds as version-reading-kinds
+use Rattle.entries.proofs.version_reading.Reads as version-reading
+use Rattle.entries.proofs.supplement_reading.Kinds as supplement-reading-kinds
+use Rattle.entries.proofs.supplement_reading.Reads as supplement-reading
 use Prim.Native.Nat.{ℕ}
 use mathlib.Core.List.{List}
 use Rattle.entries.specs.Sent.{Sent, sent}
@@ -70,6 +74,12 @@ set-reading-once κs args x y left left′ p q = p ∙ sym q
 
 pub text-reading-once : OneAnswer 0 text-reading-kinds.ps text-reading-kinds.r text-reading.Post
 text-reading-once κs args x y left left′ p q = p ∙ sym q
+
+pub version-reading-once : OneAnswer 0 version-reading-kinds.ps version-reading-kinds.r version-reading.Post
+version-reading-once κs args x y left left′ p q = p ∙ sym q
+
+pub supplement-reading-once : OneAnswer 0 supplement-reading-kinds.ps supplement-reading-kinds.r supplement-reading.Post
+supplement-reading-once κs args x y left left′ p q = p ∙ sym q
 
 pub entry-once : OneAnswer 1 entry-kinds.ps entry-kinds.r entry.Post
 entry-once κs args x y left left′ p q = p ∙ sym q

@@ -14,6 +14,10 @@ use Rattle.readings.specs.declared.headings.Heading.{Heading}
 use Rattle.readings.specs.declared.headings.Heading.the-variants as heading
 use Rattle.readings.specs.declared.movement.Movement.{Movement}
 use Rattle.readings.specs.declared.movement.Movement.the-variants as movement
+use Rattle.readings.specs.declared.status.Version.{Version}
+use Rattle.readings.specs.declared.status.Version.the-variants as version
+use Rattle.readings.specs.declared.status.Supplement.{Supplement}
+use Rattle.readings.specs.declared.status.Supplement.the-variants as supplement
 use Rattle.characters.specs.declared.CategorySet.{CategorySet}
 use Rattle.characters.specs.declared.CategorySet.the-variants as set
 use Rattle.characters.specs.declared.Text.{Text}
@@ -86,3 +90,13 @@ setReading (set.Refused r) = reading 5 0
 abbrev pub textReading : Text → Reading
 textReading (text.Shown n) = reading 1 n
 textReading (text.Refused r) = reading 5 0
+
+-- a version that is published, by its number
+abbrev pub versionReading : Version → Reading
+versionReading (version.Number n) = reading 1 n
+versionReading version.Reserved = reading 3 0
+
+-- 0 or 1, of a supplement that the version has
+abbrev pub supplementReading : Supplement → Reading
+supplementReading supplement.Unknown = reading 0 0
+supplementReading (supplement.Bit n) = reading 1 n

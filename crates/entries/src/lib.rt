@@ -14,8 +14,10 @@ use readings::Heading;
 use readings::Movement;
 use readings::Rate;
 use readings::Speed;
+use readings::Supplement;
+use readings::Version;
 ghost use mathlib.Core.Path.{_≡_};
-ghost use Rattle.entries.specs.Means.{reading, altitudeReading, stepReading, speedReading, rateReading, differenceReading, headingReading, movementReading, setReading, textReading};
+ghost use Rattle.entries.specs.Means.{reading, altitudeReading, stepReading, speedReading, rateReading, differenceReading, headingReading, movementReading, setReading, textReading, versionReading, supplementReading};
 ghost use Rattle.entries.specs.Means.{bit as bitOf};
 
 pub struct Reading {
@@ -146,5 +148,23 @@ pub fn text_reading(a: Text) -> Reading
     match a {
         Text::Shown(n) => known(n),
         Text::Refused(_) => only(5),
+    }
+}
+
+pub fn version_reading(a: Version) -> Reading
+    ensures { λ r. ⌜ r ≡ versionReading a ⌝ }
+{
+    match a {
+        Version::Number(n) => known(n as u64),
+        Version::Reserved => only(3),
+    }
+}
+
+pub fn supplement_reading(a: Supplement) -> Reading
+    ensures { λ r. ⌜ r ≡ supplementReading a ⌝ }
+{
+    match a {
+        Supplement::Unknown => only(0),
+        Supplement::Bit(n) => known(n as u64),
     }
 }

@@ -37,7 +37,7 @@ use Rattle.slice_table.specs.Slice.{Slice, sliceOf, slice}
 use Rattle.isolation.specs.Runs.{Call, own, Alike, Alike.end, Alike.its, Alike.others, Rule, call, NeverFull, Seen, seen, Isolation}
 use Rattle.isolation.specs.Wrong.{numberIn, overwriting, refreshing, kindless}
 
--- ---- six messages: two of I ABCDEF, the second of TYPE 0, of I 123456, of O ABCDEF, of T ABCDEF, and one whose parity is wrong
+-- ---- eight messages: three of I ABCDEF, the second of TYPE 0 and the third a status, of I 123456, two of O ABCDEF, the second a status, of T ABCDEF, and one whose parity is wrong
 
 abbrev mine : List ℕ
 mine = 0x8D ∷ 0xAB ∷ 0xCD ∷ 0xEF ∷ 0x20 ∷ 0x2C ∷ 0xC3 ∷ 0x71 ∷ 0xC3 ∷ 0x2C ∷ 0xE0 ∷ 0x42 ∷ 0xEA ∷ 0x5C ∷ []
@@ -53,6 +53,12 @@ twin = 0x91 ∷ 0xAB ∷ 0xCD ∷ 0xEF ∷ 0x20 ∷ 0x2C ∷ 0xC3 ∷ 0x71 ∷ 0
 
 abbrev traffic : List ℕ
 traffic = 0x92 ∷ 0xAB ∷ 0xCD ∷ 0xEF ∷ 0x3A ∷ 0x8A ∷ 0x35 ∷ 0x32 ∷ 0x3F ∷ 0xAE ∷ 0xBD ∷ 0xC0 ∷ 0xAB ∷ 0x93 ∷ []
+
+abbrev state : List ℕ
+state = 0x8D ∷ 0xAB ∷ 0xCD ∷ 0xEF ∷ 0xF9 ∷ 0x54 ∷ 0xB9 ∷ 0x12 ∷ 0x34 ∷ 0x4A ∷ 0xB5 ∷ 0xBF ∷ 0xE4 ∷ 0xF2 ∷ []
+
+abbrev twin-state : List ℕ
+twin-state = 0x91 ∷ 0xAB ∷ 0xCD ∷ 0xEF ∷ 0xF8 ∷ 0x00 ∷ 0x65 ∷ 0x01 ∷ 0x00 ∷ 0x37 ∷ 0x28 ∷ 0x9B ∷ 0x04 ∷ 0x13 ∷ []
 
 abbrev noise : List ℕ
 noise = 0 ∷ 0 ∷ 0 ∷ 0 ∷ 0 ∷ 0 ∷ 0 ∷ 0 ∷ 0 ∷ 0 ∷ 1 ∷ 0 ∷ 0 ∷ 0 ∷ []
@@ -93,17 +99,27 @@ other-kind = at twin refl refl 2000 (omega arith)
 abbrev of-traffic : Call
 of-traffic = at traffic refl refl 2000 (omega arith)
 
+abbrev status-first : Call
+status-first = at state refl refl 1000 (omega arith)
+
+abbrev other-status : Call
+other-status = at twin-state refl refl 2000 (omega arith)
+
 abbrev refused-first : Call
 refused-first = at noise refl refl 1000 (omega arith)
 
 abbrev refused : Call
 refused = at noise refl refl 2000 (omega arith)
 
--- ---- when the aircraft was last heard at the end of a run, one up; 0 if its track is absent
+-- ---- when the aircraft was last heard at the end of a run, one up, and the ME of its status; 0 if its track is absent
 
 abbrev heardIn : Option Track → ℕ
 heardIn none = 0
 heardIn (some t) = suc (t .heard)
+
+abbrev statusIn : Option Track → ℕ
+statusIn none = 0
+statusIn (some t) = t .groups .status
 
 abbrev lastOf : List Seen → Option Track
 lastOf [] = none
@@ -114,8 +130,9 @@ lastOf (x ∷ y ∷ r) = lastOf (y ∷ r)
 
 pub own-calls : (own key first ≡ true) × (own key second ≡ true) × (own key stranger-first ≡ false) × (own key stranger ≡ false) × (own key other-kind ≡ false)
     × (own key refused-first ≡ false) × (own key refused ≡ false) × (own key no-position ≡ true) × (own key of-traffic ≡ false)
+    × (own key status-first ≡ true) × (own key other-status ≡ false)
 unfolding own remainder remainderFrom reduce opened kindOf
-own-calls = (refl, refl, refl, refl, refl, refl, refl, refl, refl)
+own-calls = (refl, refl, refl, refl, refl, refl, refl, refl, refl, refl, refl)
 
 own-first : own key first ≡ true
 own-first = own-calls .0
@@ -140,6 +157,9 @@ module _ {S : Type 0} (F : Form S) (empty : ℕ → S) where
   abbrev end-of : Rule S → ℕ → List Call → ℕ
   end-of rule n cs = heardIn (lastOf (seen F rule key (ready n) cs))
 
+  abbrev status-of : ℕ → List Call → ℕ
+  status-of n cs = statusIn (lastOf (seen F (received F) key (ready n) cs))
+
   abbrev number-to-first : Rule S → ℕ → ℕ
   number-to-first rule n = numberIn (call rule (ready n) first .answer)
 
@@ -157,6 +177,8 @@ module _ {S : Type 0} (F : Form S) (empty : ℕ → S) where
     pub silent-one : (number-after 1 stranger-first no-position ≡ 12) × (number-after 1 refused-first no-position ≡ 12)
         × (number-after 1 first no-position ≡ 0) × (end-of (received F) 1 (first ∷ no-position ∷ []) ≡ 2001)
     pub twin-of-traffic : (number-after 2 first of-traffic ≡ 0) × (end-of (received F) 2 (first ∷ of-traffic ∷ []) ≡ 1001)
+    pub twin-states : (numberIn (call (received F) (ready 2) status-first .answer) ≡ 0) × (number-after 2 status-first other-status ≡ 0)
+        × (status-of 2 (status-first ∷ other-status ∷ []) ≡ 0xF954B912344AB5) × (status-of 2 (status-first ∷ refused ∷ []) ≡ 0xF954B912344AB5)
     pub by-overwriting : (number-to-first (overwriting F) 1 ≡ 0) × (end-of (overwriting F) 1 (first ∷ stranger ∷ []) ≡ 0) × (end-of (overwriting F) 1 (first ∷ refused ∷ []) ≡ 1001)
     pub by-refreshing : (number-to-first (refreshing F) 2 ≡ 0) × (end-of (refreshing F) 2 (first ∷ stranger ∷ []) ≡ 2001) × (end-of (refreshing F) 2 (first ∷ refused ∷ []) ≡ 1001)
     pub by-kindless : (number-to-first (kindless F) 2 ≡ 0) × (end-of (kindless F) 2 (first ∷ other-kind ∷ []) ≡ 2001) × (end-of (kindless F) 2 (first ∷ refused ∷ []) ≡ 1001)
@@ -216,6 +238,18 @@ module _ {S : Type 0} (F : Form S) (empty : ℕ → S) where
       x .held-in-both .2,
     )
 
+    -- a status starts its track, and that of another kind under the same AA, of another version, does nothing to it: the version is per key
+    pub status-isolated : Alike key (status-first ∷ other-status ∷ []) (status-first ∷ refused ∷ [])
+        × NeverFull (received F) key (ready 2) (status-first ∷ other-status ∷ []) × (number-after 2 status-first other-status ≡ 0)
+        × (status-of 2 (status-first ∷ other-status ∷ []) ≡ 0xF954B912344AB5) × (status-of 2 (status-first ∷ refused ∷ []) ≡ 0xF954B912344AB5)
+    status-isolated = (
+      its status-first (own-calls .9) (others other-status refused (own-calls .10) noise-not-own refl end),
+      ((λ _ e. absurd (not-six (x .twin-states .0) (λ z. omega arith) e)), ((λ p _. absurd (true≢false (sym p ∙ own-calls .10))), tt)),
+      x .twin-states .1,
+      x .twin-states .2,
+      x .twin-states .3,
+    )
+
     -- why 'table full' is excepted: of two newcomers to one place the second is refused
     pub proviso-needed : ((s : S) (xs ys : List Call) → setUp F s noSite .answer ≡ Done → Alike key xs ys
         → seen F (received F) key (setUp F s noSite .table) xs ≡ seen F (received F) key (setUp F s noSite .table) ys) → ⊥
@@ -253,6 +287,7 @@ in-bytes =
       one-place = (refl, refl, refl);
       silent-one = (refl, refl, refl, refl);
       twin-of-traffic = (refl, refl);
+      twin-states = (refl, refl, refl, refl);
       by-overwriting = (refl, refl, refl);
       by-refreshing = (refl, refl, refl);
       by-kindless = (refl, refl, refl);
@@ -271,6 +306,7 @@ in-slice =
       one-place = (refl, refl, refl);
       silent-one = (refl, refl, refl, refl);
       twin-of-traffic = (refl, refl);
+      twin-states = (refl, refl, refl, refl);
       by-overwriting = (refl, refl, refl);
       by-refreshing = (refl, refl, refl);
       by-kindless = (refl, refl, refl);

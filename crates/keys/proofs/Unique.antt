@@ -6,6 +6,10 @@ use Rattle.keys.proofs.kind_at.Kinds as kind-at-kinds
 use Rattle.keys.proofs.kind_at.Reads as kind-at
 use Rattle.keys.proofs.is_kind.Kinds as is-kind-kinds
 use Rattle.keys.proofs.is_kind.Reads as is-kind
+use Rattle.keys.proofs.is_traffic.Kinds as is-traffic-kinds
+use Rattle.keys.proofs.is_traffic.Reads as is-traffic
+use Rattle.keys.proofs.kind_in.Kinds as kind-in-kinds
+use Rattle.keys.proofs.kind_in.Reads as kind-in
 use Rattle.keys.proofs.letter_in.Kinds as letter-in-kinds
 use Rattle.keys.proofs.letter_in.Reads as letter-in
 use Rattle.keys.proofs.traffic_in.Kinds as traffic-in-kinds
@@ -22,6 +26,12 @@ kind-at-once κs args x y left left′ p q = p ∙ sym q
 
 pub is-kind-once : OneAnswer 0 is-kind-kinds.ps is-kind-kinds.r is-kind.Post
 is-kind-once κs args x y left left′ p q = p ∙ sym q
+
+pub is-traffic-once : OneAnswer 0 is-traffic-kinds.ps is-traffic-kinds.r is-traffic.Post
+is-traffic-once κs args x y left left′ p q = p ∙ sym q
+
+pub kind-in-once : OneAnswer 0 kind-in-kinds.ps kind-in-kinds.r kind-in.Post
+kind-in-once κs args x y left left′ p q = p ∙ sym q
 
 pub letter-in-once : OneAnswer 0 letter-in-kinds.ps letter-in-kinds.r letter-in.Post
 letter-in-once κs args x y left left′ p q = p ∙ sym q

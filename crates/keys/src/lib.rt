@@ -40,7 +40,7 @@ fn letter_of(kind: Kind) -> u8
 }
 
 // Whether a ground station's traffic service sends a kind.
-fn is_traffic(kind: Kind) -> bool
+pub fn is_traffic(kind: Kind) -> bool
     ensures { λ r. ⌜ r ≡ isTraffic kind ⌝ }
 {
     match kind {
@@ -86,7 +86,7 @@ pub fn is_kind(number: u32) -> bool
 }
 
 // A key's kind; of a number that is no key the kind of the nearest.
-fn kind_in(key: u32) -> Kind
+pub fn kind_in(key: u32) -> Kind
     ensures { λ r. ⌜ r ≡ kindIn key ⌝ }
 {
     kind_at(key / 0x100_0000)

@@ -16,6 +16,7 @@ use Rattle.fields.proofs.Bools.{and-left, and-right, both, by-test}
 use Rattle.fields.proofs.Fits.{fits-fit, unpack-fits}
 use Rattle.fields.proofs.Packing.{pack-unpack, pack-lt}
 use Rattle.layouts.specs.Layouts.{isIdentification, isSurface, isAirborne, identificationWidths, surfaceWidths, airborneWidths}
+use Rattle.layouts.specs.Status.{isStatus, statusWidths}
 use Rattle.layouts.specs.Velocity.{isGround, isAir, velocityWidths}
 use Rattle.layouts.specs.Bodies.{layoutAt, typeIn, layoutOf, flagBy, flagIn, layoutWidths, takenAs, taken, bodyLayout, bodyType, flagOf, bodyFields, bodyWidths, typeAgrees, bodyMe, bodyFits, written}
 use Rattle.layouts.specs.declared.bodies.Body.{Body}
@@ -25,7 +26,7 @@ use Rattle.layouts.specs.declared.bodies.Layout.the-variants as layout
 use Rattle.layouts.specs.declared.bodies.Taken.{Taken}
 use Rattle.layouts.specs.declared.bodies.Taken.the-variants as read
 use Rattle.layouts.specs.declared.bodies.Written.the-variants as write
-use Rattle.layouts.proofs.Layouts.{unpacked, back, identification, surface, airborne, ground, air}
+use Rattle.layouts.proofs.Layouts.{unpacked, back, identification, surface, airborne, ground, air, status}
 
 -- ---- a body that fits
 
@@ -41,6 +42,7 @@ all-56 (body.Surface b) = refl
 all-56 (body.Airborne b) = refl
 all-56 (body.Ground b) = refl
 all-56 (body.Air b) = refl
+all-56 (body.Status b) = refl
 
 -- has 56 bits
 pub me-lt : (b : Body) → bodyFits b ≡ true → bodyMe b < 2 ^ 56
@@ -68,6 +70,9 @@ no-other n true e q = let z : n ≡ 0 = eqb-true n 0 e in (ap isIdentification z
 no-other n false e q =
     let h : 9 ≤ n = from-nine n (leb 9 n && leb n 18) refl (rw e at q) in
     (above 1 4 n (omega arith), above 5 8 n h)
+
+thirty-one : (n : ℕ) (a : Bool) → eqb n 31 && a ≡ true → n ≡ 31
+thirty-one n a e = eqb-true n 31 (and-left (eqb n 31) a e)
 
 nineteen : (n : ℕ) (a b : Bool) → eqb n 19 && a && b ≡ true → n ≡ 19
 nineteen n a b e = eqb-true n 19 (and-left (eqb n 19) a (and-left (eqb n 19 && a) b e))
@@ -111,6 +116,14 @@ read-back (body.Air b) e =
     ap (λ (l : List ℕ). takenAs (layoutAt (getD l 0 0) (getD l 1 0)) n) (unpacked air b f)
     ∙ ap (λ (t : ℕ). takenAs (layoutAt t (b .subtype)) n) h
     ∙ simp (above 1 2 (b .subtype) (from-low 3 4 (b .subtype) r), r) (ap (λ x. read.Body (body.Air x)) (back air b f))
+read-back (body.Status b) e =
+    let n : ℕ = bodyMe (body.Status b) in
+    let f = fitting (body.Status b) e in
+    let q = agreeing (body.Status b) e in
+    let h : b .typecode ≡ 31 = thirty-one (b .typecode) (leb (b .subtype) 1) q in
+    ap (λ (l : List ℕ). takenAs (layoutAt (getD l 0 0) (getD l 1 0)) n) (unpacked status b f)
+    ∙ ap (λ (t : ℕ). takenAs (layoutAt t (b .subtype)) n) h
+    ∙ simp (ap (λ (t : ℕ). isStatus t (b .subtype)) (sym h) ∙ q) (ap (λ x. read.Body (body.Status x)) (back status b f))
 
 -- ---- the layout and the fields, by the bits
 
@@ -125,6 +138,7 @@ cut-as layout.Surface n = (refl, refl)
 cut-as layout.Airborne n = (refl, refl)
 cut-as layout.Ground n = (refl, refl)
 cut-as layout.Air n = (refl, refl)
+cut-as layout.Status n = (refl, refl)
 cut-as layout.NotTaken n = tt
 
 -- a body has the layout of its bits, and its fields are the bits by the layout's widths
@@ -144,6 +158,7 @@ marked-as layout.Surface n = (refl, refl)
 marked-as layout.Airborne n = (refl, refl)
 marked-as layout.Ground n = (refl, refl)
 marked-as layout.Air n = (refl, refl)
+marked-as layout.Status n = (refl, refl)
 marked-as layout.NotTaken n = tt
 
 marked : (n : ℕ) (b : Body) → taken n ≡ read.Body b → (bodyType b ≡ typeIn n) × (flagOf b ≡ flagIn n)
@@ -177,7 +192,8 @@ module _ (n : ℕ) (h : n < 2 ^ 56) where
       (λ _. by-test As (isAirborne t) _ _ (λ q. (both (unpack-fits airborneWidths n) q, whole airborneWidths refl))
       (λ _. by-test As (isGround t s) _ _ (λ q. (both (unpack-fits velocityWidths n) q, whole velocityWidths refl))
       (λ _. by-test As (isAir t s) _ _ (λ q. (both (unpack-fits velocityWidths n) q, whole velocityWidths refl))
-      (λ _. tt)))))
+      (λ _. by-test As (isStatus t s) _ _ (λ q. (both (unpack-fits statusWidths n) q, whole statusWidths refl))
+      (λ _. tt))))))
 
 pub read-good : (n : ℕ) (b : Body) → n < 2 ^ 56 → taken n ≡ read.Body b → (bodyFits b ≡ true) × (bodyMe b ≡ n)
 read-good n b h e = subst (λ (x : Taken). Good n x) e (good n h)

@@ -66,8 +66,30 @@ pub no-position : taken 0x07381ED690C8AC
     }))
 no-position = refl
 
--- TYPE 23, and TYPE 19 with subtypes 0 and 5
+-- status on the surface, of version 2, with supplement C and not A, so that neither bit is taken for the other
+pub status : taken 0xF954B912344AB5
+    ≡ read.Body (body.Status (record {
+      typecode = 31;
+      subtype = 1;
+      class = 677;
+      bit20 = 1;
+      width = 9;
+      mode = 4660;
+      version = 2;
+      supplementa = 0;
+      nacp = 10;
+      bits49 = 2;
+      sil = 3;
+      bit53 = 0;
+      bit54 = 1;
+      bits55 = 1;
+    }))
+status = refl
+
+-- TYPE 23, TYPE 19 with subtypes 0 and 5, and TYPE 31 with subtypes 2 and 7
 pub not-taken : (taken 0xB8000000000000 ≡ read.Refused TypeCode)
     × (taken 0x98000000000000 ≡ read.Refused TypeCode)
     × (taken 0x9D000000000000 ≡ read.Refused TypeCode)
-not-taken = (refl, refl, refl)
+    × (taken 0xFA000000000000 ≡ read.Refused TypeCode)
+    × (taken 0xFF000000000000 ≡ read.Refused TypeCode)
+not-taken = (refl, refl, refl, refl, refl)

@@ -7,10 +7,12 @@ use lib.ListN.{getD}
 use Rattle.fields.specs.Packing.{pack, unpack, Fit}
 use Rattle.fields.proofs.Packing.{unpack-pack}
 use Rattle.layouts.specs.Layouts.{identificationFields, surfaceFields, airborneFields, identificationWidths, surfaceWidths, airborneWidths}
+use Rattle.layouts.specs.Status.{statusFields, statusWidths}
 use Rattle.layouts.specs.Velocity.{groundFields, airFields, velocityWidths}
 use Rattle.layouts.specs.declared.identification.Identification.{Identification}
 use Rattle.layouts.specs.declared.surface.Surface.{Surface}
 use Rattle.layouts.specs.declared.airborne.Airborne.{Airborne}
+use Rattle.layouts.specs.declared.status.Status.{Status}
 use Rattle.layouts.specs.declared.velocity.Vertical.{Vertical}
 use Rattle.layouts.specs.declared.velocity.Ground.{Ground}
 use Rattle.layouts.specs.declared.velocity.Air.{Air}
@@ -117,6 +119,29 @@ air = record {
     airspeedkind = getD l 7 0;
     airspeed = getD l 8 0;
     vertical = vertical l;
+  };
+  again = λ b. refl;
+}
+
+abbrev pub status : Layout Status
+status = record {
+  widths = statusWidths;
+  fields = statusFields;
+  from = λ l. record {
+    typecode = getD l 0 0;
+    subtype = getD l 1 0;
+    class = getD l 2 0;
+    bit20 = getD l 3 0;
+    width = getD l 4 0;
+    mode = getD l 5 0;
+    version = getD l 6 0;
+    supplementa = getD l 7 0;
+    nacp = getD l 8 0;
+    bits49 = getD l 9 0;
+    sil = getD l 10 0;
+    bit53 = getD l 11 0;
+    bit54 = getD l 12 0;
+    bits55 = getD l 13 0;
   };
   again = λ b. refl;
 }

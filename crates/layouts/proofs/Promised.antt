@@ -27,6 +27,7 @@ layout-says layout.Surface n = refl
 layout-says layout.Airborne n = refl
 layout-says layout.Ground n = refl
 layout-says layout.Air n = refl
+layout-says layout.Status n = refl
 layout-says layout.NotTaken n = refl
 
 pub body-of-promised : (κs : Lfts 0) (args : Dens κs body-of-kinds.ps) (x : resT body-of-kinds.r κs .Denot)

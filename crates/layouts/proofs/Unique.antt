@@ -34,6 +34,10 @@ use Rattle.layouts.proofs.identification.identification_fits.Kinds as i
 use Rattle.layouts.proofs.identification.identification_fits.Reads as identification-fits
 use Rattle.layouts.proofs.surface.surface_fits.Kinds as surface-fits-kinds
 use Rattle.layouts.proofs.surface.surface_fits.Reads as surface-fits
+use Rattle.layouts.proofs.status.status_of.Kinds as status-of-kinds
+use Rattle.layouts.proofs.status.status_of.Reads as status-of
+use Rattle.layouts.proofs.status.status_fits.Kinds as status-fits-kinds
+use Rattle.layouts.proofs.status.status_fits.Reads as status-fits
 use Rattle.layouts.proofs.velocity.ground_fits.Kinds as ground-fits-kinds
 use Rattle.layouts.proofs.velocity.ground_fits.Reads as ground-fits
 use Rattle.layouts.proofs.velocity.air_fits.Kinds as air-fits-kinds
@@ -80,6 +84,12 @@ identification-fits-once κs args x y left left′ p q = p ∙ sym q
 
 pub surface-fits-once : OneAnswer 0 surface-fits-kinds.ps surface-fits-kinds.r surface-fits.Post
 surface-fits-once κs args x y left left′ p q = p ∙ sym q
+
+pub status-of-once : OneAnswer 0 status-of-kinds.ps status-of-kinds.r status-of.Post
+status-of-once κs args x y left left′ p q = p ∙ sym q
+
+pub status-fits-once : OneAnswer 0 status-fits-kinds.ps status-fits-kinds.r status-fits.Post
+status-fits-once κs args x y left left′ p q = p ∙ sym q
 
 pub ground-fits-once : OneAnswer 0 ground-fits-kinds.ps ground-fits-kinds.r ground-fits.Post
 ground-fits-once κs args x y left left′ p q = p ∙ sym q

@@ -13,6 +13,7 @@ use Rattle.layouts.specs.declared.bodies.Taken.the-variants as read
 use Rattle.layouts.specs.declared.bodies.Written.{Written}
 use Rattle.layouts.specs.declared.bodies.Written.the-variants as write
 use Rattle.layouts.specs.Layouts.{isIdentification, isSurface, isAirborne, identificationOf, surfaceOf, airborneOf, identificationFields, surfaceFields, airborneFields, identificationWidths, surfaceWidths, airborneWidths}
+use Rattle.layouts.specs.Status.{isStatus, statusOf, statusFields, statusWidths}
 use Rattle.layouts.specs.Velocity.{isGround, isAir, groundOf, airOf, groundFields, airFields, velocityWidths}
 
 -- by TYPE and subtype; any other is not taken
@@ -23,7 +24,8 @@ layoutAt type subtype =
     (cond (isAirborne type) layout.Airborne
     (cond (isGround type subtype) layout.Ground
     (cond (isAir type subtype) layout.Air
-    layout.NotTaken))))
+    (cond (isStatus type subtype) layout.Status
+    layout.NotTaken)))))
 
 -- TYPE is bits 1-5, the subtype bits 6-8
 abbrev pub typeIn : ℕ → ℕ
@@ -38,6 +40,7 @@ isTaken layout.Surface = true
 isTaken layout.Airborne = true
 isTaken layout.Ground = true
 isTaken layout.Air = true
+isTaken layout.Status = true
 isTaken layout.NotTaken = false
 
 -- what the bits say in a layout
@@ -47,18 +50,20 @@ takenAs layout.Surface n = read.Body (body.Surface (surfaceOf n))
 takenAs layout.Airborne n = read.Body (body.Airborne (airborneOf n))
 takenAs layout.Ground n = read.Body (body.Ground (groundOf n))
 takenAs layout.Air n = read.Body (body.Air (airOf n))
+takenAs layout.Status n = read.Body (body.Status (statusOf n))
 takenAs layout.NotTaken n = read.Refused TypeCode
 
 abbrev pub taken : ℕ → Taken
 taken n = takenAs (layoutOf n) n
 
--- the flag that tells the address of a traffic service's message, as source 002 has it: a bit of its own on the surface, in the air and of a velocity. Identification has none, which counts as 0
+-- the flag that tells the address of a traffic service's message, as source 002 has it: a bit of its own on the surface, in the air and of a velocity. Identification and status have none, which counts as 0
 abbrev pub flagBy : Layout → ℕ → ℕ → ℕ → ℕ
 flagBy layout.Identification surface air velocity = 0
 flagBy layout.Surface surface air velocity = surface
 flagBy layout.Airborne surface air velocity = air
 flagBy layout.Ground surface air velocity = velocity
 flagBy layout.Air surface air velocity = velocity
+flagBy layout.Status surface air velocity = 0
 flagBy layout.NotTaken surface air velocity = 0
 
 -- bit 21 on the surface, 8 in the air, 9 of a velocity
@@ -72,6 +77,7 @@ layoutWidths layout.Surface = surfaceWidths
 layoutWidths layout.Airborne = airborneWidths
 layoutWidths layout.Ground = velocityWidths
 layoutWidths layout.Air = velocityWidths
+layoutWidths layout.Status = statusWidths
 layoutWidths layout.NotTaken = []
 
 -- a body's layout, its TYPE, its flag, its fields in the order of their bits, how many bits each has, and whether TYPE and subtype are those of the layout
@@ -81,6 +87,7 @@ bodyLayout (body.Surface b) = layout.Surface
 bodyLayout (body.Airborne b) = layout.Airborne
 bodyLayout (body.Ground b) = layout.Ground
 bodyLayout (body.Air b) = layout.Air
+bodyLayout (body.Status b) = layout.Status
 
 abbrev pub bodyType : Body → ℕ
 bodyType (body.Identification b) = b .typecode
@@ -88,6 +95,7 @@ bodyType (body.Surface b) = b .typecode
 bodyType (body.Airborne b) = b .typecode
 bodyType (body.Ground b) = b .typecode
 bodyType (body.Air b) = b .typecode
+bodyType (body.Status b) = b .typecode
 
 -- the flag by the names of its fields
 abbrev pub flagOf : Body → ℕ
@@ -96,6 +104,7 @@ flagOf (body.Surface b) = b .t
 flagOf (body.Airborne b) = b .bit8
 flagOf (body.Ground b) = b .bit9
 flagOf (body.Air b) = b .bit9
+flagOf (body.Status b) = 0
 
 abbrev pub bodyFields : Body → List ℕ
 bodyFields (body.Identification b) = identificationFields b
@@ -103,6 +112,7 @@ bodyFields (body.Surface b) = surfaceFields b
 bodyFields (body.Airborne b) = airborneFields b
 bodyFields (body.Ground b) = groundFields b
 bodyFields (body.Air b) = airFields b
+bodyFields (body.Status b) = statusFields b
 
 abbrev pub bodyWidths : Body → List ℕ
 bodyWidths b = layoutWidths (bodyLayout b)
@@ -113,6 +123,7 @@ typeAgrees (body.Surface b) = isSurface (b .typecode)
 typeAgrees (body.Airborne b) = isAirborne (b .typecode)
 typeAgrees (body.Ground b) = isGround (b .typecode) (b .subtype)
 typeAgrees (body.Air b) = isAir (b .typecode) (b .subtype)
+typeAgrees (body.Status b) = isStatus (b .typecode) (b .subtype)
 
 -- the 56 bits that hold the fields
 abbrev pub bodyMe : Body → ℕ

@@ -1,4 +1,4 @@
--- The layouts of ME but for those of velocity, by document 01's bit numbers; bit 1 is the highest of the 56.
+-- The layouts of ME but for those of velocity and status, by document 01's bit numbers; bit 1 is the highest of the 56.
 use Prim.Native.Nat.{ℕ}
 use mathlib.Core.List.{List, [], _∷_}
 use mathlib.Core.Bool.{Bool, _&&_, _||_}
@@ -8,7 +8,7 @@ use Rattle.layouts.specs.declared.identification.Identification.{Identif
 use Rattle.layouts.specs.declared.surface.Surface.{Surface}
 use Rattle.layouts.specs.declared.airborne.Airborne.{Airborne}
 
--- ---- which layout a TYPE and, of TYPE 19, a subtype have
+-- ---- which layout a TYPE has
 
 abbrev pub isIdentification : ℕ → Bool
 isIdentification type = leb 1 type && leb type 4

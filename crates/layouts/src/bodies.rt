@@ -7,6 +7,10 @@ use crate::identification::Identification;
 use crate::identification::identification_fits;
 use crate::identification::identification_me;
 use crate::identification::identification_of;
+use crate::status::Status;
+use crate::status::status_fits;
+use crate::status::status_me;
+use crate::status::status_of;
 use crate::surface::Surface;
 use crate::surface::surface_fits;
 use crate::surface::surface_me;
@@ -33,6 +37,8 @@ pub enum Body {
     Ground(Ground),
     // velocity through air
     Air(Air),
+    // operational status
+    Status(Status),
 }
 
 pub enum Taken {
@@ -46,13 +52,14 @@ pub enum Written {
     Refused(Refusal),
 }
 
-// Which layout ME has: the two of TYPE 19 by their subtypes.
+// Which layout ME has: the two of TYPE 19 and the one of TYPE 31 by their subtypes.
 pub enum Layout {
     Identification,
     Surface,
     Airborne,
     Ground,
     Air,
+    Status,
     NotTaken,
 }
 
@@ -76,6 +83,9 @@ pub fn layout_of(me: u64) -> Layout
     if (t == 19) & (3 <= s) & (s <= 4) {
         return Layout::Air;
     }
+    if (t == 31) & (s <= 1) {
+        return Layout::Status;
+    }
     Layout::NotTaken
 }
 
@@ -89,6 +99,7 @@ pub fn is_layout(layout: Layout) -> bool
         Layout::Airborne => true,
         Layout::Ground => true,
         Layout::Air => true,
+        Layout::Status => true,
         Layout::NotTaken => false,
     }
 }
@@ -126,6 +137,7 @@ pub fn flag_in(me: u64) -> u8
         Layout::Airborne => (me / 0x1_0000_0000_0000 % 2) as u8,
         Layout::Ground => (me / 0x8000_0000_0000 % 2) as u8,
         Layout::Air => (me / 0x8000_0000_0000 % 2) as u8,
+        Layout::Status => 0,
         Layout::NotTaken => 0,
     }
 }
@@ -141,6 +153,7 @@ pub fn body_of(me: u64) -> Taken
         Layout::Airborne => Taken::Body(Body::Airborne(airborne_of(me))),
         Layout::Ground => Taken::Body(Body::Ground(ground_of(me))),
         Layout::Air => Taken::Body(Body::Air(air_of(me))),
+        Layout::Status => Taken::Body(Body::Status(status_of(me))),
         Layout::NotTaken => Taken::Refused(Refusal::TypeCode),
     }
 }
@@ -155,6 +168,7 @@ pub fn body_as(layout: Layout, me: u64) -> Taken
         Layout::Airborne => Taken::Body(Body::Airborne(airborne_of(me))),
         Layout::Ground => Taken::Body(Body::Ground(ground_of(me))),
         Layout::Air => Taken::Body(Body::Air(air_of(me))),
+        Layout::Status => Taken::Body(Body::Status(status_of(me))),
         Layout::NotTaken => Taken::Refused(Refusal::TypeCode),
     }
 }
@@ -169,6 +183,7 @@ pub fn type_of(b: Body) -> u8
         Body::Airborne(x) => x.typecode,
         Body::Ground(x) => x.typecode,
         Body::Air(x) => x.typecode,
+        Body::Status(x) => x.typecode,
     }
 }
 
@@ -182,6 +197,7 @@ pub fn flag_of(b: Body) -> u8
         Body::Airborne(x) => x.bit8,
         Body::Ground(x) => x.bit9,
         Body::Air(x) => x.bit9,
+        Body::Status(_) => 0,
     }
 }
 
@@ -195,6 +211,7 @@ fn body_fits(b: Body) -> bool
         Body::Airborne(x) => airborne_fits(x),
         Body::Ground(x) => ground_fits(x),
         Body::Air(x) => air_fits(x),
+        Body::Status(x) => status_fits(x),
     }
 }
 
@@ -209,6 +226,7 @@ fn body_me(b: Body) -> u64
         Body::Airborne(x) => airborne_me(x),
         Body::Ground(x) => ground_me(x),
         Body::Air(x) => air_me(x),
+        Body::Status(x) => status_me(x),
     }
 }
 

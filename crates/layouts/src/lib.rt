@@ -2,6 +2,7 @@
 mod airborne;
 mod bodies;
 mod identification;
+mod status;
 mod surface;
 mod velocity;
 
@@ -25,6 +26,9 @@ pub use bodies::type_in;
 pub use bodies::type_of;
 pub use identification::Identification;
 pub use identification::identification_fits;
+pub use status::Status;
+pub use status::status_fits;
+pub use status::status_of;
 pub use surface::Surface;
 pub use surface::surface_fits;
 pub use surface::surface_of;

@@ -21,13 +21,6 @@ unfolding numberAt
 number-1 s a = omega arith
 
 module _ (s : List ℕ) (a : ℕ) where
-  pub number-3 : numberAt 3 s a ≡ getD s a 0 + getD s (a + 1) 0 * 256 + getD s (a + 2) 0 * 65536
-  unfolding numberAt
-  number-3 =
-      let e₁ : a + 1 ≡ suc a = omega arith in
-      let e₂ : a + 2 ≡ suc (suc a) = omega arith in
-      rw (e₁, e₂) (omega arith)
-
   pub number-4 : numberAt 4 s a ≡ getD s a 0 + getD s (a + 1) 0 * 256 + getD s (a + 2) 0 * 65536 + getD s (a + 3) 0 * 16777216
   unfolding numberAt
   number-4 =
@@ -42,12 +35,13 @@ module _ (s : List ℕ) (a : ℕ) where
       let e : a + 4 ≡ suc (suc (suc (suc a))) = omega arith in
       rw e (omega arith)
 
+-- the number behind the first byte
+pub number-rest : (k : ℕ) (s : List ℕ) (a : ℕ) → Bytes s → numberAt (suc k) s a / 256 ≡ numberAt k s (suc a)
+unfolding numberAt
+number-rest k s a h = omega (arith, h a)
+
 two : {a b : ℕ} {s t : List ℕ} → a ≡ b → s ≡ t → a ∷ s ≡ b ∷ t
 two p q = ap₂ (λ (x : ℕ) (xs : List ℕ). x ∷ xs) p q
-
-pub low-3 : (x : ℕ) → lowBytes 3 x ≡ x % 256 ∷ x / 256 % 256 ∷ x / 65536 % 256 ∷ []
-unfolding lowBytes
-low-3 x = two refl (two refl (two (omega arith) refl))
 
 pub low-4 : (x : ℕ) → lowBytes 4 x ≡ x % 256 ∷ x / 256 % 256 ∷ x / 65536 % 256 ∷ x / 16777216 % 256 ∷ []
 unfolding lowBytes
@@ -62,6 +56,16 @@ low-join k x = two refl (two refl (two refl (two refl (ap (lowBytes k) {x = x / 
 
 pub low-more : (k x : ℕ) → lowBytes 4 (x % 4294967296) ++ lowBytes k (x / 4294967296) ≡ lowBytes (suc (suc (suc (suc k)))) x
 low-more k x = ap (λ (l : List ℕ). l ++ lowBytes k (x / 4294967296)) (low-cut x) ∙ low-join k x
+
+-- the bytes of a number behind its three low ones
+pub low-7 : (x : ℕ) → x % 256 ∷ x / 256 % 256 ∷ x / 65536 % 256 ∷ lowBytes 4 (x / 16777216) ≡ lowBytes 7 x
+unfolding lowBytes
+low-7 x = two refl (two refl (two (omega arith) (ap (lowBytes 4) {x = x / 16777216} {y = x / 256 / 256 / 256} (omega arith))))
+
+-- eight bytes are seven and one more
+pub low-last : (x : ℕ) → lowBytes 7 x ++ (x / 72057594037927936 % 256 ∷ []) ≡ lowBytes 8 x
+unfolding lowBytes
+low-last x = two refl (two refl (two refl (two refl (two refl (two refl (two refl (two (omega arith) refl)))))))
 
 -- ---- what was written is read back, within its bits
 

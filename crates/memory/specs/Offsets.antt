@@ -33,8 +33,11 @@ velocityAt = identificationAt + 7
 abbrev pub surfaceAt : ℕ
 surfaceAt = velocityAt + 7
 
+abbrev pub statusAt : ℕ
+statusAt = surfaceAt + 7
+
 abbrev pub marksAt : ℕ
-marksAt = surfaceAt + 7
+marksAt = statusAt + 7
 
 abbrev pub latitudeAt : ℕ
 latitudeAt = marksAt + 4

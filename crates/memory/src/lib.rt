@@ -40,8 +40,11 @@ pub const VELOCITY: usize = IDENTIFICATION + 7;
 // The ME that gave the surface fields, 0 if none.
 pub const SURFACE: usize = VELOCITY + 7;
 
-// Bits 0-11 the pressure altitude code, bits 12-23 the GNSS height code, bit 24 whether the position is known.
-pub const MARKS: usize = SURFACE + 7;
+// The ME that gave the status, 0 if none.
+pub const STATUS: usize = SURFACE + 7;
+
+// Bits 0-11 the pressure altitude code, bits 12-23 the GNSS height code, bit 24 whether the position is known; of the latest position message bits 25-29 TYPE, 0 if none was heard, and bit 30 bit 8 of ME.
+pub const MARKS: usize = STATUS + 7;
 
 // The latitude of the position plus 2^30: 0 to 2^31. With a number out of its range the place is free.
 pub const LATITUDE: usize = MARKS + 4;
@@ -64,6 +67,8 @@ pub const BODY: usize = ODD + SAVED;
 pub const TO_VELOCITY: usize = VELOCITY - IDENTIFICATION;
 
 pub const TO_SURFACE: usize = SURFACE - IDENTIFICATION;
+
+pub const TO_STATUS: usize = STATUS - IDENTIFICATION;
 
 pub const TO_LONGITUDE: usize = LONGITUDE - LATITUDE;
 

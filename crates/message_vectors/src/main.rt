@@ -1,11 +1,13 @@
 // Decodes each byte string of standard input, a byte of length and then the bytes, and writes its fields in the order of their
-// bits with the message encoded again, or the number that it earns.
+// bits with the message encoded again, or the number that it earns. Where the length is 254 the fields of a status follow, eight
+// bytes each, and what they are encoded to is written.
 use encoder::Encoded;
 use layouts::Air;
 use layouts::Airborne;
 use layouts::Body;
 use layouts::Ground;
 use layouts::Identification;
+use layouts::Status;
 use layouts::Surface;
 use layouts::Vertical;
 use libc::STDIN_FILENO;
@@ -92,6 +94,28 @@ fn say_air(b: Air) {
     say_vertical(b.vertical);
 }
 
+// The fields of a status from NACp on.
+fn say_end(nacp: u8, bits49: u8, sil: u8, bit53: u8, bit54: u8, bits55: u8) {
+    say(nacp as u64);
+    say(bits49 as u64);
+    say(sil as u64);
+    say(bit53 as u64);
+    say(bit54 as u64);
+    say(bits55 as u64);
+}
+
+fn say_status(b: Status) {
+    say(b.typecode as u64);
+    say(b.subtype as u64);
+    say(b.class as u64);
+    say(b.bit20 as u64);
+    say(b.width as u64);
+    say(b.mode as u64);
+    say(b.version as u64);
+    say(b.supplementa as u64);
+    say_end(b.nacp, b.bits49, b.sil, b.bit53, b.bit54, b.bits55);
+}
+
 fn say_body(b: Body) {
     match b {
         Body::Identification(x) => say_identification(x),
@@ -99,6 +123,7 @@ fn say_body(b: Body) {
         Body::Airborne(x) => say_airborne(x),
         Body::Ground(x) => say_ground(x),
         Body::Air(x) => say_air(x),
+        Body::Status(x) => say_status(x),
     }
 }
 
@@ -148,13 +173,76 @@ fn answer(s: &[u8]) {
     write(b"\n");
 }
 
-// Answers one byte string, and says whether there was one.
+// The next field of a status; where the input has ended, 0.
+fn field() -> u64 {
+    let mut b = [0u8; 8];
+    io::read_full(STDIN_FILENO, &mut b);
+    fields::number_of(&b)
+}
+
+fn byte() -> u8 {
+    (field() % 256) as u8
+}
+
+fn status() -> Status {
+    let typecode = byte();
+    let subtype = byte();
+    let class = (field() % 65536) as u16;
+    let bit20 = byte();
+    let width = byte();
+    let mode = (field() % 65536) as u16;
+    let version = byte();
+    let supplementa = byte();
+    let nacp = byte();
+    let bits49 = byte();
+    let sil = byte();
+    let bit53 = byte();
+    let bit54 = byte();
+    let bits55 = byte();
+    Status {
+        typecode,
+        subtype,
+        class,
+        bit20,
+        width,
+        mode,
+        version,
+        supplementa,
+        nacp,
+        bits49,
+        sil,
+        bit53,
+        bit54,
+        bits55,
+    }
+}
+
+// A status made by hand.
+fn answer_status() {
+    let format = byte();
+    let control = byte();
+    let address = (field() % 4294967296) as u32;
+    let body = Body::Status(status());
+    say_encoded(Message {
+        format,
+        control,
+        address,
+        body,
+    });
+    write(b"\n");
+}
+
+// Answers one byte string, or a status, and says whether there was one.
 fn one() -> bool {
     let mut head = [0u8; 1];
     if io::read_full(STDIN_FILENO, &mut head) != 1 {
         return false;
     }
     let n = (fields::number_of(&head) % 256) as usize;
+    if n == 254 {
+        answer_status();
+        return true;
+    }
     let mut space = [0u8; 256];
     let buf: &mut [u8] = &mut space;
     let got = io::read_full(STDIN_FILENO, &mut buf[0..n]);

@@ -20,7 +20,7 @@ use Rattle.layouts.specs.declared.bodies.Layout.the-variants as layout
 use Rattle.layouts.specs.declared.bodies.Taken.{Taken}
 use Rattle.layouts.specs.declared.bodies.Taken.the-variants as read
 use Rattle.layouts.proofs.BothWays.{read-good}
-use Rattle.messages.specs.Message.{bits, formatTaken, isReserved, opened, decoded}
+use Rattle.messages.specs.Message.{bits, formatTaken, opened, decoded}
 use Rattle.messages.specs.Accepted.{frameOf, frameReserved, framed, accepted, headed, frameIn, frameSays, decodedBy, openedAs, IsAccepted}
 use Rattle.messages.specs.Said.{acceptedSaid, earns1, earns3, earns4, acceptTable}
 use Rattle.messages.specs.declared.Frame.{Frame}
@@ -28,7 +28,7 @@ use Rattle.messages.specs.declared.Message.{Message}
 use Rattle.messages.specs.declared.Accepted.{Accepted}
 use Rattle.messages.specs.declared.Accepted.the-variants as accept
 use Rattle.messages.specs.declared.Decoded.the-variants as decode
-use Rattle.messages.proofs.Flags.{layout-in, flag-in}
+use Rattle.messages.proofs.Flags.{layout-in, reserved-in}
 
 -- ---- a layout, or none
 
@@ -43,6 +43,7 @@ reads layout.Surface n = (_, refl)
 reads layout.Airborne n = (_, refl)
 reads layout.Ground n = (_, refl)
 reads layout.Air n = (_, refl)
+reads layout.Status n = (_, refl)
 reads layout.NotTaken n = refl
 
 -- ---- decoded is what was accepted, opened
@@ -54,7 +55,7 @@ module _ (f : Frame) where
   abbrev t : Bool
   t = isTaken (layoutOf (f .me))
 
-  -- opened by 4, by the flag, or by ME: what `framed` refuses, and what it gives back
+  -- opened by 4, by what is reserved, or by ME: what `framed` refuses, and what it gives back
   opens : opened (f .format) (f .control) (f .address) (f .me) ≡ openedAs (framed f)
   unfolding opened framed
   opens = by-cases a t (frameReserved f) refl refl refl (reads (layoutOf (f .me)) (f .me))
@@ -155,4 +156,4 @@ accept-says-the-table s =
     ∙ ap (cond (earns1 s) (number 1)) (says (earns3 s) _ _
     ∙ ap (cond (earns3 s) (number 3)) (says (earns4 s) _ _
     ∙ ap (cond (earns4 s) (number 4)) (says (not (isTaken (layoutOf (bits 33 88 s))) || frameReserved (frameOf s)) _ _
-    ∙ ap₂ (λ (l : Layout) (k : ℕ). cond (not (isTaken l) || isReserved (bits 1 5 s) (bits 6 8 s) k) (number 5) (acceptedSaid (accept.Frame (frameOf s)))) (layout-in s) (flag-in s))))
+    ∙ ap₂ (λ (l : Layout) (b : Bool). cond (not (isTaken l) || b) (number 5) (acceptedSaid (accept.Frame (frameOf s)))) (layout-in s) (reserved-in s))))

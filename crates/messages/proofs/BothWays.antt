@@ -19,8 +19,8 @@ use Rattle.fields.proofs.Packing.{pack-lt, unpack-pack, pack-unpack}
 use Rattle.fields.proofs.Bytes.{bytes-take, bytes-drop, fit-bytes, number-bytes, bytes-number}
 use Rattle.parity.specs.Parity.{remainder}
 use Rattle.parity.proofs.Seal.{sealed, only-sealed}
-use Rattle.layouts.specs.Bodies.{taken, flagIn, flagOf, bodyMe, bodyFits}
-use Rattle.layouts.proofs.BothWays.{written-read, read-good, flag-read, me-lt}
+use Rattle.layouts.specs.Bodies.{typeIn, taken, flagIn, bodyType, flagOf, bodyMe, bodyFits}
+use Rattle.layouts.proofs.BothWays.{written-read, read-good, type-read, flag-read, me-lt}
 use Rattle.layouts.specs.declared.bodies.Taken.{Taken}
 use Rattle.layouts.specs.declared.bodies.Taken.the-variants as read
 use Rattle.messages.specs.Message.{bits, formatTaken, isReserved, withBody, opened, decoded, headWidths, headFields, headTaken, messageFits, sealedBy, messageBytes}
@@ -38,10 +38,11 @@ opened-back : (m : Message) → headTaken m ≡ true → bodyFits (m .body) ≡ 
 unfolding opened
 opened-back m h b =
     let n : ℕ = bodyMe (m .body) in
-    let r : ℕ → Bool = isReserved (m .format) (m .control) in
-    let t = each (formatTaken (m .format) (m .control)) (not (r (flagOf (m .body)))) h in
+    let r : ℕ → ℕ → Bool = isReserved (m .format) (m .control) in
+    let q : Bool = r (bodyType (m .body)) (flagOf (m .body)) in
+    let t = each (formatTaken (m .format) (m .control)) (not q) h in
     let e : taken n ≡ read.Body (m .body) = written-read n (m .body) (rw b) in
-    let f : r (flagIn n) ≡ false = ap r (sym (flag-read n (m .body) e)) ∙ not-true (r (flagOf (m .body))) (t .1) in
+    let f : r (typeIn n) (flagIn n) ≡ false = sym (ap₂ r (type-read n (m .body) e) (flag-read n (m .body) e)) ∙ not-true q (t .1) in
     rw (t .0, f) (ap (withBody (m .format) (m .control) (m .address)) e)
 
 -- a message's bytes from the numbers of its first four and next seven
@@ -103,13 +104,13 @@ module _ (s : List ℕ) (e : length s ≡ 14) (h : Bytes s) (z : remainder s ≡
       let q : remainder (take 11 s ++ drop 11 s) ≡ 0 = ap remainder (take-append-drop 11 s) ∙ z in
       ap sealedBy j ∙ ap (λ (y : List ℕ). take 11 s ++ y) (sym (only-sealed (take 11 s) (drop 11 s) l (bytes-drop 11 s h) q)) ∙ take-append-drop 11 s
 
-  body-good : formatTaken (bits 1 5 s) (bits 6 8 s) ≡ true → isReserved (bits 1 5 s) (bits 6 8 s) (flagIn (bits 33 88 s)) ≡ false → (b : Taken) → taken (bits 33 88 s) ≡ b
+  body-good : formatTaken (bits 1 5 s) (bits 6 8 s) ≡ true → isReserved (bits 1 5 s) (bits 6 8 s) (typeIn (bits 33 88 s)) (flagIn (bits 33 88 s)) ≡ false → (b : Taken) → taken (bits 33 88 s) ≡ b
       → Good s (withBody (bits 1 5 s) (bits 6 8 s) (bits 9 32 s) b)
   unfolding head frame
   body-good t r (read.Body b) p =
       let g = read-good (bits 33 88 s) b (mod-lt (number s / 2 ^ 24) (lit< tt)) p in
       let f = ap (fits headWidths) (head-is s e h) ∙ unpack-fits headWidths head in (
-        both (both f (both t (ap not (ap (isReserved (bits 1 5 s) (bits 6 8 s)) (flag-read (bits 33 88 s) b p) ∙ r)))) (g .0),
+        both (both f (both t (ap not (ap₂ (isReserved (bits 1 5 s) (bits 6 8 s)) (type-read (bits 33 88 s) b p) (flag-read (bits 33 88 s) b p) ∙ r)))) (g .0),
         framed _ _ (ap (pack headWidths) (head-is s e h) ∙ pack-unpack headWidths head ∙ mod-eq-of-lt (head-lt s e h)) (g .1 ∙ me-is s e h),
       )
   body-good t r (read.Refused q) p = tt
@@ -118,7 +119,7 @@ module _ (s : List ℕ) (e : length s ≡ 14) (h : Bytes s) (z : remainder s ≡
   unfolding opened
   opened-good =
       by-test (Good s) (not (formatTaken (bits 1 5 s) (bits 6 8 s))) _ _ (λ t. tt)
-      (λ t. by-test (Good s) (isReserved (bits 1 5 s) (bits 6 8 s) (flagIn (bits 33 88 s))) _ _ (λ r. tt)
+      (λ t. by-test (Good s) (isReserved (bits 1 5 s) (bits 6 8 s) (typeIn (bits 33 88 s)) (flagIn (bits 33 88 s))) _ _ (λ r. tt)
       (λ r. body-good (not-false (formatTaken (bits 1 5 s) (bits 6 8 s)) t) r (taken (bits 33 88 s)) refl))
 
 pub decoded-good : (s : List ℕ) (m : Message) → Bytes s → decoded s ≡ decode.Message m → (messageFits m ≡ true) × (messageBytes m ≡ s)

@@ -13,11 +13,12 @@ use Rattle.refusals.specs.Numbers.{numberOf}
 use Rattle.refusals.specs.Said.{Said, number, gives}
 use Rattle.fields.specs.Packing.{field, total, unpack}
 use Rattle.fields.specs.Bytes.{number as numeral}
-use Rattle.fields.proofs.Bools.{each, either}
+use Rattle.fields.proofs.Bools.{each, either, both}
 use Rattle.fields.proofs.Packing.{unpack-above}
 use Rattle.layouts.specs.Layouts.{identificationWidths, surfaceWidths, airborneWidths}
+use Rattle.layouts.specs.Status.{statusWidths}
 use Rattle.layouts.specs.Velocity.{groundOf, airOf, groundFields, airFields, velocityWidths}
-use Rattle.layouts.specs.Bodies.{layoutOf, isTaken, flagIn, takenAs, layoutWidths, bodyLayout}
+use Rattle.layouts.specs.Bodies.{typeIn, layoutOf, isTaken, flagIn, takenAs, layoutWidths, bodyLayout}
 use Rattle.layouts.specs.Said.{Values, values}
 use Rattle.layouts.specs.declared.bodies.Body.the-variants as body
 use Rattle.layouts.specs.declared.bodies.Layout.{Layout}
@@ -25,12 +26,12 @@ use Rattle.layouts.specs.declared.bodies.Layout.the-variants as layout
 use Rattle.layouts.specs.declared.velocity.Ground.{Ground}
 use Rattle.layouts.specs.declared.velocity.Air.{Air}
 use Rattle.messages.specs.Accepted.{Acceptable}
-use Rattle.messages.specs.Message.{bits, isReserved, withBody, opened, decoded, headWidths}
+use Rattle.messages.specs.Message.{bits, trafficBy, isReserved, withBody, opened, decoded, headWidths}
 use Rattle.messages.specs.Said.{said, earns1, earns3, earns4, layoutIn, flagAt, earns5, valuesIn, table}
 use Rattle.messages.specs.declared.Message.{Message}
 use Rattle.messages.specs.declared.Decoded.{Decoded}
 use Rattle.messages.specs.declared.Decoded.the-variants as decode
-use Rattle.messages.proofs.Flags.{layout-in, flag-in}
+use Rattle.messages.proofs.Flags.{layout-in, reserved-in}
 
 -- ---- fields of a part of the bits
 
@@ -68,6 +69,7 @@ layout-says layout.Surface n = ap (λ (v : List ℕ). gives (values layout.Surfa
 layout-says layout.Airborne n = ap (λ (v : List ℕ). gives (values layout.Airborne v)) (all-fields n airborneWidths refl)
 layout-says layout.Ground n = ap (λ (v : List ℕ). gives (values layout.Ground v)) (all-fields n velocityWidths refl)
 layout-says layout.Air n = ap (λ (v : List ℕ). gives (values layout.Air v)) (all-fields n velocityWidths refl)
+layout-says layout.Status n = ap (λ (v : List ℕ). gives (values layout.Status v)) (all-fields n statusWidths refl)
 layout-says layout.NotTaken n = refl
 
 -- ---- the whole
@@ -84,12 +86,12 @@ opened-says : (s : List ℕ)
 unfolding opened
 opened-says s =
     let n : ℕ = bits 33 88 s in
-    let r : ℕ → Bool = isReserved (bits 1 5 s) (bits 6 8 s) in
+    let r : ℕ → ℕ → Bool = isReserved (bits 1 5 s) (bits 6 8 s) in
     said-of (earns4 s) _ _
-    ∙ ap (cond (earns4 s) (number 4)) (said-of (r (flagIn n)) _ _
-    ∙ ap (cond (r (flagIn n)) (number 5)) (layout-says (layoutOf n) (numeral s))
-    ∙ for-either (r (flagIn n)) (not (isTaken (layoutOf n))) _
-    ∙ ap₂ (λ (l : Layout) (k : ℕ). cond (not (isTaken l) || r k) (number 5) (gives (values l (unpack (headWidths ++ layoutWidths l) (bits 1 88 s))))) (layout-in s) (flag-in s))
+    ∙ ap (cond (earns4 s) (number 4)) (said-of (r (typeIn n) (flagIn n)) _ _
+    ∙ ap (cond (r (typeIn n) (flagIn n)) (number 5)) (layout-says (layoutOf n) (numeral s))
+    ∙ for-either (r (typeIn n) (flagIn n)) (not (isTaken (layoutOf n))) _
+    ∙ ap₂ (λ (l : Layout) (b : Bool). cond (not (isTaken l) || b) (number 5) (gives (values l (unpack (headWidths ++ layoutWidths l) (bits 1 88 s))))) (layout-in s) (reserved-in s))
 
 -- what the decoder answers is what the table says
 pub says-the-table : (s : List ℕ) → said (decoded s) ≡ table s
@@ -177,29 +179,44 @@ module _ (s : List ℕ) where
     λ p. says-the-table s ∙ rw (p .0, p .1, p .2),
   )
 
-  -- 5 exactly when it earns none of 1, 3 and 4, and there is one of two reasons
+  -- 5 exactly when it earns none of 1, 3 and 4, and there is one of three reasons
   pub five-exactly : said (decoded s) ≡ number 5 ↔ (earns1 s ≡ false) × (earns3 s ≡ false) × (earns4 s ≡ false) × (earns5 s ≡ true)
   five-exactly = (
     λ e. fourth (earns1 s) (earns3 s) (earns4 s) (earns5 s) (valuesIn s) (sym (says-the-table s) ∙ e),
     λ p. says-the-table s ∙ rw (p .0, p .1, p .2, p .3),
   )
 
-  -- its TYPE or subtype is not taken, or it is DF 18 with CF 5 and the flag set
-  pub five-reasons : earns5 s ≡ true ↔ (isTaken (layoutIn s) ≡ false) ⊎ ((bits 1 5 s ≡ 18) × (bits 6 8 s ≡ 5) × (flagAt s ≡ 1))
+  -- CF 5 with the flag set
+  abbrev FlagSet : Type 0
+  FlagSet = (bits 1 5 s ≡ 18) × (bits 6 8 s ≡ 5) × (flagAt s ≡ 1)
+
+  -- TYPE 31, at any subtype, of the traffic service
+  abbrev ServedStatus : Type 0
+  ServedStatus = (trafficBy (bits 1 5 s) (bits 6 8 s) ≡ true) × (bits 33 37 s ≡ 31)
+
+  -- its TYPE or subtype is not taken, or it is DF 18 with CF 5 and the flag set, or with CF 2 or 5 and TYPE 31
+  pub five-reasons : earns5 s ≡ true ↔ (isTaken (layoutIn s) ≡ false) ⊎ (FlagSet ⊎ ServedStatus)
   five-reasons = (
     λ e. ⊎-elim (λ t. inl (not-true (isTaken (layoutIn s)) t)) (λ r. inr (reserved r)) (either (not (isTaken (layoutIn s))) _ e),
-    ⊎-elim (λ t. rw t) (λ p. rw (p .0, p .1, p .2) (or-true (not (isTaken (layoutIn s))))),
+    ⊎-elim (λ t. rw t) (⊎-elim
+        (λ p. or-right (not (isTaken (layoutIn s))) _ (rw (p .0, p .1, p .2)))
+        (λ p. or-right (not (isTaken (layoutIn s))) _ (or-right (eqb (bits 1 5 s) 18 && eqb (bits 6 8 s) 5 && eqb (flagAt s) 1) _ (both (p .0) (eq-eqb (bits 33 37 s) 31 (p .1)))))),
   )
     where
-      reserved : isReserved (bits 1 5 s) (bits 6 8 s) (flagAt s) ≡ true → (bits 1 5 s ≡ 18) × (bits 6 8 s ≡ 5) × (flagAt s ≡ 1)
-      reserved r =
-          let p = each (eqb (bits 1 5 s) 18 && eqb (bits 6 8 s) 5) (eqb (flagAt s) 1) r in
+      reserved : isReserved (bits 1 5 s) (bits 6 8 s) (bits 33 37 s) (flagAt s) ≡ true → FlagSet ⊎ ServedStatus
+      reserved r = ⊎-elim
+          (λ f.
+          let p = each (eqb (bits 1 5 s) 18 && eqb (bits 6 8 s) 5) (eqb (flagAt s) 1) f in
           let q = each (eqb (bits 1 5 s) 18) (eqb (bits 6 8 s) 5) (p .0) in
-          (eqb-true (bits 1 5 s) 18 (q .0), eqb-true (bits 6 8 s) 5 (q .1), eqb-true (flagAt s) 1 (p .1))
+          inl (eqb-true (bits 1 5 s) 18 (q .0), eqb-true (bits 6 8 s) 5 (q .1), eqb-true (flagAt s) 1 (p .1)))
+          (λ t.
+          let p = each (trafficBy (bits 1 5 s) (bits 6 8 s)) (eqb (bits 33 37 s) 31) t in
+          inr (p .0, eqb-true (bits 33 37 s) 31 (p .1)))
+          (either (eqb (bits 1 5 s) 18 && eqb (bits 6 8 s) 5 && eqb (flagAt s) 1) _ r)
 
-      or-true : (t : Bool) → t || true ≡ true
-      or-true true = refl
-      or-true false = refl
+      or-right : (a b : Bool) → b ≡ true → a || b ≡ true
+      or-right true b e = refl
+      or-right false b e = e
 
   -- acceptable exactly when it earns none of the four
   pub accepted-exactly : Acceptable s ↔ (earns1 s ≡ false) × (earns3 s ≡ false) × (earns4 s ≡ false) × (earns5 s ≡ false)

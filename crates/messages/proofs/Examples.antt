@@ -39,13 +39,13 @@ air = 0x8D ∷ 0xA0 ∷ 0x5F ∷ 0x21 ∷ 0x9B ∷ 0x06 ∷ 0xB6 ∷ 0xAF ∷ 0x
 abbrev no-position : List ℕ
 no-position = 0x8D ∷ 0x40 ∷ 0x62 ∷ 0x1D ∷ 0x07 ∷ 0x38 ∷ 0x1E ∷ 0xD6 ∷ 0x90 ∷ 0xC8 ∷ 0xAC ∷ 0xC1 ∷ 0xE2 ∷ 0x1C ∷ []
 
--- DF is 0 and TYPE 31, which earn 4 and 5: it is 4
+-- DF is 0 and TYPE 30, which earn 4 and 5: it is 4
 abbrev format-0 : List ℕ
-format-0 = 0 ∷ 0 ∷ 0 ∷ 0 ∷ 0xF8 ∷ 0 ∷ 0 ∷ 0 ∷ 0 ∷ 0 ∷ 0 ∷ 0x74 ∷ 0xE7 ∷ 0x6D ∷ []
+format-0 = 0 ∷ 0 ∷ 0 ∷ 0 ∷ 0xF0 ∷ 0 ∷ 0 ∷ 0 ∷ 0 ∷ 0 ∷ 0 ∷ 0x97 ∷ 0x14 ∷ 0xF8 ∷ []
 
 -- the same with bit 88 set: 3 comes before 4
 abbrev bit-88 : List ℕ
-bit-88 = 0 ∷ 0 ∷ 0 ∷ 0 ∷ 0xF8 ∷ 0 ∷ 0 ∷ 0 ∷ 0 ∷ 0 ∷ 1 ∷ 0x74 ∷ 0xE7 ∷ 0x6D ∷ []
+bit-88 = 0 ∷ 0 ∷ 0 ∷ 0 ∷ 0xF0 ∷ 0 ∷ 0 ∷ 0 ∷ 0 ∷ 0 ∷ 1 ∷ 0x97 ∷ 0x14 ∷ 0xF8 ∷ []
 
 pub examples : (said (decoded identification) ≡ gives (values layout.Identification (17 ∷ 5 ∷ 0x4840D6 ∷ 4 ∷ 0 ∷ 49217938861280 ∷ [])))
     × (said (decoded airborne) ≡ gives (values layout.Airborne (17 ∷ 5 ∷ 0x40621D ∷ 11 ∷ 0 ∷ 0 ∷ 3128 ∷ 0 ∷ 0 ∷ 93000 ∷ 51372 ∷ [])))
@@ -102,6 +102,21 @@ other = 0x91 ∷ 0x40 ∷ 0x62 ∷ 0x1D ∷ 0x58 ∷ 0xC3 ∷ 0x82 ∷ 0xD6 ∷ 
 abbrev traffic-altitude : List ℕ
 traffic-altitude = 0x95 ∷ 0x40 ∷ 0x62 ∷ 0x1D ∷ 0x00 ∷ 0x38 ∷ 0x1E ∷ 0xD6 ∷ 0x90 ∷ 0xC8 ∷ 0xAC ∷ 0x6F ∷ 0xD6 ∷ 0xA6 ∷ []
 
+-- 8D4840D6F954B912344AB5AA6E36: DF 17, status
+abbrev status : List ℕ
+status = 0x8D ∷ 0x48 ∷ 0x40 ∷ 0xD6 ∷ 0xF9 ∷ 0x54 ∷ 0xB9 ∷ 0x12 ∷ 0x34 ∷ 0x4A ∷ 0xB5 ∷ 0xAA ∷ 0x6E ∷ 0x36 ∷ []
+
+-- 9140621DF954B912344AB5F6757F: CF 1, the same ME
+abbrev other-status : List ℕ
+other-status = 0x91 ∷ 0x40 ∷ 0x62 ∷ 0x1D ∷ 0xF9 ∷ 0x54 ∷ 0xB9 ∷ 0x12 ∷ 0x34 ∷ 0x4A ∷ 0xB5 ∷ 0xF6 ∷ 0x75 ∷ 0x7F ∷ []
+
+-- 9240621DF954B912344AB51EE6F7 and 9540621DF954B912344AB5684496: CF 2 and 5, the same ME
+abbrev traffic-status : List ℕ
+traffic-status = 0x92 ∷ 0x40 ∷ 0x62 ∷ 0x1D ∷ 0xF9 ∷ 0x54 ∷ 0xB9 ∷ 0x12 ∷ 0x34 ∷ 0x4A ∷ 0xB5 ∷ 0x1E ∷ 0xE6 ∷ 0xF7 ∷ []
+
+abbrev traffic-other-status : List ℕ
+traffic-other-status = 0x95 ∷ 0x40 ∷ 0x62 ∷ 0x1D ∷ 0xF9 ∷ 0x54 ∷ 0xB9 ∷ 0x12 ∷ 0x34 ∷ 0x4A ∷ 0xB5 ∷ 0x68 ∷ 0x44 ∷ 0x96 ∷ []
+
 -- the five kinds by their keys; one AA has five, so no two of the kinds are one track
 pub five-kinds : (keyIn airborne ≡ 0x140621D)
     × (keyIn traffic ≡ 0x340621D)
@@ -116,9 +131,12 @@ unfolding kindOf
 five-kinds = (refl, refl, refl, refl, refl, refl, refl, refl, refl)
 
 -- what earns 5 and 4
-pub traffic-refused : (said (decoded traffic-reserved) ≡ number 5) × (said (decoded coarse) ≡ number 4)
+pub traffic-refused : (said (decoded traffic-reserved) ≡ number 5)
+    × (said (decoded traffic-status) ≡ number 5)
+    × (said (decoded traffic-other-status) ≡ number 5)
+    × (said (decoded coarse) ≡ number 4)
 unfolding remainder remainderFrom reduce opened
-traffic-refused = (refl, refl)
+traffic-refused = (refl, refl, refl, refl)
 
 -- what may start a track: of the traffic service positions alone
 pub traffic-starts : (startsIn traffic ≡ true)
@@ -131,6 +149,11 @@ pub traffic-starts : (startsIn traffic ≡ true)
     × (startsIn identification ≡ true)
 unfolding kindOf
 traffic-starts = (refl, refl, refl, refl, refl, refl, refl, refl)
+
+-- a status starts a track of I and of O
+pub status-starts : (startsIn status ≡ true) × (keyIn status ≡ 0x14840D6) × (startsIn other-status ≡ true) × (keyIn other-status ≡ 0x240621D)
+unfolding kindOf
+status-starts = (refl, refl, refl, refl)
 
 -- an even message of T and an odd one of M, of one AA, are never a pair: their keys differ
 pub never-paired : keyIn traffic ≡ keyIn traffic-mode-a → ⊥
@@ -166,6 +189,19 @@ mode-a-fields = record {
 pub traffic-both-ways : BothWays traffic-mode-a mode-a-fields
 unfolding seal remainder remainderFrom reduce opened
 traffic-both-ways = (refl, refl, refl)
+
+-- status
+abbrev status-fields : Message
+status-fields = record {
+  format = 17;
+  control = 5;
+  address = 0x4840D6;
+  body = body.Status (record { typecode = 31; subtype = 1; class = 677; bit20 = 1; width = 9; mode = 4660; version = 2; supplementa = 0; nacp = 10; bits49 = 2; sil = 3; bit53 = 0; bit54 = 1; bits55 = 1 });
+}
+
+pub status-both-ways : BothWays status status-fields
+unfolding seal remainder remainderFrom reduce opened
+status-both-ways = (refl, refl, refl)
 
 -- so two accepted messages are told apart
 abbrev fieldsIn : Said Values → List ℕ

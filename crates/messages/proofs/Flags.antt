@@ -11,7 +11,7 @@ use Rattle.fields.specs.Bytes.{number}
 use Rattle.fields.specs.Packing.{field, me}
 use Rattle.keys.specs.Keys.{isTraffic}
 use Rattle.keys.specs.declared.Kind.the-variants.{I, T, M}
-use Rattle.layouts.specs.Bodies.{layoutAt, layoutOf, flagBy, flagIn}
+use Rattle.layouts.specs.Bodies.{typeIn, layoutAt, layoutOf, flagBy, flagIn}
 use Rattle.layouts.specs.declared.bodies.Layout.{Layout}
 use Rattle.messages.specs.Message.{bits, isReserved, trafficBy, kindBy, kindOf}
 use Rattle.messages.specs.Said.{layoutIn, flagAt}
@@ -44,6 +44,10 @@ flag-in s =
     ap₂ (λ (l : Layout) (k : ℕ). flagBy l k (me 8 8 m) (me 9 9 m)) (layout-in s) (surface-is n)
     ∙ ap₂ (flagBy (layoutIn s) (bits 53 53 s)) (air-is n) (velocity-is n)
 
+pub reserved-in : (s : List ℕ)
+    → isReserved (bits 1 5 s) (bits 6 8 s) (typeIn (bits 33 88 s)) (flagIn (bits 33 88 s)) ≡ isReserved (bits 1 5 s) (bits 6 8 s) (bits 33 37 s) (flagAt s)
+reserved-in s = ap₂ (isReserved (bits 1 5 s) (bits 6 8 s)) (type-is (number s)) (flag-in s)
+
 -- ---- where it decides
 
 pub kind-asked : (format control flag : ℕ) → kindOf format control (cond (eqb format 18) flag 0) ≡ kindOf format control flag
@@ -54,14 +58,14 @@ kind-asked format control flag = by-format (eqb format 18)
     by-format true = refl
     by-format false = refl
 
--- only the traffic service's messages have a flag that is reserved
-pub not-reserved : (format control flag : ℕ) → trafficBy format control ≡ false → isReserved format control flag ≡ false
-not-reserved format control flag = by-tests (eqb format 18) (eqb control 2) (eqb control 5)
+-- only the traffic service's messages have a flag or a TYPE that is reserved
+pub not-reserved : (format control type flag : ℕ) → trafficBy format control ≡ false → isReserved format control type flag ≡ false
+not-reserved format control type flag = by-tests (eqb format 18) (eqb control 2) (eqb control 5)
   where
-    by-tests : (a b c : Bool) → a && (b || c) ≡ false → a && c && eqb flag 1 ≡ false
+    by-tests : (a b c : Bool) → a && (b || c) ≡ false → (a && c && eqb flag 1) || (a && (b || c) && eqb type 31) ≡ false
     by-tests false b c e = refl
-    by-tests true b false e = refl
-    by-tests true true true e = absurd (true≢false e)
+    by-tests true false false e = refl
+    by-tests true true c e = absurd (true≢false e)
     by-tests true false true e = absurd (true≢false e)
 
 -- T or M

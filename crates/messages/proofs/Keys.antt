@@ -10,7 +10,7 @@ use Rattle.fields.proofs.Bools.{by-test}
 use Rattle.keys.specs.Keys.{low24, isKey}
 use Rattle.keys.proofs.Laws as keys
 use Rattle.parity.specs.Parity.{remainder}
-use Rattle.layouts.specs.Bodies.{taken, flagIn, flagOf}
+use Rattle.layouts.specs.Bodies.{typeIn, taken, flagIn, flagOf}
 use Rattle.layouts.specs.declared.bodies.Taken.{Taken}
 use Rattle.layouts.specs.declared.bodies.Taken.the-variants as read
 use Rattle.layouts.proofs.BothWays.{flag-read}
@@ -48,7 +48,7 @@ opened-from : (s : List ℕ) → From s (opened (bits 1 5 s) (bits 6 8 s) (bits 
 unfolding opened
 opened-from s =
     by-test (From s) (not (formatTaken (bits 1 5 s) (bits 6 8 s))) _ _ (λ _. tt)
-    (λ _. by-test (From s) (isReserved (bits 1 5 s) (bits 6 8 s) (flagIn (bits 33 88 s))) _ _ (λ _. tt)
+    (λ _. by-test (From s) (isReserved (bits 1 5 s) (bits 6 8 s) (typeIn (bits 33 88 s)) (flagIn (bits 33 88 s))) _ _ (λ _. tt)
     (λ _. with-body-from s (taken (bits 33 88 s)) refl))
 
 pub decoded-from : (s : List ℕ) (m : Message) → decoded s ≡ decode.Message m → (taken (bits 33 88 s) ≡ read.Body (m .body)) × (messageOf (frameOf s) (m .body) ≡ m)

@@ -21,9 +21,9 @@ use Rattle.messages.specs.Message.{bits, formatTaken, isReserved, withBo
 abbrev pub frameOf : List ℕ → Frame
 frameOf s = record { format = bits 1 5 s; control = bits 6 8 s; address = bits 9 32 s; me = bits 33 88 s }
 
--- CF 5 with the flag set
+-- CF 5 with the flag set, or status of the traffic service
 abbrev pub frameReserved : Frame → Bool
-frameReserved f = isReserved (f .format) (f .control) (flagIn (f .me))
+frameReserved f = isReserved (f .format) (f .control) (typeIn (f .me)) (flagIn (f .me))
 
 -- 4, then 5 for either reason
 unfoldable pub framed : Frame → Accepted
@@ -39,7 +39,7 @@ accepted s =
     (cond (not (eqb (remainder s) 0)) (accept.Refused Parity)
     (framed (frameOf s)))
 
--- what is refused whatever TYPE and subtype are: 4, then 5 for a flag that is reserved
+-- what is refused before its layout is asked for: 4, then 5 for a flag or a TYPE that is reserved
 unfoldable pub headed : Frame → Accepted
 headed f =
     cond (not (formatTaken (f .format) (f .control))) (accept.Refused Format)

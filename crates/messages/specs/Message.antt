@@ -12,7 +12,8 @@ use Rattle.keys.specs.declared.Kind.{Kind}
 use Rattle.keys.specs.declared.Kind.the-variants.{I, O, T, M, N}
 use Rattle.parity.specs.Parity.{remainder, seal}
 use Rattle.layouts.specs.Layouts.{isPosition}
-use Rattle.layouts.specs.Bodies.{taken, flagIn, bodyType, flagOf, bodyMe, bodyFits}
+use Rattle.layouts.specs.Status.{isStatusType}
+use Rattle.layouts.specs.Bodies.{typeIn, taken, flagIn, bodyType, flagOf, bodyMe, bodyFits}
 use Rattle.layouts.specs.declared.bodies.Taken.{Taken}
 use Rattle.layouts.specs.declared.bodies.Taken.the-variants as read
 use Rattle.messages.specs.declared.Message.{Message}
@@ -27,9 +28,13 @@ bits from to s = field 112 from to (number s)
 abbrev pub formatTaken : ℕ → ℕ → Bool
 formatTaken format control = eqb format 17 || (eqb format 18 && (leb control 2 || eqb control 5))
 
--- reserved: DF 18 with CF 5 and the flag set
-abbrev pub isReserved : ℕ → ℕ → ℕ → Bool
-isReserved format control flag = eqb format 18 && eqb control 5 && eqb flag 1
+-- sent by a ground station's traffic service: DF 18 with CF 2 or 5
+abbrev pub trafficBy : ℕ → ℕ → Bool
+trafficBy format control = eqb format 18 && (eqb control 2 || eqb control 5)
+
+-- reserved: CF 5 with the flag set; and status, TYPE 31, of the traffic service, whatever its subtype
+abbrev pub isReserved : ℕ → ℕ → ℕ → ℕ → Bool
+isReserved format control type flag = (eqb format 18 && eqb control 5 && eqb flag 1) || (trafficBy format control && isStatusType type)
 
 -- ---- decoding
 
@@ -38,11 +43,11 @@ abbrev pub withBody : ℕ → ℕ → ℕ → Taken → Decoded
 withBody format control address (read.Body b) = decode.Message (record { format = format; control = control; address = address; body = b })
 withBody format control address (read.Refused r) = decode.Refused r
 
--- by DF, CA or CF, AA and ME: 4, then 5, for a flag that is reserved or a TYPE or subtype that is not taken
+-- by DF, CA or CF, AA and ME: 4, then 5, for a flag or a TYPE that is reserved or a TYPE or subtype that is not taken
 unfoldable pub opened : ℕ → ℕ → ℕ → ℕ → Decoded
 opened format control address me =
     cond (not (formatTaken format control)) (decode.Refused Format)
-    (cond (isReserved format control (flagIn me)) (decode.Refused TypeCode)
+    (cond (isReserved format control (typeIn me) (flagIn me)) (decode.Refused TypeCode)
     (withBody format control address (taken me)))
 
 -- 1, then 3, then 4 and 5. DF is bits 1-5, CA or CF 6-8, AA 9-32, ME 33-88
@@ -72,10 +77,7 @@ keyBy format control flag address = keyFor (kindOf format control flag) address
 abbrev pub keyOf : Message → ℕ
 keyOf m = keyBy (m .format) (m .control) (flagOf (m .body)) (m .address)
 
--- whether a ground station's traffic service sent it: by its kind, T, M or N, which is by DF and CF alone
-abbrev pub trafficBy : ℕ → ℕ → Bool
-trafficBy format control = eqb format 18 && (eqb control 2 || eqb control 5)
-
+-- whether the traffic service sent it: by its kind, T, M or N, which is by DF and CF alone
 abbrev pub traffic : Message → Bool
 traffic m = isTraffic (kindOf (m .format) (m .control) (flagOf (m .body)))
 
@@ -97,9 +99,9 @@ headWidths = 5 ∷ 3 ∷ 24 ∷ []
 abbrev pub headFields : Message → List ℕ
 headFields m = m .format ∷ m .control ∷ m .address ∷ []
 
--- whether DF and CF are taken, and the flag is not reserved
+-- whether DF and CF are taken, and neither the flag nor TYPE is reserved
 abbrev pub headTaken : Message → Bool
-headTaken m = formatTaken (m .format) (m .control) && not (isReserved (m .format) (m .control) (flagOf (m .body)))
+headTaken m = formatTaken (m .format) (m .control) && not (isReserved (m .format) (m .control) (bodyType (m .body)) (flagOf (m .body)))
 
 -- whether each field fits its bits, in a message that would earn neither 4 nor 5
 abbrev pub messageFits : Message → Bool

@@ -50,9 +50,9 @@ layoutIn s = layoutAt (bits 33 37 s) (bits 38 40 s)
 abbrev pub flagAt : List ℕ → ℕ
 flagAt s = flagBy (layoutIn s) (bits 53 53 s) (bits 40 40 s) (bits 41 41 s)
 
--- 5: TYPE or subtype not taken, or CF 5 with the flag set
+-- 5: TYPE or subtype not taken, or CF 5 with the flag set, or TYPE 31 under CF 2 or 5
 abbrev pub earns5 : List ℕ → Bool
-earns5 s = not (isTaken (layoutIn s)) || isReserved (bits 1 5 s) (bits 6 8 s) (flagAt s)
+earns5 s = not (isTaken (layoutIn s)) || isReserved (bits 1 5 s) (bits 6 8 s) (bits 33 37 s) (flagAt s)
 
 -- the key of the message's track
 abbrev pub keyIn : List ℕ → ℕ

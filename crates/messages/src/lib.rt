@@ -47,19 +47,28 @@ fn format_taken(format: u8, control: u8) -> bool
     (format == 17) | ((format == 18) & ((control <= 2) | (control == 5)))
 }
 
-// Whether the flag is reserved, as it is with CF 5 where it is set.
-fn is_reserved(format: u8, control: u8, flag: u8) -> bool
-    ensures { λ r. ⌜ r ≡ isReserved format control flag ⌝ }
+// Whether the traffic service sent it, whatever the flag.
+pub fn traffic_by(format: u8, control: u8) -> bool
+    ensures { λ r. ⌜ r ≡ trafficBy format control ⌝ }
 {
-    (format == 18) & (control == 5) & (flag == 1)
+    (format == 18) & ((control == 2) | (control == 5))
 }
 
-// Whether DF and CF, with the flag, are taken.
+// Whether the flag is reserved, as it is with CF 5 where it is set, or TYPE, as 31 is of the traffic service.
+fn is_reserved(format: u8, control: u8, typecode: u8, flag: u8) -> bool
+    ensures { λ r. ⌜ r ≡ isReserved format control typecode flag ⌝ }
+{
+    let served = traffic_by(format, control);
+    ((format == 18) & (control == 5) & (flag == 1)) | (served & (typecode == 31))
+}
+
+// Whether DF and CF, with TYPE and the flag, are taken.
 pub fn head_taken(m: Message) -> bool
     ensures { λ r. ⌜ r ≡ headTaken m ⌝ }
 {
     let body = m.body;
-    let reserved = is_reserved(m.format, m.control, layouts::flag_of(body));
+    let typecode = layouts::type_of(body);
+    let reserved = is_reserved(m.format, m.control, typecode, layouts::flag_of(body));
     format_taken(m.format, m.control) & !reserved
 }
 
@@ -83,21 +92,19 @@ fn frame_of(s: &[u8]) -> Frame
     }
 }
 
-// Whether the flag of a frame is reserved. A message of DF 17 does not pay for it.
+// Whether the flag or TYPE of a frame is reserved. A message of DF 17 does not pay for it.
 fn frame_reserved(f: Frame) -> bool
     ensures { λ r. ⌜ r ≡ frameReserved f ⌝ }
 {
     if f.format != 18 {
         return false;
     }
-    is_reserved(f.format, f.control, layouts::flag_in(f.me))
-}
-
-// Whether the traffic service sent it, whatever the flag.
-pub fn traffic_by(format: u8, control: u8) -> bool
-    ensures { λ r. ⌜ r ≡ trafficBy format control ⌝ }
-{
-    (format == 18) & ((control == 2) | (control == 5))
+    is_reserved(
+        f.format,
+        f.control,
+        layouts::type_in(f.me),
+        layouts::flag_in(f.me),
+    )
 }
 
 // A message whose parity is right: 4, then 5.
@@ -162,7 +169,7 @@ fn headed_as(f: Frame) -> Accepted
     Accepted::Frame(f)
 }
 
-// The bits before PI, or why they are refused whatever TYPE and subtype are: the decoder asks for those once, with the layout.
+// The bits before PI, or why they are refused before their layout is asked for: the decoder asks for that once.
 pub fn frame_in(s: &[u8]) -> Accepted
     ensures { λ r. ⌜ r ≡ frameIn (now (s .entry)) ⌝ }
 {

@@ -11,7 +11,7 @@ use lib.Dec.{eqb}
 use lib.ListN.{length, getD}
 use borrow.Author.Tests.{le-leb, lt-ltb}
 use Rattle.fields.specs.Bytes.{Bytes}
-use Rattle.memory.specs.Offsets.{heardAt, identificationAt, velocityAt, surfaceAt, marksAt, latitudeAt, longitudeAt, timeAt, savedTimeAt, evenAt, oddAt}
+use Rattle.memory.specs.Offsets.{heardAt, identificationAt, velocityAt, surfaceAt, statusAt, marksAt, latitudeAt, longitudeAt, timeAt, savedTimeAt, evenAt, oddAt}
 use Rattle.whereabouts.specs.declared.Saved.{Saved}
 use Rattle.track.specs.declared.Track.{Track}
 use Rattle.track.specs.Track.{noSaved}
@@ -42,6 +42,10 @@ module _ (t : Track) where
   at-surface : numberAt 7 (bodyOf t) surfaceAt ≡ t .groups .surface % 2 ^ 56
   unfolding bodyOf messageBytes spotBytes savedBytes numberAt lowBytes
   at-surface = read-back 7 (t .groups .surface) [] []
+
+  at-status : numberAt 7 (bodyOf t) statusAt ≡ t .groups .status % 2 ^ 56
+  unfolding bodyOf messageBytes spotBytes savedBytes numberAt lowBytes
+  at-status = read-back 7 (t .groups .status) [] []
 
   at-marks : numberAt 4 (bodyOf t) marksAt ≡ marksOf (t .groups) (t .position .known) % 2 ^ 32
   unfolding bodyOf messageBytes spotBytes savedBytes numberAt lowBytes
@@ -87,11 +91,18 @@ saved-parts : (a b : ℕ) (k : Bool) → a < 2 ^ 17 → b < 2 ^ 17
 saved-parts a b true p q = (omega arith, (omega arith, omega arith))
 saved-parts a b false p q = (omega arith, (omega arith, omega arith))
 
-marks-parts : (a b : ℕ) (k : Bool) → a < 2 ^ 12 → b < 2 ^ 12
-    → let n = (a % 4096 + b % 4096 * 4096 + bit k * 16777216) % 2 ^ 32 in
-    (n % 4096 ≡ a) × ((n / 4096 % 4096 ≡ b) × (n / 16777216 % 2 ≡ bit k))
-marks-parts a b true p q = (omega arith, (omega arith, omega arith))
-marks-parts a b false p q = (omega arith, (omega arith, omega arith))
+bit-lt : (k : Bool) → bit k < 2
+bit-lt true = omega arith
+bit-lt false = omega arith
+
+-- the five values of the marks
+module _ (a b k c d : ℕ) (ha : a < 2 ^ 12) (hb : b < 2 ^ 12) (hk : k < 2) (hc : c < 2 ^ 5) (hd : d < 2) where
+  abbrev whole : ℕ
+  whole = (a % 4096 + b % 4096 * 4096 + k * 16777216 + c % 32 * 33554432 + d * 1073741824) % 2 ^ 32
+
+  marks-parts : (whole % 4096 ≡ a)
+      × ((whole / 4096 % 4096 ≡ b) × ((whole / 16777216 % 2 ≡ k) × ((whole / 33554432 % 32 ≡ c) × (whole / 1073741824 % 2 ≡ d))))
+  marks-parts = (omega arith, (omega arith, (omega arith, (omega arith, omega arith))))
 
 saved-back : (v : Saved) → FitsSaved v → savedFrom (savedNumber v % 2 ^ 40) (v .time % 2 ^ 64) ≡ v
 unfolding savedFrom savedNumber
@@ -108,19 +119,27 @@ two-of (x ∷ y ∷ z ∷ zs) e = let z : ⊥ = omega arith in absurd z
 -- ---- what was written is read back
 
 module _ (t : Track) (f : Fits t) where
+  marks-back : let n = marksOf (t .groups) (t .position .known) % 2 ^ 32 in
+      (n % 4096 ≡ t .groups .pressure)
+      × ((n / 4096 % 4096 ≡ t .groups .height)
+      × ((n / 16777216 % 2 ≡ bit (t .position .known))
+      × ((n / 33554432 % 32 ≡ t .groups .typecode) × (n / 1073741824 % 2 ≡ bit (t .groups .bit8)))))
+  unfolding marksOf
+  marks-back =
+      let g = f .groups in
+      marks-parts _ _ _ _ _ (g .pressure) (g .height) (bit-lt (t .position .known)) (g .typecode) (bit-lt (t .groups .bit8))
+
   groups-back : groupsIn (bodyOf t) ≡ t .groups
-  unfolding groupsIn marksOf
+  unfolding groupsIn
   groups-back =
       let g = f .groups in
-      let e = marks-parts (t .groups .pressure) (t .groups .height) (t .position .known) (g .pressure) (g .height) in
-      rw (at-identification t, at-velocity t, at-surface t, at-marks t, e .0, e .1 .0, mod-eq-of-lt (g .identification), mod-eq-of-lt (g .velocity), mod-eq-of-lt (g .surface))
+      let e = marks-back in
+      rw (at-identification t, at-velocity t, at-surface t, at-status t, at-marks t, e .0, e .1 .0, e .1 .1 .1 .0, e .1 .1 .1 .1, eqb-bit (t .groups .bit8), mod-eq-of-lt (g .identification), mod-eq-of-lt (g .velocity), mod-eq-of-lt (g .surface), mod-eq-of-lt (g .status))
 
   position-back : positionIn (bodyOf t) ≡ t .position
-  unfolding positionIn marksOf
+  unfolding positionIn
   position-back =
-      let g = f .groups in
-      let e = marks-parts (t .groups .pressure) (t .groups .height) (t .position .known) (g .pressure) (g .height) in
-      rw (at-marks t, at-latitude t, at-longitude t, at-time t, e .1 .1, eqb-bit (t .position .known), lowered-above (t .position .spot .latitude) (f .position .latitude), mod-eq-of-lt (f .position .longitude), mod-eq-of-lt (f .position .time))
+      rw (at-marks t, at-latitude t, at-longitude t, at-time t, marks-back .1 .1 .0, eqb-bit (t .position .known), lowered-above (t .position .spot .latitude) (f .position .latitude), mod-eq-of-lt (f .position .longitude), mod-eq-of-lt (f .position .time))
 
   written-back : writtenIn (bodyOf t) ≡ t
   unfolding writtenIn
@@ -159,7 +178,7 @@ saved-fits n time h = saved-meant-fits (savedFrom n time) (omega arith) (omega a
 module _ (p : List ℕ) (h : Bytes p) where
   groups-fit : FitsGroups (meantGroups (groupsIn p))
   unfolding groupsIn
-  groups-fit = groups-meant-fits (groupsIn p) (number-lt 7 p identificationAt h) (number-lt 7 p velocityAt h) (number-lt 7 p surfaceAt h) (omega arith) (omega arith)
+  groups-fit = groups-meant-fits (groupsIn p) (number-lt 7 p identificationAt h) (number-lt 7 p velocityAt h) (number-lt 7 p surfaceAt h) (number-lt 7 p statusAt h) (omega arith) (omega arith) (omega arith)
 
   position-fits : FitsPosition (meantPosition (positionIn p))
   unfolding positionIn

@@ -12,7 +12,7 @@ use Rattle.whereabouts.specs.declared.Saved.{Saved}
 use Rattle.whereabouts.specs.Located.{noPosition}
 use Rattle.track.specs.declared.Groups.{Groups}
 use Rattle.track.specs.Track.{noSaved}
-use Rattle.track.specs.Meaning.{givesIdentification, givesVelocity, givesSurface, meantGroups, meantPosition, meantSaved, NothingForeign}
+use Rattle.track.specs.Meaning.{givesIdentification, givesVelocity, givesSurface, givesStatus, meantGroups, meantPosition, meantSaved, NothingForeign}
 use Rattle.track.proofs.Meanings.{groups-twice, meant-nothing-foreign}
 use Rattle.place.specs.Place.{writtenIn, trackOf, FitsSaved, FitsGroups, FitsPosition}
 
@@ -36,15 +36,18 @@ no-position-fits = record { latitude = refl; longitude = omega arith; time = ome
 heard-lt : (counts : Bool) (n : ℕ) → n < 2 ^ 56 → cond counts n 0 < 2 ^ 56
 heard-lt counts n h = by-test (λ (x : ℕ). x < 2 ^ 56) counts n 0 (λ _. h) (λ _. omega arith)
 
-pub groups-meant-fits : (g : Groups) → g .identification < 2 ^ 56 → g .velocity < 2 ^ 56 → g .surface < 2 ^ 56 → g .pressure < 2 ^ 12 → g .height < 2 ^ 12 → FitsGroups (meantGroups g)
+pub groups-meant-fits : (g : Groups) → g .identification < 2 ^ 56 → g .velocity < 2 ^ 56 → g .surface < 2 ^ 56 → g .status < 2 ^ 56
+    → g .pressure < 2 ^ 12 → g .height < 2 ^ 12 → g .typecode < 2 ^ 5 → FitsGroups (meantGroups g)
 unfolding meantGroups
-groups-meant-fits g a b c d e =
+groups-meant-fits g a b c s d e t =
     record {
       identification = heard-lt (givesIdentification (g .identification)) (g .identification) a;
       velocity = heard-lt (givesVelocity (g .velocity)) (g .velocity) b;
       surface = heard-lt (givesSurface (g .surface)) (g .surface) c;
+      status = heard-lt (givesStatus (g .status)) (g .status) s;
       pressure = d;
       height = e;
+      typecode = t;
       meant = groups-twice g;
     }
 

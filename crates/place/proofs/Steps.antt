@@ -2,7 +2,7 @@
 -- Assumes nothing.
 use Prim.Native.Nat.{ℕ, zero, suc, _-_, _*_, _^_, _≤_, _<_}
 use mathlib.Core.Path.{_≡_, refl, sym, ap, _∙_}
-use mathlib.Core.Bool.{true, _&&_}
+use mathlib.Core.Bool.{Bool, true, false, _&&_}
 use mathlib.Core.List.{List, [], _∷_}
 use native.Mathlib.Omega.{arith}
 use lib.Dec.{leb, eqb}
@@ -60,7 +60,7 @@ use Rattle.whereabouts.specs.declared.Saved.{Saved}
 use Rattle.whereabouts.specs.declared.Site.{Site}
 use Rattle.track.specs.declared.Stepped.{Stepped}
 use Rattle.track.specs.declared.Track.{Track}
-use Rattle.track.specs.Groups.{high, atPressure, reported, atHeight}
+use Rattle.track.specs.Groups.{high, atPressure, reported, atHeight, positioned}
 use Rattle.whereabouts.specs.Located.{
   isWithin,
   isFresh,
@@ -76,7 +76,7 @@ use Rattle.whereabouts.specs.Located.{
 }
 use Rattle.track.specs.Track.{noSaved, newTrack, formatOf, placedOr, countsIn, groupTrack, airborneTrack, surfaceTrack, stepBody, stepped}
 use Rattle.track.specs.Meaning.{givesSurface, meantGroups, meantPosition, meantSaved}
-use Rattle.track.proofs.Meanings.{gives-identification, gives-surface, gives-ground, gives-air, identified-meant, moving-meant, surface-meant, pressure-meant, height-meant}
+use Rattle.track.proofs.Meanings.{gives-identification, gives-surface, gives-ground, gives-air, gives-status, identified-meant, moving-meant, surface-meant, stating-meant, pressure-meant, height-meant, positioned-meant}
 use Rattle.place.specs.Place.{FitsSaved, FitsGroups, FitsPosition, Fits}
 use Rattle.place.proofs.Meaning.{none-fits, no-position-fits}
 
@@ -256,7 +256,7 @@ unfolding meantGroups
 new-fits =
     record {
       heard = omega arith;
-      groups = record { identification = omega arith; velocity = omega arith; surface = omega arith; pressure = omega arith; height = omega arith; meant = refl };
+      groups = record { identification = omega arith; velocity = omega arith; surface = omega arith; status = omega arith; pressure = omega arith; height = omega arith; typecode = omega arith; meant = refl };
       position = no-position-fits;
       two = refl;
       even = none-fits;
@@ -265,7 +265,7 @@ new-fits =
 
 pressure-fits : (g : Groups) (altitude : ℕ) → FitsGroups g → altitude < 2 ^ 12 → FitsGroups (atPressure g altitude)
 pressure-fits g altitude f h =
-    record { identification = f .identification; velocity = f .velocity; surface = f .surface; pressure = h; height = f .height; meant = pressure-meant g (f .meant) altitude }
+    record { identification = f .identification; velocity = f .velocity; surface = f .surface; status = f .status; pressure = h; height = f .height; typecode = f .typecode; meant = pressure-meant g (f .meant) altitude }
 
 reported-fits : (g : Groups) (altitude : ℕ) → FitsGroups g → altitude < 2 ^ 12 → FitsGroups (reported g altitude)
 reported-fits g altitude f h =
@@ -277,50 +277,60 @@ high-fits : (g : Groups) (type altitude : ℕ) → FitsGroups g → altitude < 2
 high-fits g type altitude f h =
     by-test FitsGroups (leb type 18) (atPressure g altitude) (atHeight g altitude)
     (λ _. pressure-fits g altitude f h)
-    (λ _. record { identification = f .identification; velocity = f .velocity; surface = f .surface; pressure = f .pressure; height = h; meant = height-meant g (f .meant) altitude })
+    (λ _. record { identification = f .identification; velocity = f .velocity; surface = f .surface; status = f .status; pressure = f .pressure; height = h; typecode = f .typecode; meant = height-meant g (f .meant) altitude })
+
+positioned-fits : (g : Groups) (type : ℕ) (bit8 : Bool) → FitsGroups g → type < 2 ^ 5 → FitsGroups (positioned g type bit8)
+positioned-fits g type bit8 f h =
+    record { identification = f .identification; velocity = f .velocity; surface = f .surface; status = f .status; pressure = f .pressure; height = f .height; typecode = h; meant = positioned-meant g (f .meant) type bit8 }
 
 module _ (t : Track) (f : Fits t) (site : Site) (time : ℕ) (h : time < 2 ^ 64) where
   group-fits : (g : Groups) → FitsGroups g → Fits (groupTrack t g time)
   unfolding groupTrack
   group-fits g e = record { heard = h; groups = e; position = f .position; two = f .two; even = f .even; odd = f .odd }
 
-  surface-track-fits : (b : Surface) (me : ℕ) → me < 2 ^ 56 → givesSurface me ≡ true → Fits (surfaceTrack t b me site time)
+  surface-track-fits : (b : Surface) (me : ℕ) → me < 2 ^ 56 → givesSurface me ≡ true → b .typecode < 2 ^ 5 → Fits (surfaceTrack t b me site time)
   unfolding surfaceTrack
-  surface-track-fits b me e q =
+  surface-track-fits b me e q p =
       let g = f .groups in
       record {
         heard = h;
-        groups = record { identification = g .identification; velocity = g .velocity; surface = e; pressure = g .pressure; height = g .height; meant = surface-meant (t .groups) (g .meant) me q };
+        groups =
+            positioned-fits _ (b .typecode) false
+            (record { identification = g .identification; velocity = g .velocity; surface = e; status = g .status; pressure = g .pressure; height = g .height; typecode = g .typecode; meant = surface-meant (t .groups) (g .meant) me q }) p;
         position = surface-fits (t .position) (f .position) time h site (record { latitude = b .latitude; longitude = b .longitude }) (formatOf (b .f));
         two = refl;
         even = none-fits;
         odd = none-fits;
       }
 
-  airborne-track-fits : (b : Airborne) → b .f < 2 → b .altitude < 2 ^ 12 → b .latitude .0 < 2 ^ 17 → b .longitude .0 < 2 ^ 17
+  airborne-track-fits : (b : Airborne) → b .typecode < 2 ^ 5 → b .f < 2 → b .altitude < 2 ^ 12 → b .latitude .0 < 2 ^ 17 → b .longitude .0 < 2 ^ 17
       → Fits (airborneTrack t b time)
   unfolding airborneTrack
-  airborne-track-fits b l a x y =
-      track-fits _ h (high-fits (t .groups) (b .typecode) (b .altitude) (f .groups) a)
+  airborne-track-fits b p l a x y =
+      track-fits _ h (positioned-fits _ (b .typecode) (eqb (b .bit8) 1) (high-fits (t .groups) (b .typecode) (b .altitude) (f .groups) a) p)
       (airborne-fits (t .position) (f .position) time h (getD (t .saved) (1 - b .f) noSaved) (countsIn b) (formatOf (b .f)))
       (set-fits (t .saved) (b .f) (record { known = true; counts = countsIn b; time = time }) (two-of t f) l (taken-fits (countsIn b) time x y h))
 
   body-fits : (b : Body) → bodyFits b ≡ true → Fits (stepBody t b (bodyMe b) site time)
   body-fits (body.Identification b) e =
       let g = f .groups in
-      group-fits _ (record { identification = me-lt (body.Identification b) e; velocity = g .velocity; surface = g .surface; pressure = g .pressure; height = g .height; meant = identified-meant (t .groups) (g .meant) _ (gives-identification b e) })
-  body-fits (body.Surface b) e = surface-track-fits b (bodyMe (body.Surface b)) (me-lt (body.Surface b) e) (gives-surface b e)
+      group-fits _ (record { identification = me-lt (body.Identification b) e; velocity = g .velocity; surface = g .surface; status = g .status; pressure = g .pressure; height = g .height; typecode = g .typecode; meant = identified-meant (t .groups) (g .meant) _ (gives-identification b e) })
+  body-fits (body.Surface b) e = surface-track-fits b (bodyMe (body.Surface b)) (me-lt (body.Surface b) e) (gives-surface b e) (fitting (body.Surface b) e .0)
   body-fits (body.Airborne b) e =
-      let w = fitting (body.Airborne b) e .1 .1 .1 in
+      let w₁ = fitting (body.Airborne b) e in
+      let w = w₁ .1 .1 .1 in
       by-test Fits (eqb (b .typecode) 0) _ _
       (λ _. group-fits _ (reported-fits (t .groups) (b .altitude) (f .groups) (w .0)))
-      (λ _. airborne-track-fits b (w .1 .1 .0) (w .0) (w .1 .1 .1 .0) (w .1 .1 .1 .1 .0))
+      (λ _. airborne-track-fits b (w₁ .0) (w .1 .1 .0) (w .0) (w .1 .1 .1 .0) (w .1 .1 .1 .1 .0))
   body-fits (body.Ground b) e =
       let g = f .groups in
-      group-fits _ (record { identification = g .identification; velocity = me-lt (body.Ground b) e; surface = g .surface; pressure = g .pressure; height = g .height; meant = moving-meant (t .groups) (g .meant) _ (gives-ground b e) })
+      group-fits _ (record { identification = g .identification; velocity = me-lt (body.Ground b) e; surface = g .surface; status = g .status; pressure = g .pressure; height = g .height; typecode = g .typecode; meant = moving-meant (t .groups) (g .meant) _ (gives-ground b e) })
   body-fits (body.Air b) e =
       let g = f .groups in
-      group-fits _ (record { identification = g .identification; velocity = me-lt (body.Air b) e; surface = g .surface; pressure = g .pressure; height = g .height; meant = moving-meant (t .groups) (g .meant) _ (gives-air b e) })
+      group-fits _ (record { identification = g .identification; velocity = me-lt (body.Air b) e; surface = g .surface; status = g .status; pressure = g .pressure; height = g .height; typecode = g .typecode; meant = moving-meant (t .groups) (g .meant) _ (gives-air b e) })
+  body-fits (body.Status b) e =
+      let g = f .groups in
+      group-fits _ (record { identification = g .identification; velocity = g .velocity; surface = g .surface; status = me-lt (body.Status b) e; pressure = g .pressure; height = g .height; typecode = g .typecode; meant = stating-meant (t .groups) (g .meant) _ (gives-status b e) })
 
   pub stepped-fits : (answer : Decoded) → Fits (stepped t answer site time .track)
   stepped-fits (decode.Refused r) = f

@@ -6,7 +6,7 @@ use mathlib.Core.List.{List, [], _∷_, _++_}
 use lib.Dec.{eqb}
 use lib.IntN.{ℤ, pos, negsuc, subℕ}
 use lib.ListN.{length, getD}
-use Rattle.memory.specs.Offsets.{heardAt, identificationAt, velocityAt, surfaceAt, marksAt, latitudeAt, longitudeAt, timeAt, savedTimeAt, evenAt, oddAt}
+use Rattle.memory.specs.Offsets.{heardAt, identificationAt, velocityAt, surfaceAt, statusAt, marksAt, latitudeAt, longitudeAt, timeAt, savedTimeAt, evenAt, oddAt}
 use Rattle.positions.specs.Positions.{poleToPole}
 use Rattle.track.specs.declared.Groups.{Groups}
 use Rattle.whereabouts.specs.declared.Position.{Position}
@@ -36,8 +36,11 @@ groupsIn p =
       identification = numberAt 7 p identificationAt;
       velocity = numberAt 7 p velocityAt;
       surface = numberAt 7 p surfaceAt;
+      status = numberAt 7 p statusAt;
       pressure = numberAt 4 p marksAt % 4096;
       height = numberAt 4 p marksAt / 4096 % 4096;
+      typecode = numberAt 4 p marksAt / 33554432 % 32;
+      bit8 = eqb (numberAt 4 p marksAt / 1073741824 % 2) 1;
     }
 
 -- a latitude of its number, 2^30 up; one above its range is read as the pole
@@ -77,7 +80,9 @@ abovePole (pos a) = a + 5368709120
 abovePole (negsuc a) = 5368709120 - suc a
 
 unfoldable pub marksOf : Groups → Bool → ℕ
-marksOf g known = g .pressure % 4096 + g .height % 4096 * 4096 + bit known * 16777216
+marksOf g known =
+    g .pressure % 4096 + g .height % 4096 * 4096 + bit known * 16777216
+    + g .typecode % 32 * 33554432 + bit (g .bit8) * 1073741824
 
 unfoldable pub savedNumber : Saved → ℕ
 savedNumber v = v .counts .latitude .0 % 131072 + v .counts .longitude .0 % 131072 * 131072 + bit (v .known) * 17179869184
@@ -86,7 +91,7 @@ unfoldable pub savedBytes : Saved → List ℕ
 savedBytes v = lowBytes 5 (savedNumber v) ++ lowBytes 8 (v .time)
 
 unfoldable pub messageBytes : Groups → List ℕ
-messageBytes g = lowBytes 7 (g .identification) ++ (lowBytes 7 (g .velocity) ++ lowBytes 7 (g .surface))
+messageBytes g = lowBytes 7 (g .identification) ++ (lowBytes 7 (g .velocity) ++ (lowBytes 7 (g .surface) ++ lowBytes 7 (g .status)))
 
 unfoldable pub spotBytes : Position → List ℕ
 spotBytes p = lowBytes 4 (abovePole (p .spot .latitude)) ++ (lowBytes 4 (p .spot .longitude) ++ lowBytes 8 (p .time))
@@ -112,8 +117,10 @@ pub record FitsGroups (g : Groups) : Type 0 where
   pub identification : g .identification < 2 ^ 56
   pub velocity : g .velocity < 2 ^ 56
   pub surface : g .surface < 2 ^ 56
+  pub status : g .status < 2 ^ 56
   pub pressure : g .pressure < 2 ^ 12
   pub height : g .height < 2 ^ 12
+  pub typecode : g .typecode < 2 ^ 5
   pub meant : meantGroups g ≡ g
 
 pub record FitsPosition (p : Position) : Type 0 where

@@ -67,8 +67,11 @@ fn groups_in(p: &[u8]) -> Groups
         identification: memory::get7(p, memory::IDENTIFICATION),
         velocity: memory::get7(p, memory::VELOCITY),
         surface: memory::get7(p, memory::SURFACE),
+        status: memory::get7(p, memory::STATUS),
         pressure: (marks % 4096) as u16,
         height: (marks / 4096 % 4096) as u16,
+        typecode: (marks / 33554432 % 32) as u8,
+        bit8: marks / 1073741824 % 2 == 1,
     }
 }
 

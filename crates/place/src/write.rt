@@ -26,7 +26,11 @@ pub fn above_pole(latitude: i32) -> u64
 fn marks_of(g: Groups, known: bool) -> u32
     ensures { λ r. ⌜ r ≡ marksOf g known ⌝ }
 {
-    (g.pressure % 4096) as u32 + (g.height % 4096) as u32 * 4096 + (flag(known) as u32) * 16777216
+    (g.pressure % 4096) as u32
+        + (g.height % 4096) as u32 * 4096
+        + (flag(known) as u32) * 16777216
+        + (g.typecode % 32) as u32 * 33554432
+        + (flag(g.bit8) as u32) * 1073741824
 }
 
 fn saved_number(v: Saved) -> u64
@@ -45,13 +49,15 @@ fn put_saved(s: &mut [u8], at: usize, v: Saved)
     memory::put8(s, at + memory::SAVED_TIME, v.time);
 }
 
+// All but the last are stored with a byte more, which the next one writes: each is a single store.
 fn put_messages(s: &mut [u8], at: usize, g: Groups)
     requires { ⌜ at + messagesSize ≤ length (now s) ⌝ }
     ensures { λ _. ⌜ now (s .exit) ≡ put (now (s .entry)) at (messageBytes g) ⌝ }
 {
-    memory::put7(s, at, g.identification);
-    memory::put7(s, at + memory::TO_VELOCITY, g.velocity);
-    memory::put7(s, at + memory::TO_SURFACE, g.surface);
+    memory::put8(s, at, g.identification);
+    memory::put8(s, at + memory::TO_VELOCITY, g.velocity);
+    memory::put8(s, at + memory::TO_SURFACE, g.surface);
+    memory::put7(s, at + memory::TO_STATUS, g.status);
 }
 
 fn put_spot(s: &mut [u8], at: usize, p: Position)

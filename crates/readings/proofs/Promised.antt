@@ -26,8 +26,9 @@ use Rattle.readings.specs.Amounts.{Scale, stepped, amount, speeds, rates
 use Rattle.readings.specs.Bodies.{heightDifference, bodyReadings, readingsOf}
 use Rattle.readings.specs.Headings.{headingOf}
 use Rattle.readings.specs.Movement.{movementOf}
-use Rattle.readings.specs.Said.{Amount, unknown, over, figure, altitudeSaid, speedSaid, rateSaid, differenceSaid, headingSaid, movementSaid, readingsSaid}
-use Rattle.readings.specs.Said.{altitudeMeans, speedMeans, rateMeans, differenceMeans, heightMeans, headingMeans, movementMeans, bodyMeans, Given, AllGiven, Alone}
+use Rattle.readings.specs.Status.{isPublished, hasA, hasC, bitC, versionOf, supplementOf}
+use Rattle.readings.specs.Said.{Amount, unknown, over, figure, altitudeSaid, speedSaid, rateSaid, differenceSaid, headingSaid, movementSaid, versionSaid, supplementSaid, readingsSaid}
+use Rattle.readings.specs.Said.{altitudeMeans, speedMeans, rateMeans, differenceMeans, heightMeans, headingMeans, movementMeans, versionMeans, supplementMeans, bodyMeans, Given, AllGiven, Alone}
 use Rattle.readings.specs.declared.bodies.Readings.the-variants.{Refused}
 use Rattle.readings.proofs.altitude.altitude_of.Kinds as altitude-of-kinds
 use Rattle.readings.proofs.altitude.altitude_of.Reads as altitude-of
@@ -93,6 +94,12 @@ movement-says c =
     (through movementSaid gives (leb c 123) refl
     (through movementSaid gives (eqb c 124) refl refl))))
 
+version-says : (v : ℕ) → versionSaid (versionOf v) ≡ gives (versionMeans v)
+version-says v = through versionSaid gives (isPublished v) refl refl
+
+supplement-says : (has : Bool) (n : ℕ) → supplementSaid (supplementOf has n) ≡ gives (supplementMeans has n)
+supplement-says has n = through supplementSaid gives has refl refl
+
 -- ---- a code that fits is not refused
 
 within : {A : Type 0} {s : Said A} {a : A} (bits code : ℕ) → code < 2 ^ bits → s ≡ cond (wider bits code) (number 8) (gives a) → s ≡ gives a
@@ -144,6 +151,12 @@ fitting-says (body.Air b) traffic e =
       signed-within 9 (b .vertical .down) (b .vertical .rate) (v .1 .0) (v .1 .1 .0) (rate-says (b .vertical .down) (b .vertical .rate)),
       height-within (b .vertical) traffic (v .1 .1 .1 .1 .0) (v .1 .1 .1 .1 .1 .0),
     )
+fitting-says (body.Status b) traffic e =
+    rw (
+      version-says (b .version),
+      supplement-says (hasA (b .version)) (b .supplementa),
+      supplement-says (hasC (b .version)) (bitC (b .subtype) (b .bit20)),
+    )
 
 pub readings-say : (b : Body) (traffic : Bool) → readingsSaid (readingsOf b traffic) ≡ cond (bodyFits b) (gives (bodyMeans b traffic)) (number 8)
 unfolding readingsOf
@@ -161,6 +174,7 @@ all-given (body.Surface b) traffic = (tt, tt)
 all-given (body.Airborne b) traffic = tt
 all-given (body.Ground b) traffic = (tt, tt, tt, tt)
 all-given (body.Air b) traffic = (tt, tt, tt, tt)
+all-given (body.Status b) traffic = (tt, tt, tt)
 
 -- of a body that fits every reading gives something
 pub fitting-given : (b : Body) (traffic : Bool) → bodyFits b ≡ true → Alone (readingsSaid (bodyReadings b traffic))

@@ -8,6 +8,7 @@ use Rattle.layouts.specs.declared.surface.Surface.{Surface}
 use Rattle.layouts.specs.declared.airborne.Airborne.{Airborne}
 use Rattle.layouts.specs.declared.velocity.Ground.{Ground}
 use Rattle.layouts.specs.declared.velocity.Air.{Air}
+use Rattle.layouts.specs.declared.status.Status.{Status}
 use Rattle.layouts.specs.declared.bodies.Body.{Body}
 use Rattle.layouts.specs.declared.bodies.Body.the-variants as body
 use Rattle.layouts.specs.Bodies.{bodyFits}
@@ -15,6 +16,7 @@ use Rattle.readings.specs.Altitude.{altitudeOf}
 use Rattle.readings.specs.Amounts.{speedOf, rateOf, differenceOf}
 use Rattle.readings.specs.Headings.{headingOf}
 use Rattle.readings.specs.Movement.{movementOf}
+use Rattle.readings.specs.Status.{hasA, hasC, bitC, versionOf, supplementOf}
 use Rattle.characters.specs.Text.{categorySetOf, textOf}
 use Rattle.readings.specs.declared.amounts.Difference.{Difference}
 use Rattle.readings.specs.declared.amounts.Difference.the-variants as difference
@@ -23,6 +25,7 @@ use Rattle.readings.specs.declared.bodies.SurfaceReadings.{SurfaceReadin
 use Rattle.readings.specs.declared.bodies.AirborneReadings.{AirborneReadings}
 use Rattle.readings.specs.declared.bodies.GroundReadings.{GroundReadings}
 use Rattle.readings.specs.declared.bodies.AirReadings.{AirReadings}
+use Rattle.readings.specs.declared.bodies.StatusReadings.{StatusReadings}
 use Rattle.readings.specs.declared.bodies.Readings.{Readings}
 use Rattle.readings.specs.declared.bodies.Readings.the-variants as readings
 
@@ -63,6 +66,13 @@ airMeans b traffic = record {
   difference = heightDifference (b .vertical .source) (b .vertical .below) (b .vertical .difference) traffic;
 }
 
+abbrev pub statusMeans : Status → StatusReadings
+statusMeans b = record {
+  version = versionOf (b .version);
+  supplementa = supplementOf (hasA (b .version)) (b .supplementa);
+  supplementc = supplementOf (hasC (b .version)) (bitC (b .subtype) (b .bit20));
+}
+
 -- of a body whose fields fit
 abbrev pub bodyReadings : Body → Bool → Readings
 bodyReadings (body.Identification b) traffic = readings.Identification (identificationMeans b)
@@ -70,6 +80,7 @@ bodyReadings (body.Surface b) traffic = readings.Surface (surfaceMeans b)
 bodyReadings (body.Airborne b) traffic = readings.Airborne (airborneMeans b)
 bodyReadings (body.Ground b) traffic = readings.Ground (groundMeans b traffic)
 bodyReadings (body.Air b) traffic = readings.Air (airMeans b traffic)
+bodyReadings (body.Status b) traffic = readings.Status (statusMeans b)
 
 -- a field wider than its bits, or a TYPE or subtype of another layout, is refused
 unfoldable pub readingsOf : Body → Bool → Readings

@@ -4,3 +4,4 @@ pub mod Bodies
 pub mod Headings
 pub mod Movement
 pub mod Said
+pub mod Status

@@ -14,6 +14,7 @@ use Rattle.readings.specs.Amounts.{stepped, speeds, rates, differences}
 use Rattle.readings.specs.Bodies.{isGnss, ifThere}
 use Rattle.readings.specs.Headings.{turnOf}
 use Rattle.readings.specs.Movement.{movementBy}
+use Rattle.readings.specs.Status.{hasA, hasC, bitC, versionBy, supplementBy}
 use Rattle.readings.specs.declared.altitude.Altitude.{Altitude}
 use Rattle.readings.specs.declared.altitude.Altitude.the-variants as altitude
 use Rattle.readings.specs.declared.amounts.Speed.{Speed}
@@ -26,12 +27,18 @@ use Rattle.readings.specs.declared.headings.Heading.{Heading}
 use Rattle.readings.specs.declared.headings.Heading.the-variants as heading
 use Rattle.readings.specs.declared.movement.Movement.{Movement}
 use Rattle.readings.specs.declared.movement.Movement.the-variants as movement
+use Rattle.readings.specs.declared.status.Version.{Version}
+use Rattle.readings.specs.declared.status.Version.the-variants as version
+use Rattle.readings.specs.declared.status.Supplement.{Supplement}
+use Rattle.readings.specs.declared.status.Supplement.the-variants as supplement
 use Rattle.readings.specs.declared.bodies.Readings.{Readings}
 use Rattle.readings.specs.declared.bodies.Readings.the-variants as readings
 
 -- what a code can mean
 pub data Amount : Type 0 where
   unknown over stopped reserved : Amount
+  -- a version of the standard, and a supplement's bit
+  numeral bit : ℕ → Amount
   -- knots, feet per minute, feet of a difference, 2^-32 of a turn
   figure : ℤ → Amount
   -- feet of an altitude, and its step
@@ -76,6 +83,14 @@ movementSaid (movement.AndUp n) = gives (andUp n)
 movementSaid movement.Reserved = gives reserved
 movementSaid (movement.Refused r) = number (numberOf r)
 
+abbrev pub versionSaid : Version → Said Amount
+versionSaid (version.Number n) = gives (numeral n)
+versionSaid version.Reserved = gives reserved
+
+abbrev pub supplementSaid : Supplement → Said Amount
+supplementSaid supplement.Unknown = gives unknown
+supplementSaid (supplement.Bit n) = gives (bit n)
+
 -- ---- and of a whole body
 
 -- each layout's readings, each with what it says
@@ -86,6 +101,7 @@ pub data Meaning : Type 0 where
   airborne : (altitude : Said Amount) (gnss : Bool) → Meaning
   ground : (east north rate difference : Said Amount) → Meaning
   air : (heading airspeed rate difference : Said Amount) → Meaning
+  status : (version a c : Said Amount) → Meaning
 
 abbrev pub readingsSaid : Readings → Said Meaning
 readingsSaid (readings.Identification r) = gives (identification (categorySetSaid (r .set)) (textSaid (r .text)))
@@ -93,6 +109,7 @@ readingsSaid (readings.Surface r) = gives (surface (movementSaid (r .movement)) 
 readingsSaid (readings.Airborne r) = gives (airborne (altitudeSaid (r .altitude)) (r .gnss))
 readingsSaid (readings.Ground r) = gives (ground (speedSaid (r .east)) (speedSaid (r .north)) (rateSaid (r .rate)) (differenceSaid (r .difference)))
 readingsSaid (readings.Air r) = gives (air (headingSaid (r .heading)) (speedSaid (r .airspeed)) (rateSaid (r .rate)) (differenceSaid (r .difference)))
+readingsSaid (readings.Status r) = gives (status (versionSaid (r .version)) (supplementSaid (r .supplementa)) (supplementSaid (r .supplementc)))
 readingsSaid (readings.Refused r) = number (numberOf r)
 
 -- ---- what is due of a code that fits its bits
@@ -118,6 +135,12 @@ headingMeans bits code = figure (pos (turnOf bits code))
 abbrev pub movementMeans : ℕ → Amount
 movementMeans c = movementBy unknown stopped edge andUp reserved c
 
+abbrev pub versionMeans : ℕ → Amount
+versionMeans v = versionBy numeral reserved v
+
+abbrev pub supplementMeans : Bool → ℕ → Amount
+supplementMeans has n = supplementBy unknown bit has n
+
 -- .. and of a body whose fields all do: no reading in it is a number
 abbrev pub bodyMeans : Body → Bool → Meaning
 bodyMeans (body.Identification b) traffic = identification (gives (setMeans (b .typecode))) (gives (textMeans (b .characters)))
@@ -129,6 +152,10 @@ bodyMeans (body.Ground b) traffic =
 bodyMeans (body.Air b) traffic =
     air (gives (headingMeans 10 (b .heading))) (gives (speedMeans (b .subtype) 0 (b .airspeed)))
     (gives (rateMeans (b .vertical .down) (b .vertical .rate))) (gives (heightMeans (b .vertical) traffic))
+bodyMeans (body.Status b) traffic =
+    status (gives (versionMeans (b .version)))
+    (gives (supplementMeans (hasA (b .version)) (b .supplementa)))
+    (gives (supplementMeans (hasC (b .version)) (bitC (b .subtype) (b .bit20))))
 
 -- ---- a refusal stands alone
 
@@ -142,6 +169,7 @@ AllGiven (surface m h) = Given m × Given h
 AllGiven (airborne a g) = Given a
 AllGiven (ground e n r d) = Given e × Given n × Given r × Given d
 AllGiven (air h a r d) = Given h × Given a × Given r × Given d
+AllGiven (status v a c) = Given v × Given a × Given c
 
 -- the whole is a number, or no reading in it is
 abbrev pub Alone : Said Meaning → Type 0

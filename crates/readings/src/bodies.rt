@@ -12,6 +12,11 @@ use crate::headings::heading_of;
 use crate::headings::surface_heading_of;
 use crate::movement::Movement;
 use crate::movement::movement_of;
+use crate::status::Supplement;
+use crate::status::Version;
+use crate::status::supplement_a_of;
+use crate::status::supplement_c_of;
+use crate::status::version_of;
 use characters::CategorySet;
 use characters::Text;
 use characters::category_set_of;
@@ -21,6 +26,7 @@ use layouts::Airborne;
 use layouts::Body;
 use layouts::Ground;
 use layouts::Identification;
+use layouts::Status;
 use layouts::Surface;
 use refusals::Refusal;
 ghost use mathlib.Core.Path.{_≡_};
@@ -57,6 +63,12 @@ pub struct AirReadings {
     pub difference: Difference,
 }
 
+pub struct StatusReadings {
+    pub version: Version,
+    pub supplementa: Supplement,
+    pub supplementc: Supplement,
+}
+
 pub enum Readings {
     Identification(IdentificationReadings),
     Surface(SurfaceReadings),
@@ -65,6 +77,8 @@ pub enum Readings {
     Ground(GroundReadings),
     // velocity through air
     Air(AirReadings),
+    // operational status
+    Status(StatusReadings),
     Refused(Refusal),
 }
 
@@ -149,6 +163,20 @@ fn air_readings(b: Air, traffic: bool) -> Readings
     })
 }
 
+// The version of the standard, and the supplements that it has.
+fn status_readings(b: Status) -> Readings
+    ensures { λ r. ⌜ ((traffic : Bool) → r ≡ readingsOf (Body.Status b) traffic) ⌝ }
+{
+    if !layouts::status_fits(b) {
+        return Readings::Refused(Refusal::Field);
+    }
+    Readings::Status(StatusReadings {
+        version: version_of(b.version),
+        supplementa: supplement_a_of(b.version, b.supplementa),
+        supplementc: supplement_c_of(b.version, b.subtype, b.bit20),
+    })
+}
+
 // What the fields of a body mean, in a message of a traffic service or in another. One with a field wider than its bits, or a TYPE or subtype of another layout, is refused.
 pub fn readings_of(b: Body, traffic: bool) -> Readings
     ensures { λ r. ⌜ r ≡ readingsOf b traffic ⌝ }
@@ -159,5 +187,6 @@ pub fn readings_of(b: Body, traffic: bool) -> Readings
         Body::Airborne(x) => airborne_readings(x),
         Body::Ground(x) => ground_readings(x, traffic),
         Body::Air(x) => air_readings(x, traffic),
+        Body::Status(x) => status_readings(x),
     }
 }

@@ -9,6 +9,7 @@ use layouts::Airborne;
 use layouts::Body;
 use layouts::Ground;
 use layouts::Identification;
+use layouts::Status;
 use layouts::Surface;
 use layouts::Vertical;
 use libc::STDIN_FILENO;
@@ -24,7 +25,10 @@ use readings::Movement;
 use readings::Rate;
 use readings::Readings;
 use readings::Speed;
+use readings::StatusReadings;
+use readings::Supplement;
 use readings::SurfaceReadings;
+use readings::Version;
 use refusals::Refusal;
 
 fn write(text: &[u8]) {
@@ -198,6 +202,32 @@ fn say_air(m: AirReadings) {
     say_vertical(rate, difference);
 }
 
+fn say_version(v: Version) {
+    match v {
+        Version::Number(n) => say(n as u32),
+        Version::Reserved => write(b"reserved"),
+    }
+}
+
+fn say_supplement(s: Supplement) {
+    match s {
+        Supplement::Unknown => write(b"unknown"),
+        Supplement::Bit(n) => say(n as u32),
+    }
+}
+
+fn say_status(m: StatusReadings) {
+    let version = m.version;
+    let a = m.supplementa;
+    let c = m.supplementc;
+    write(b"status ");
+    say_version(version);
+    write(b", ");
+    say_supplement(a);
+    write(b", ");
+    say_supplement(c);
+}
+
 fn say_readings(r: Readings) {
     match r {
         Readings::Identification(m) => say_identification(m),
@@ -205,6 +235,7 @@ fn say_readings(r: Readings) {
         Readings::Airborne(m) => say_airborne(m),
         Readings::Ground(m) => say_ground(m),
         Readings::Air(m) => say_air(m),
+        Readings::Status(m) => say_status(m),
         Readings::Refused(n) => say_refused(n),
     }
 }
@@ -309,6 +340,25 @@ fn air(q: &[u8]) -> Body {
     })
 }
 
+fn status(q: &[u8]) -> Body {
+    Body::Status(Status {
+        typecode: byte(q, 0),
+        subtype: byte(q, 1),
+        class: short(q, 2),
+        bit20: byte(q, 3),
+        width: byte(q, 4),
+        mode: short(q, 5),
+        version: byte(q, 6),
+        supplementa: byte(q, 7),
+        nacp: byte(q, 8),
+        bits49: byte(q, 9),
+        sil: byte(q, 10),
+        bit53: byte(q, 11),
+        bit54: byte(q, 12),
+        bits55: byte(q, 13),
+    })
+}
+
 // What a body means, by the number of its layout, in a traffic service's message or in another.
 fn say_body(layout: u8, traffic: bool, q: &[u8]) {
     match layout {
@@ -317,6 +367,7 @@ fn say_body(layout: u8, traffic: bool, q: &[u8]) {
         2 => say_readings(readings::readings_of(airborne(q), traffic)),
         3 => say_readings(readings::readings_of(ground(q), traffic)),
         4 => say_readings(readings::readings_of(air(q), traffic)),
+        5 => say_readings(readings::readings_of(status(q), traffic)),
         _ => write(b"no such layout"),
     }
 }

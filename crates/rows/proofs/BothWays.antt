@@ -32,6 +32,7 @@ numbered layout.Surface = refl
 numbered layout.Airborne = refl
 numbered layout.Ground = refl
 numbered layout.Air = refl
+numbered layout.Status = refl
 numbered layout.NotTaken = refl
 
 fields-fit : (b : Body) → bodyFits b ≡ true → fits (bodyWidths b) (bodyFields b) ≡ true
@@ -46,6 +47,7 @@ packs (body.Surface b) format control address key four e = chosen _ _ _ (fields-
 packs (body.Airborne b) format control address key four e = chosen _ _ _ (fields-fit (body.Airborne b) e)
 packs (body.Ground b) format control address key four e = chosen _ _ _ (fields-fit (body.Ground b) e)
 packs (body.Air b) format control address key four e = chosen _ _ _ (fields-fit (body.Air b) e)
+packs (body.Status b) format control address key four e = chosen _ _ _ (fields-fit (body.Status b) e)
 
 module _ (m : Message) (e : messageFits m ≡ true) where
   abbrev n : ℕ

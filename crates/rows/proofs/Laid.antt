@@ -6,18 +6,31 @@ use mathlib.Core.Bool.{Bool, true, false}
 use mathlib.Core.List.{List, [], _∷_, _++_}
 use native.Mathlib.Omega.{arith}
 use lib.Dec.{eqb}
-use lib.ListN.{length, length-append}
+use lib.ListN.{length, getD, length-append}
 use borrow.Author.Tests.{eq-eqb, ne-eqb}
 use Rattle.fields.proofs.Bools.{by-test}
 use Rattle.entries.specs.Arrays.{filled}
+use Rattle.entries.specs.Twos.{twos}
+use Rattle.entries.specs.Means.{bit, altitudeReading, stepReading}
+use Rattle.readings.specs.Altitude.{altitudeOf}
+use Rattle.whereabouts.specs.declared.Saved.{Saved}
+use Rattle.track.specs.Track.{noSaved}
 use Rattle.layouts.specs.declared.bodies.Layout.{Layout}
 use Rattle.layouts.specs.Bodies.{layoutWidths, takenAs}
 use Rattle.fields.specs.Packing.{unpack}
+use Rattle.keys.specs.declared.Kind.{Kind}
+use Rattle.keys.specs.Keys.{kindIn, trafficIn}
+use Rattle.integrity.specs.declared.standard.Supplements.{Supplements}
+use Rattle.integrity.specs.declared.standard.Supplements.the-variants as supplements
+use Rattle.integrity.specs.Integrity.{integrityOf}
+use Rattle.integrity.specs.Standard.{versionOf, supplementsOf}
+use Rattle.entries.specs.declared.Reading.{Reading}
 use Rattle.track.specs.declared.Track.{Track}
 use Rattle.rows.specs.declared.message.Four.{Four}
 use Rattle.rows.specs.Rows.{layoutNumber, rowOf, fourIn, fourValues, meRow, rowInto}
 use Rattle.rows.specs.Same.{entries}
 use Rattle.rows.specs.Shown.{rowIn, knownAt, readingAt, unknown, isOf, named, source, moving, onGround, taxiing, isSaved, shown}
+use Rattle.rows.specs.Standard.{versionNumber, supplementBits, integrityReading, standardRow}
 use Rattle.rows.specs.Tracks.{keptRow, trackRow}
 use Rattle.rows.proofs.Cutting.{chosen, length-filled, filled-all, entries-all}
 
@@ -88,12 +101,12 @@ module _ (row : List ℕ) where
   unfolding taxiing
   taxiing-length = by-test (Of 6) (isOf 2 row) _ _ (λ _. refl) (λ _. refl)
 
+whole : (k : ℕ) (l meant : List ℕ) → l ≡ meant → length meant ≡ k → entries 0 k l ≡ meant
+whole k l meant e h = entries-all k l (ap length e ∙ h) ∙ e
+
 module _ (traffic : Bool) (t : Track) where
   abbrev surface : List ℕ
   surface = rowIn traffic (t .groups .surface)
-
-  whole : (k : ℕ) (l meant : List ℕ) → l ≡ meant → length meant ≡ k → entries 0 k l ≡ meant
-  whole k l meant e h = entries-all k l (ap length e ∙ h) ∙ e
 
   pub shows : (n m o s : List ℕ) → n ≡ named (rowIn traffic (t .groups .identification)) → m ≡ moving traffic (rowIn traffic (t .groups .velocity))
       → o ≡ onGround (isSaved t) surface → s ≡ taxiing surface
@@ -121,10 +134,59 @@ module _ (traffic : Bool) (t : Track) where
         taxiing-length surface,
       )
 
-  kept-length : length (keptRow t) ≡ 27
-  unfolding keptRow
-  kept-length = refl
+-- ---- the row of a track
 
-  pub joined : (k s : List ℕ) → k ≡ keptRow t → s ≡ shown traffic t → entries 0 27 k ++ entries 0 30 s ≡ trackRow traffic t
-  unfolding trackRow
-  joined k s p q = ap₂ (λ (a b : List ℕ). a ++ b) (whole 27 k _ p kept-length) (whole 30 s _ q shown-length)
+module _ (t : Track) where
+  abbrev even : Saved
+  even = getD (t .saved) 0 noSaved
+
+  abbrev odd : Saved
+  odd = getD (t .saved) 1 noSaved
+
+  pub keeps : (bit8 known latitude e o : ℕ) (pressure step height height-step : Reading)
+      → bit8 ≡ bit (t .groups .bit8) → known ≡ bit (t .position .known) → latitude ≡ twos (t .position .spot .latitude) → e ≡ bit (even .known) → o ≡ bit (odd .known)
+      → pressure ≡ altitudeReading (altitudeOf (t .groups .pressure)) → step ≡ stepReading (altitudeOf (t .groups .pressure))
+      → height ≡ altitudeReading (altitudeOf (t .groups .height)) → height-step ≡ stepReading (altitudeOf (t .groups .height))
+      → 1 ∷ t .heard ∷ t .groups .identification ∷ t .groups .velocity ∷ t .groups .surface ∷ t .groups .status ∷ t .groups .pressure ∷ t .groups .height ∷
+      t .groups .typecode ∷ bit8 ∷
+      known ∷ latitude ∷ t .position .spot .longitude ∷ t .position .time ∷
+      e ∷ even .counts .latitude .0 ∷ even .counts .longitude .0 ∷ even .time ∷
+      o ∷ odd .counts .latitude .0 ∷ odd .counts .longitude .0 ∷ odd .time ∷
+      pressure .what ∷ pressure .value ∷ step .what ∷ step .value ∷ height .what ∷ height .value ∷ height-step .what ∷ height-step .value ∷ [] ≡ keptRow t
+  unfolding keptRow
+  keeps bit8 known latitude e o pressure step height height-step a b c d f g h i j = rw (a, b, c, d, f, g, h, i, j)
+
+kept-length : (t : Track) → length (keptRow t) ≡ 30
+unfolding keptRow
+kept-length t = refl
+
+bits-length : (s : Supplements) → length (supplementBits s) ≡ 3
+bits-length (supplements.Bits s) = refl
+bits-length (supplements.Refused r) = refl
+
+module _ (kind : Kind) (t : Track) where
+  abbrev supplementing : Supplements
+  supplementing = supplementsOf kind (t .groups .status) (t .groups .bit8)
+
+  -- its version, the three supplements, and the integrity as a reading
+  pub standing : (v : ℕ) (s : List ℕ) (r : Reading) → v ≡ versionNumber (versionOf kind (t .groups .status)) → s ≡ supplementBits supplementing
+      → r ≡ integrityReading (integrityOf kind (t .groups .status) (t .groups .typecode) (t .groups .bit8))
+      → v ∷ (entries 0 3 s ++ (r .what ∷ r .value ∷ [])) ≡ standardRow kind t
+  unfolding standardRow
+  standing v s r p q e =
+      ap₂ (λ (n : ℕ) (l : List ℕ). n ∷ l) p
+      (ap₂ (λ (l : List ℕ) (x : Reading). l ++ (x .what ∷ x .value ∷ [])) (whole 3 s (supplementBits supplementing) q (bits-length supplementing)) e)
+
+  standard-length : length (standardRow kind t) ≡ 6
+  unfolding standardRow
+  standard-length =
+      let r = integrityReading (integrityOf kind (t .groups .status) (t .groups .typecode) (t .groups .bit8)) in
+      omega (arith, length-append (supplementBits supplementing) (r .what ∷ r .value ∷ []), bits-length supplementing)
+
+pub joined : (key : ℕ) (t : Track) (traffic : Bool) (kind : Kind) (k s i : List ℕ) → traffic ≡ trafficIn key → kind ≡ kindIn key
+    → k ≡ keptRow t → s ≡ shown traffic t → i ≡ standardRow kind t → entries 0 30 k ++ (entries 0 30 s ++ entries 0 6 i) ≡ trackRow key t
+unfolding trackRow
+joined key t traffic kind k s i p q a b c =
+    ap₂ (λ (x y : List ℕ). x ++ y) (whole 30 k _ a (kept-length t))
+    (ap₂ (λ (x y : List ℕ). x ++ y) (whole 30 s _ b (shown-length traffic t) ∙ ap (λ (z : Bool). shown z t) p)
+    (whole 6 i _ c (standard-length kind t) ∙ ap (λ (z : Kind). standardRow z t) q))

@@ -12,6 +12,7 @@ use Rattle.layouts.specs.declared.surface.Surface.{Surface}
 use Rattle.layouts.specs.declared.airborne.Airborne.{Airborne}
 use Rattle.layouts.specs.declared.velocity.Ground.{Ground}
 use Rattle.layouts.specs.declared.velocity.Air.{Air}
+use Rattle.layouts.specs.declared.status.Status.{Status}
 use Rattle.layouts.specs.declared.bodies.Body.the-variants as body
 use Rattle.layouts.specs.declared.bodies.Layout.{Layout}
 use Rattle.layouts.specs.Bodies.{bodyMe, bodyFits}
@@ -66,3 +67,7 @@ module _ (t : Track) (site : Site) (time : ℕ) (traffic : Bool) where
   pub air-leaves-it : (b : Air) (me : ℕ) → groundOf traffic (stepBody t (body.Air b) me site time) ≡ groundOf traffic t
   unfolding groupTrack
   air-leaves-it b me = refl
+
+  pub status-leaves-it : (b : Status) (me : ℕ) → groundOf traffic (stepBody t (body.Status b) me site time) ≡ groundOf traffic t
+  unfolding groupTrack
+  status-leaves-it b me = refl

@@ -1,4 +1,4 @@
--- No reading in a row is a refusal, of a decoded message or of a track with codes of 12 bits: the fields fit, so each reading gives something, and only a refusal is 5.
+-- No reading in a row is a refusal, of a decoded message or of a track with codes of 12 bits, MEs of 56 and a TYPE of 5: the fields fit, so each reading gives something, and only a refusal is 5.
 -- Assumes nothing.
 use Prim.Native.Nat.{ℕ, suc, _^_, _<_}
 use mathlib.Core.Path.{_≡_, refl, sym, ap, ap₂, subst, subst⁻¹, _∙_}
@@ -6,7 +6,7 @@ use mathlib.Core.Bool.{Bool, true, false≢true}
 use mathlib.Core.List.{List, [], _∷_, _++_}
 use native.Mathlib.Omega.{arith}
 use lib.ListN.{getD}
-use borrow.Author.Tests.{eqb-true}
+use borrow.Author.Tests.{eqb-true, lt-leb}
 use Rattle.fields.specs.Bytes.{Bytes}
 use Rattle.fields.specs.Packing.{unpack}
 use Rattle.fields.proofs.Bools.{by-test}
@@ -18,14 +18,24 @@ use Rattle.layouts.specs.declared.bodies.Taken.{Taken}
 use Rattle.layouts.specs.declared.bodies.Taken.the-variants as reads
 use Rattle.layouts.specs.Bodies.{layoutOf, isTaken, layoutWidths, takenAs, taken, bodyLayout, bodyFields, bodyFits}
 use Rattle.layouts.proofs.BothWays.{read-good, fields-read}
-use Rattle.readings.specs.Bodies.{identificationMeans, surfaceMeans, airborneMeans, groundMeans, airMeans, bodyReadings, readingsOf}
+use Rattle.readings.specs.Bodies.{identificationMeans, surfaceMeans, airborneMeans, groundMeans, airMeans, statusMeans, bodyReadings, readingsOf}
 use Rattle.readings.specs.declared.bodies.Readings.{Readings}
 use Rattle.readings.specs.Altitude.{altitudeOf}
 use Rattle.readings.specs.declared.altitude.Altitude.{Altitude}
 use Rattle.entries.specs.Means.{altitudeReading, stepReading}
 use Rattle.readings.proofs.Promised.{altitude-known, fitting-given}
 use Rattle.readings.proofs.Whole.{read}
-use Rattle.entries.proofs.Refusing.{altitude-given, unknown-no-step, speed-given, rate-given, difference-given, heading-given, movement-given, set-given, text-given}
+use Rattle.entries.proofs.Refusing.{altitude-given, unknown-no-step, speed-given, rate-given, difference-given, heading-given, movement-given, set-given, text-given, version-given, supplement-given}
+use Rattle.refusals.specs.Said.{gives}
+use Rattle.keys.specs.declared.Kind.{Kind}
+use Rattle.integrity.specs.declared.Integrity.{Integrity}
+use Rattle.integrity.specs.declared.Integrity.the-variants as integrity
+use Rattle.integrity.specs.declared.standard.Supplements.{Supplements}
+use Rattle.integrity.specs.declared.standard.Supplements.the-variants as supplements
+use Rattle.integrity.specs.Integrity.{integrityOf}
+use Rattle.integrity.specs.Standard.{versionOf, supplementsOf}
+use Rattle.integrity.specs.Said.{Level, integritySaid}
+use Rattle.integrity.proofs.Promised.{integrity-says}
 use Rattle.messages.specs.declared.Message.{Message}
 use Rattle.messages.specs.declared.Decoded.the-variants as decode
 use Rattle.messages.specs.Message.{keyOf, traffic, decoded}
@@ -34,6 +44,7 @@ use Rattle.messages.proofs.Fitting.{fits-body}
 use Rattle.track.specs.declared.Track.{Track}
 use Rattle.rows.specs.declared.message.Four.{Four}
 use Rattle.rows.specs.Rows.{layoutNumber, rowOf, meRow, fourOf, fourIn, messageFour, messageRow, NoneRefused, EachGiven}
+use Rattle.rows.specs.Standard.{versionNumber, supplementBits, integrityReading, standardRow}
 use Rattle.rows.specs.Shown.{rowIn, isOf, named, source, moving, onGround, taxiing, isSaved, shown}
 use Rattle.rows.specs.Tracks.{keptRow, trackRow}
 
@@ -66,6 +77,9 @@ given (body.Air b) traffic e =
     let g = fitting-given (body.Air b) traffic e in
     let r = airMeans b traffic in
     (heading-given (r .heading) (g .0), speed-given (r .airspeed) (g .1), rate-given (r .rate) (g .2), difference-given (r .difference) (g .3))
+given (body.Status b) traffic e =
+    let r = statusMeans b in
+    (version-given (r .version), supplement-given (r .supplementa), supplement-given (r .supplementc), omega arith)
 
 -- where the readings stand in a row
 in-row : (b : Body) (format control address key : ℕ) (f : Four) → Given4 f → NoneRefused (rowOf (bodyLayout b) (format ∷ control ∷ address ∷ key ∷ []) (bodyFields b) f)
@@ -75,6 +89,7 @@ in-row (body.Surface b) format control address key f g = g
 in-row (body.Airborne b) format control address key f g = g
 in-row (body.Ground b) format control address key f g = g
 in-row (body.Air b) format control address key f g = g
+in-row (body.Status b) format control address key f g = g
 
 -- a body that fits
 four-given : (b : Body) (traffic : Bool) → bodyFits b ≡ true → Given4 (fourOf (readingsOf b traffic))
@@ -99,6 +114,7 @@ by-layout layout.Surface n e = (_, refl)
 by-layout layout.Airborne n e = (_, refl)
 by-layout layout.Ground n e = (_, refl)
 by-layout layout.Air n e = (_, refl)
+by-layout layout.Status n e = (_, refl)
 by-layout layout.NotTaken n e = absurd (false≢true e)
 
 pub me-never-refused : (n : ℕ) (traffic : Bool) → n < 2 ^ 56 → isTaken (layoutOf n) ≡ true → NoneRefused (meRow (layoutOf n) n traffic)
@@ -110,7 +126,7 @@ me-never-refused n traffic h t =
 -- ---- a track
 
 kept-given : (t : Track) → t .groups .pressure < 4096 → t .groups .height < 4096
-    → (getD (keptRow t) 19 0 < 5) × (getD (keptRow t) 21 0 < 5) × (getD (keptRow t) 23 0 < 5) × (getD (keptRow t) 25 0 < 5)
+    → (getD (keptRow t) 22 0 < 5) × (getD (keptRow t) 24 0 < 5) × (getD (keptRow t) 26 0 < 5) × (getD (keptRow t) 28 0 < 5)
 unfolding keptRow
 kept-given t p h =
     let pressure = altitudeOf (t .groups .pressure) in
@@ -130,6 +146,7 @@ some-layout layout.Surface k e = refl
 some-layout layout.Airborne k e = refl
 some-layout layout.Ground k e = refl
 some-layout layout.Air k e = refl
+some-layout layout.Status k e = refl
 some-layout layout.NotTaken k e = let z : ⊥ = omega arith in absurd z
 
 module _ (traffic : Bool) where
@@ -182,7 +199,30 @@ module _ (traffic : Bool) where
       (each-append m (o ++ taxiing surface) (moving-given (t .groups .velocity) v)
       (each-append o (taxiing surface) (ground-given (isSaved t) surface) (taxiing-given (t .groups .surface) s)))
 
-  pub track-never-refused : (t : Track) → t .groups .pressure < 4096 → t .groups .height < 4096
-      → (getD (trackRow traffic t) 19 0 < 5) × (getD (trackRow traffic t) 21 0 < 5) × (getD (trackRow traffic t) 23 0 < 5) × (getD (trackRow traffic t) 25 0 < 5)
-  unfolding trackRow keptRow
-  track-never-refused t p h = kept-given t p h
+pub track-never-refused : (key : ℕ) (t : Track) → t .groups .pressure < 4096 → t .groups .height < 4096
+    → (getD (trackRow key t) 22 0 < 5) × (getD (trackRow key t) 24 0 < 5) × (getD (trackRow key t) 26 0 < 5) × (getD (trackRow key t) 28 0 < 5)
+unfolding trackRow keptRow
+track-never-refused key t p h = kept-given t p h
+
+-- .. nor is its integrity, of a TYPE and a status that are within their bits
+
+integrity-given : (x : Integrity) (l : Level) → integritySaid x ≡ gives l → integrityReading x .what < 5
+integrity-given integrity.Unknown l e = omega arith
+integrity-given (integrity.Nuc n) l e = omega arith
+integrity-given (integrity.Nic n) l e = omega arith
+integrity-given (integrity.Refused r) l e = let z : _≡_ {A = ℕ} 0 1 = cc in let f : ⊥ = omega arith in absurd f
+
+-- where its reading stands
+fifth : (v : ℕ) (s : Supplements) (what value : ℕ) → getD (v ∷ (supplementBits s ++ (what ∷ value ∷ []))) 4 0 ≡ what
+fifth v (supplements.Bits s) what value = refl
+fifth v (supplements.Refused r) what value = refl
+
+pub standard-never-refused : (kind : Kind) (t : Track) → t .groups .typecode < 32 → t .groups .status < 2 ^ 56 → getD (standardRow kind t) 4 0 < 5
+unfolding standardRow
+standard-never-refused kind t h g =
+    let k = t .groups .typecode in
+    let s = t .groups .status in
+    let x = integrityOf kind s k (t .groups .bit8) in
+    let r = integrityReading x in
+    let said = rw (lt-leb 32 k h, lt-leb (2 ^ 56) s g) at (integrity-says kind s k (t .groups .bit8)) in
+    subst⁻¹ (λ (n : ℕ). n < 5) (fifth (versionNumber (versionOf kind s)) (supplementsOf kind s (t .groups .bit8)) (r .what) (r .value)) (integrity-given x _ said)

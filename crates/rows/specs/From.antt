@@ -19,7 +19,7 @@ use Rattle.messages.specs.Message.{headWidths}
 use Rattle.rows.specs.Rows.{layoutNumber}
 use Rattle.rows.specs.Same.{entries}
 
--- the layout of a number, 1 to 5
+-- the layout of a number, 1 to 6
 unfoldable pub layoutNumbered : ℕ → Layout
 layoutNumbered n =
     cond (eqb n 1) layout.Identification
@@ -27,7 +27,8 @@ layoutNumbered n =
     (cond (eqb n 3) layout.Airborne
     (cond (eqb n 4) layout.Ground
     (cond (eqb n 5) layout.Air
-    layout.NotTaken))))
+    (cond (eqb n 6) layout.Status
+    layout.NotTaken)))))
 
 -- ---- ME
 

@@ -3,7 +3,6 @@ use Prim.Native.Nat.{ℕ}
 use mathlib.Core.List.{List, [], _∷_}
 use Rattle.refusals.specs.Numbers.{numberOf}
 use Rattle.refusals.specs.Said.{Said, number, gives}
-use Rattle.keys.specs.Keys.{trafficIn}
 use Rattle.track.specs.declared.Track.{Track}
 use Rattle.track.specs.declared.held.Holding.{Holding}
 use Rattle.track.specs.declared.held.Holding.the-variants as holding
@@ -12,7 +11,7 @@ use Rattle.rows.specs.Tracks.{trackRow}
 
 -- the track of a key that is held; zeros for one that is not
 abbrev pub heldSaid : ℕ → Track → Holding → Said (List ℕ)
-heldSaid key t holding.Held = gives (trackRow (trafficIn key) t)
+heldSaid key t holding.Held = gives (trackRow key t)
 heldSaid key t holding.Unheld = gives (0 ∷ [])
 heldSaid key t (holding.Refused r) = number (numberOf r)
 

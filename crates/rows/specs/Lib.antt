@@ -3,4 +3,5 @@ pub mod Held
 pub mod Rows
 pub mod Same
 pub mod Shown
+pub mod Standard
 pub mod Tracks

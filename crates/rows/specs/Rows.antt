@@ -16,13 +16,14 @@ use Rattle.readings.specs.declared.bodies.SurfaceReadings.{SurfaceReadings}
 use Rattle.readings.specs.declared.bodies.AirborneReadings.{AirborneReadings}
 use Rattle.readings.specs.declared.bodies.GroundReadings.{GroundReadings}
 use Rattle.readings.specs.declared.bodies.AirReadings.{AirReadings}
+use Rattle.readings.specs.declared.bodies.StatusReadings.{StatusReadings}
 use Rattle.readings.specs.declared.bodies.Readings.{Readings}
 use Rattle.readings.specs.declared.bodies.Readings.the-variants as readings
 use Rattle.readings.specs.Bodies.{readingsOf}
 use Rattle.messages.specs.declared.Message.{Message}
 use Rattle.messages.specs.Message.{headFields, keyOf, traffic}
 use Rattle.rows.specs.declared.message.Four.{Four}
-use Rattle.entries.specs.Means.{reading, bit, altitudeReading, stepReading, speedReading, rateReading, differenceReading, headingReading, movementReading, setReading, textReading}
+use Rattle.entries.specs.Means.{reading, bit, altitudeReading, stepReading, speedReading, rateReading, differenceReading, headingReading, movementReading, setReading, textReading, versionReading, supplementReading}
 
 -- ---- the readings of each layout
 
@@ -76,6 +77,16 @@ airFour m =
       fourth = differenceReading (m .difference);
     }
 
+-- version, supplement A, supplement C
+abbrev pub statusFour : StatusReadings → Four
+statusFour m =
+    record {
+      first = versionReading (m .version);
+      second = supplementReading (m .supplementa);
+      third = supplementReading (m .supplementc);
+      fourth = reading 0 0;
+    }
+
 -- of a body that is refused
 abbrev pub refusedFour : Four
 refusedFour = record { first = reading 5 0; second = reading 5 0; third = reading 5 0; fourth = reading 5 0 }
@@ -86,6 +97,7 @@ fourOf (readings.Surface m) = surfaceFour m
 fourOf (readings.Airborne m) = airborneFour m
 fourOf (readings.Ground m) = groundFour m
 fourOf (readings.Air m) = airFour m
+fourOf (readings.Status m) = statusFour m
 fourOf (readings.Refused r) = refusedFour
 
 abbrev pub fourValues : Four → List ℕ
@@ -107,6 +119,7 @@ layoutNumber layout.Surface = 2
 layoutNumber layout.Airborne = 3
 layoutNumber layout.Ground = 4
 layoutNumber layout.Air = 5
+layoutNumber layout.Status = 6
 
 -- behind the layout what stands before ME, with the key
 unfoldable pub rowOf : Layout → List ℕ → List ℕ → Four → List ℕ

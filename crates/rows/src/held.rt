@@ -13,7 +13,7 @@ pub fn give_held(out: &mut [u64], key: u32, t: Track, answer: Holding) -> u32
 {
     match answer {
         Holding::Held => {
-            let row = track_values(t, keys::traffic_in(key));
+            let row = track_values(t, key);
             give(out, &row)
         }
         Holding::Unheld => give(out, &[0]),

@@ -3,6 +3,7 @@ mod back;
 mod held;
 mod message;
 mod shown;
+mod standard;
 mod tracks;
 mod widths;
 

@@ -12,7 +12,9 @@ use entries::rate_reading;
 use entries::set_reading;
 use entries::speed_reading;
 use entries::step_reading;
+use entries::supplement_reading;
 use entries::text_reading;
+use entries::version_reading;
 use layouts::Body;
 use layouts::Layout;
 use layouts::Taken;
@@ -21,12 +23,13 @@ use readings::AirborneReadings;
 use readings::GroundReadings;
 use readings::IdentificationReadings;
 use readings::Readings;
+use readings::StatusReadings;
 use readings::SurfaceReadings;
 ghost use mathlib.Core.Path.{_≡_};
 ghost use lib.Dec.{eqb};
 ghost use lib.ListN.{length};
 ghost use Rattle.readings.specs.Bodies.{readingsOf};
-ghost use Rattle.rows.specs.Rows.{identificationFour, surfaceFour, airborneFour, groundFour, airFour, refusedFour, fourOf, fourIn, meRow, rowInto};
+ghost use Rattle.rows.specs.Rows.{identificationFour, surfaceFour, airborneFour, groundFour, airFour, statusFour, refusedFour, fourOf, fourIn, meRow, rowInto};
 
 // The readings of a layout.
 pub struct Four {
@@ -107,6 +110,20 @@ fn air_four(m: AirReadings) -> Four
     }
 }
 
+fn status_four(m: StatusReadings) -> Four
+    ensures { λ r. ⌜ r ≡ statusFour m ⌝ }
+{
+    let version = m.version;
+    let a = m.supplementa;
+    let c = m.supplementc;
+    Four {
+        first: version_reading(version),
+        second: supplement_reading(a),
+        third: supplement_reading(c),
+        fourth: only(0),
+    }
+}
+
 fn refused_four() -> Four
     ensures { λ r. ⌜ r ≡ refusedFour ⌝ }
 {
@@ -129,6 +146,7 @@ fn four_of(b: Body, traffic: bool) -> Four
         Readings::Airborne(x) => airborne_four(x),
         Readings::Ground(x) => ground_four(x),
         Readings::Air(x) => air_four(x),
+        Readings::Status(x) => status_four(x),
         Readings::Refused(_) => refused_four(),
     }
 }

@@ -1,5 +1,6 @@
-// A track as 57 numbers: 27 as it is kept, and what people are shown.
+// A track as 66 numbers: 30 as it is kept, 30 that people are shown, and 6 of its integrity.
 use crate::shown::shown_values;
+use crate::standard::standard_values;
 use entries::altitude_reading;
 use entries::bit;
 use entries::step_reading;
@@ -8,7 +9,7 @@ ghost use mathlib.Core.Path.{_≡_};
 ghost use Rattle.rows.specs.Tracks.{keptRow, trackRow};
 
 // As it is kept.
-fn kept_values(t: Track) -> [u64; 27]
+fn kept_values(t: Track) -> [u64; 30]
     ensures { λ r. ⌜ r ≡ keptRow t ⌝ }
 {
     let both = t.saved;
@@ -28,8 +29,11 @@ fn kept_values(t: Track) -> [u64; 27]
         g.identification,
         g.velocity,
         g.surface,
+        g.status,
         g.pressure as u64,
         g.height as u64,
+        g.typecode as u64,
+        bit(g.bit8),
         bit(p.known),
         entries::twos_of(p.spot.latitude),
         p.spot.longitude as u64,
@@ -53,12 +57,13 @@ fn kept_values(t: Track) -> [u64; 27]
     ]
 }
 
-// A track as 57 numbers, of a key that a traffic service sends or of another.
-pub fn track_values(t: Track, traffic: bool) -> [u64; 57]
-    ensures { λ r. ⌜ r ≡ trackRow traffic t ⌝ }
+// A track as 66 numbers, of a key.
+pub fn track_values(t: Track, key: u32) -> [u64; 66]
+    ensures { λ r. ⌜ r ≡ trackRow key t ⌝ }
 {
     let k = kept_values(t);
-    let s = shown_values(traffic, t);
+    let s = shown_values(keys::traffic_in(key), t);
+    let i = standard_values(keys::kind_in(key), t);
     [
         k[0],
         k[1],
@@ -87,6 +92,9 @@ pub fn track_values(t: Track, traffic: bool) -> [u64; 57]
         k[24],
         k[25],
         k[26],
+        k[27],
+        k[28],
+        k[29],
         s[0],
         s[1],
         s[2],
@@ -117,5 +125,11 @@ pub fn track_values(t: Track, traffic: bool) -> [u64; 57]
         s[27],
         s[28],
         s[29],
+        i[0],
+        i[1],
+        i[2],
+        i[3],
+        i[4],
+        i[5],
     ]
 }

@@ -19,6 +19,8 @@ const AIRBORNE: [u8; 8] = [5, 2, 1, 12, 1, 1, 17, 17];
 
 const VELOCITY: [u8; 15] = [5, 3, 1, 1, 3, 1, 10, 1, 10, 1, 1, 9, 2, 1, 7];
 
+const STATUS: [u8; 14] = [5, 3, 11, 1, 4, 16, 3, 1, 4, 2, 2, 1, 1, 2];
+
 pub(crate) fn number_of(layout: Layout) -> u64
     ensures { λ r. ⌜ r ≡ layoutNumber layout ⌝ }
 {
@@ -29,6 +31,7 @@ pub(crate) fn number_of(layout: Layout) -> u64
         Layout::Airborne => 3,
         Layout::Ground => 4,
         Layout::Air => 5,
+        Layout::Status => 6,
     }
 }
 
@@ -50,6 +53,9 @@ pub(crate) fn layout_at(number: u64) -> Layout
     }
     if number == 5 {
         return Layout::Air;
+    }
+    if number == 6 {
+        return Layout::Status;
     }
     Layout::NotTaken
 }
@@ -95,6 +101,7 @@ pub(crate) fn fields_in(layout: Layout, me: u64) -> [u64; 15]
         Layout::Airborne => cut(&AIRBORNE, me),
         Layout::Ground => cut(&VELOCITY, me),
         Layout::Air => cut(&VELOCITY, me),
+        Layout::Status => cut(&STATUS, me),
         Layout::NotTaken => [0u64; 15],
     }
 }
@@ -143,6 +150,7 @@ pub(crate) fn packed_as(layout: Layout, fields: &[u64]) -> Written
         Layout::Airborne => packed(&AIRBORNE, fields),
         Layout::Ground => packed(&VELOCITY, fields),
         Layout::Air => packed(&VELOCITY, fields),
+        Layout::Status => packed(&STATUS, fields),
         Layout::NotTaken => Written::Refused(Refusal::Field),
     }
 }

@@ -62,7 +62,7 @@ module _ {S : Type 0} (F : Form S) (s : S) where
 
 new-nothing-foreign : NothingForeign newTrack
 new-nothing-foreign =
-    record { identification = λ e. refl; velocity = λ e. refl; surface = λ e. refl; position = λ e. refl; even = λ e. refl; odd = λ e. refl }
+    record { identification = λ e. refl; velocity = λ e. refl; surface = λ e. refl; status = λ e. refl; position = λ e. refl; even = λ e. refl; odd = λ e. refl }
 
 pub looked-nothing-foreign : {S : Type 0} (F : Form S) (s : S) (key : ℕ) → ((i : ℕ) → NothingForeign (F .cell s i .track)) → NothingForeign (lookedUp F s key .track)
 unfolding lookedUp

@@ -16,7 +16,7 @@ use Rattle.refusals.specs.Numbers.{numberOf}
 use Rattle.fields.specs.Bytes.{number as numeral}
 use Rattle.fields.proofs.Bools.{by-test}
 use Rattle.parity.specs.Parity.{remainder}
-use Rattle.layouts.specs.Bodies.{layoutOf, flagIn, takenAs, taken, bodyFits}
+use Rattle.layouts.specs.Bodies.{typeIn, layoutOf, flagIn, takenAs, taken, bodyFits}
 use Rattle.layouts.specs.declared.bodies.Layout.{Layout}
 use Rattle.layouts.specs.declared.bodies.Layout.the-variants as layout
 use Rattle.layouts.specs.declared.bodies.Taken.{Taken}
@@ -80,6 +80,7 @@ body-refuses layout.Surface n = tt
 body-refuses layout.Airborne n = tt
 body-refuses layout.Ground n = tt
 body-refuses layout.Air n = tt
+body-refuses layout.Status n = tt
 body-refuses layout.NotTaken n = refl
 
 abbrev ByDecoder : Decoded → Type 0
@@ -96,7 +97,7 @@ module _ (message : List ℕ) where
   opened-refuses =
       let n : ℕ = bits 33 88 message in
       by-test ByDecoder (not (formatTaken (bits 1 5 message) (bits 6 8 message))) _ _ (λ _. inr (inl refl))
-      (λ _. by-test ByDecoder (isReserved (bits 1 5 message) (bits 6 8 message) (flagIn n)) _ _ (λ _. inr (inr refl))
+      (λ _. by-test ByDecoder (isReserved (bits 1 5 message) (bits 6 8 message) (typeIn n) (flagIn n)) _ _ (λ _. inr (inr refl))
       (λ _. with-body (bits 1 5 message) (bits 6 8 message) (bits 9 32 message) (taken n) (body-refuses (layoutOf n) n)))
 
   pub decoder-refuses : (r : Refusal) → length message ≡ 14 → decoded message ≡ decode.Refused r → Undecoded r

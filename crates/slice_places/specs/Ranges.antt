@@ -22,14 +22,16 @@ noPlace = record { key = 0; track = newTrack }
 abbrev pub meaningOf : Place → Track
 meaningOf p = meant (p .track)
 
--- three messages of 56 bits, two altitude codes of 12
+-- four messages of 56 bits, two altitude codes of 12, a TYPE of 5
 unfoldable pub groupsFit : Groups → Bool
 groupsFit g =
     ltb (g .identification) 72057594037927936
     && ltb (g .velocity) 72057594037927936
     && ltb (g .surface) 72057594037927936
+    && ltb (g .status) 72057594037927936
     && ltb (g .pressure) 4096
     && ltb (g .height) 4096
+    && ltb (g .typecode) 32
 
 -- two counts of 17 bits
 unfoldable pub countsFit : Counts → Bool

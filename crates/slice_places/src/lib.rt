@@ -2,8 +2,9 @@
 //
 // value of a place                       range
 // key                                    a key, as `keys` has it
-// the three ME of the groups             below 2^56
+// the four ME of the groups              below 2^56
 // the two altitude codes                 below 2^12
+// TYPE of the latest position message    below 2^5
 // latitude of the position               from -2^30 to 2^30
 // counts of the two saved positions      below 2^17
 // all else                               any

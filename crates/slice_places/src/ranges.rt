@@ -12,8 +12,10 @@ fn groups_fit(g: Groups) -> bool
     (g.identification < 72057594037927936)
         & (g.velocity < 72057594037927936)
         & (g.surface < 72057594037927936)
+        & (g.status < 72057594037927936)
         & (g.pressure < 4096)
         & (g.height < 4096)
+        & (g.typecode < 32)
 }
 
 fn counts_fit(c: Counts) -> bool

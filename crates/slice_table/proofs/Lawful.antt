@@ -35,10 +35,14 @@ groups-in g f =
     both
     (both
     (both
+    (both
+    (both
     (both (lt-ltb (g .identification) 72057594037927936 (f .identification)) (lt-ltb (g .velocity) 72057594037927936 (f .velocity)))
     (lt-ltb (g .surface) 72057594037927936 (f .surface)))
+    (lt-ltb (g .status) 72057594037927936 (f .status)))
     (lt-ltb (g .pressure) 4096 (f .pressure)))
-    (lt-ltb (g .height) 4096 (f .height))
+    (lt-ltb (g .height) 4096 (f .height)))
+    (lt-ltb (g .typecode) 32 (f .typecode))
 
 counts-in : (v : Saved) → FitsSaved v → countsFit (v .counts) ≡ true
 unfolding countsFit

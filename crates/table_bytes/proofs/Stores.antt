@@ -94,7 +94,10 @@ unfolding messageBytes
 message-bytes g =
     let b : List ℕ = lowBytes 7 (g .velocity) in
     let c : List ℕ = lowBytes 7 (g .surface) in
-    append-bytes (lowBytes 7 (g .identification)) (b ++ c) (low-bytes 7 (g .identification)) (append-bytes b c (low-bytes 7 (g .velocity)) (low-bytes 7 (g .surface)))
+    let d : List ℕ = lowBytes 7 (g .status) in
+    append-bytes (lowBytes 7 (g .identification)) (b ++ (c ++ d)) (low-bytes 7 (g .identification))
+    (append-bytes b (c ++ d) (low-bytes 7 (g .velocity))
+    (append-bytes c d (low-bytes 7 (g .surface)) (low-bytes 7 (g .status))))
 
 spot-bytes : (p : Position) → Bytes (spotBytes p)
 unfolding spotBytes

@@ -146,6 +146,13 @@ fn say_groups(g: Groups) {
     say(g.height as u64);
 }
 
+// What a status and the latest position message left, which stand last in a line.
+fn say_told(g: Groups) {
+    say(g.status);
+    say(g.typecode as u64);
+    say_flag(g.bit8);
+}
+
 fn say_position(p: Position) {
     say_flag(p.known);
     write(b" ");
@@ -172,6 +179,7 @@ fn say_track(t: Track) {
     say_saved(even);
     let odd = saved[1];
     say_saved(odd);
+    say_told(g);
 }
 
 fn say_holding(h: Holding) {
@@ -436,7 +444,7 @@ fn one(letter: u8, buf: &mut [u8], n: usize) -> usize {
 }
 
 fn main() {
-    let mut space = [0u8; 81000];
+    let mut space = [0u8; 88200];
     let buf: &mut [u8] = &mut space;
     let mut n: usize = 0;
     let mut turns = u64::MAX;

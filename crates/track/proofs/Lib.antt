@@ -1,3 +1,4 @@
+pub mod Alike
 pub mod Mes
 pub mod Rules
 pub mod Meanings

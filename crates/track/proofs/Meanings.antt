@@ -8,10 +8,12 @@ use mathlib.Core.List.{List}
 use lib.ListN.{getD}
 use Rattle.layouts.specs.Layouts.{isIdentification, isSurface}
 use Rattle.layouts.specs.Velocity.{isGround, isAir}
+use Rattle.layouts.specs.Status.{isStatus}
 use Rattle.layouts.specs.declared.identification.Identification.{Identification}
 use Rattle.layouts.specs.declared.surface.Surface.{Surface}
 use Rattle.layouts.specs.declared.velocity.Ground.{Ground}
 use Rattle.layouts.specs.declared.velocity.Air.{Air}
+use Rattle.layouts.specs.declared.status.Status.{Status}
 use Rattle.layouts.specs.declared.bodies.Body.the-variants as body
 use Rattle.layouts.specs.Bodies.{bodyMe, bodyFits}
 use Rattle.layouts.proofs.Layouts as layout
@@ -22,8 +24,8 @@ use Rattle.whereabouts.specs.Located.{noPosition}
 use Rattle.track.specs.declared.Groups.{Groups}
 use Rattle.track.specs.declared.Track.{Track}
 use Rattle.track.specs.Track.{noSaved}
-use Rattle.track.specs.Groups.{identified, moving, onSurface, atPressure, atHeight}
-use Rattle.track.specs.Meaning.{givesIdentification, givesVelocity, givesSurface, meantGroups, meantPosition, meantSaved, meant, NothingForeign}
+use Rattle.track.specs.Groups.{identified, moving, onSurface, stating, atPressure, atHeight, positioned}
+use Rattle.track.specs.Meaning.{givesIdentification, givesVelocity, givesSurface, givesStatus, meantGroups, meantPosition, meantSaved, meant, NothingForeign}
 
 -- ---- what counts stays, and what does not is none
 
@@ -46,7 +48,7 @@ module _ {A : Type 0} (counts : A → Bool) (none x : A) where
 pub groups-twice : (g : Groups) → meantGroups (meantGroups g) ≡ meantGroups g
 unfolding meantGroups
 groups-twice g =
-    rw (chosen-twice givesIdentification 0 (g .identification) _ refl, chosen-twice givesVelocity 0 (g .velocity) _ refl, chosen-twice givesSurface 0 (g .surface) _ refl)
+    rw (chosen-twice givesIdentification 0 (g .identification) _ refl, chosen-twice givesVelocity 0 (g .velocity) _ refl, chosen-twice givesSurface 0 (g .surface) _ refl, chosen-twice givesStatus 0 (g .status) _ refl)
 
 pub position-twice : (p : Position) → meantPosition (meantPosition p) ≡ meantPosition p
 unfolding meantPosition
@@ -70,6 +72,7 @@ meant-nothing-foreign t =
       identification = none-else givesIdentification 0 (t .groups .identification) _ refl;
       velocity = none-else givesVelocity 0 (t .groups .velocity) _ refl;
       surface = none-else givesSurface 0 (t .groups .surface) _ refl;
+      status = none-else givesStatus 0 (t .groups .status) _ refl;
       position = none-else (λ (x : Position). x .known) noPosition (t .position) _ refl;
       even = none-else (λ (x : Saved). x .known) noSaved (getD (t .saved) 0 noSaved) _ refl;
       odd = none-else (λ (x : Saved). x .known) noSaved (getD (t .saved) 1 noSaved) _ refl;
@@ -102,6 +105,11 @@ gives-air b e =
     ∙ ap (λ (x : Bool). isGround (b .typecode) (b .subtype) || x) (agreeing (body.Air b) e)
     ∙ either-way (isGround (b .typecode) (b .subtype))
 
+pub gives-status : (b : Status) → bodyFits (body.Status b) ≡ true → givesStatus (bodyMe (body.Status b)) ≡ true
+gives-status b e =
+    ap (λ (l : List ℕ). isStatus (getD l 0 0) (getD l 1 0)) (layout.unpacked layout.status b (fitting (body.Status b) e))
+    ∙ agreeing (body.Status b) e
+
 -- ---- so groups that mean themselves do so after a message
 
 module _ (g : Groups) (e : meantGroups g ≡ g) where
@@ -116,6 +124,14 @@ module _ (g : Groups) (e : meantGroups g ≡ g) where
   pub surface-meant : (me : ℕ) → givesSurface me ≡ true → meantGroups (onSurface g me) ≡ onSurface g me
   unfolding meantGroups
   surface-meant me h = ap₂ onSurface e (ap (λ (b : Bool). cond b me 0) h)
+
+  pub stating-meant : (me : ℕ) → givesStatus me ≡ true → meantGroups (stating g me) ≡ stating g me
+  unfolding meantGroups
+  stating-meant me h = ap₂ stating e (ap (λ (b : Bool). cond b me 0) h)
+
+  pub positioned-meant : (type : ℕ) (bit8 : Bool) → meantGroups (positioned g type bit8) ≡ positioned g type bit8
+  unfolding meantGroups
+  positioned-meant type bit8 = ap (λ (x : Groups). positioned x type bit8) e
 
   pub pressure-meant : (altitude : ℕ) → meantGroups (atPressure g altitude) ≡ atPressure g altitude
   unfolding meantGroups

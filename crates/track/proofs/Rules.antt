@@ -26,6 +26,7 @@ use Rattle.layouts.specs.declared.surface.Surface.{Surface}
 use Rattle.layouts.specs.declared.airborne.Airborne.{Airborne}
 use Rattle.layouts.specs.declared.velocity.Ground.{Ground}
 use Rattle.layouts.specs.declared.velocity.Air.{Air}
+use Rattle.layouts.specs.declared.status.Status.{Status}
 use Rattle.layouts.specs.declared.bodies.Body.{Body}
 use Rattle.layouts.specs.declared.bodies.Body.the-variants as body
 use Rattle.layouts.specs.Bodies.{bodyMe, bodyFits}
@@ -41,7 +42,7 @@ use Rattle.whereabouts.specs.declared.Position.{Position}
 use Rattle.whereabouts.specs.declared.Site.{Site}
 use Rattle.track.specs.declared.Track.{Track}
 use Rattle.track.specs.declared.Stepped.{Stepped}
-use Rattle.track.specs.Groups.{identified, moving, onSurface, atPressure, reported, atHeight}
+use Rattle.track.specs.Groups.{identified, moving, onSurface, atPressure, reported, atHeight, positioned}
 use Rattle.whereabouts.specs.Located.{
   isFresh,
   passedOn,
@@ -92,6 +93,7 @@ heard-at-its-time t (body.Surface b) me site time = refl
 heard-at-its-time t (body.Airborne b) me site time = by-test (λ (x : Track). x .heard ≡ time) (eqb (b .typecode) 0) _ _ (λ _. refl) (λ _. refl)
 heard-at-its-time t (body.Ground b) me site time = refl
 heard-at-its-time t (body.Air b) me site time = refl
+heard-at-its-time t (body.Status b) me site time = refl
 
 -- ---- a message replaces its own group whole, but for an altitude that a TYPE 0 leaves out, and one with no position leaves where the aircraft is
 
@@ -106,7 +108,24 @@ pub record NoPosition (altitude time : ℕ) (t n : Track) : Type 0 where
   pub identification : n .groups .identification ≡ t .groups .identification
   pub velocity : n .groups .velocity ≡ t .groups .velocity
   pub surface : n .groups .surface ≡ t .groups .surface
+  pub status : n .groups .status ≡ t .groups .status
   pub height : n .groups .height ≡ t .groups .height
+  pub typecode : n .groups .typecode ≡ t .groups .typecode
+  pub bit8 : n .groups .bit8 ≡ t .groups .bit8
+  pub position : n .position ≡ t .position
+  pub saved : n .saved ≡ t .saved
+
+-- what a status leaves of a track: all but its own group and the time heard
+pub record OnlyStatus (me time : ℕ) (t n : Track) : Type 0 where
+  pub heard : n .heard ≡ time
+  pub status : n .groups .status ≡ me
+  pub identification : n .groups .identification ≡ t .groups .identification
+  pub velocity : n .groups .velocity ≡ t .groups .velocity
+  pub surface : n .groups .surface ≡ t .groups .surface
+  pub pressure : n .groups .pressure ≡ t .groups .pressure
+  pub height : n .groups .height ≡ t .groups .height
+  pub typecode : n .groups .typecode ≡ t .groups .typecode
+  pub bit8 : n .groups .bit8 ≡ t .groups .bit8
   pub position : n .position ≡ t .position
   pub saved : n .saved ≡ t .saved
 
@@ -123,7 +142,7 @@ module _ (t : Track) (me : ℕ) (site : Site) (time : ℕ) where
   unfolding groupTrack
   air-replaces b = refl
 
-  pub surface-replaces : (b : Surface) → stepBody t (body.Surface b) me site time .groups ≡ onSurface (t .groups) me
+  pub surface-replaces : (b : Surface) → stepBody t (body.Surface b) me site time .groups ≡ positioned (onSurface (t .groups) me) (b .typecode) false
   unfolding surfaceTrack
   surface-replaces b = refl
 
@@ -135,12 +154,14 @@ module _ (t : Track) (me : ℕ) (site : Site) (time : ℕ) where
   located b h = rw (ne-eqb (b .typecode) 0 (λ e. omega arith))
 
   -- TYPE 9-18
-  pub pressure-replaces : (b : Airborne) → 9 ≤ b .typecode → b .typecode ≤ 18 → stepBody t (body.Airborne b) me site time .groups ≡ atPressure (t .groups) (b .altitude)
+  pub pressure-replaces : (b : Airborne) → 9 ≤ b .typecode → b .typecode ≤ 18
+      → stepBody t (body.Airborne b) me site time .groups ≡ positioned (atPressure (t .groups) (b .altitude)) (b .typecode) (eqb (b .bit8) 1)
   unfolding airborneTrack
   pressure-replaces b l h = ap (λ (x : Track). x .groups) (located b (omega arith)) ∙ simp (le-leb (b .typecode) 18 h)
 
   -- TYPE 20-22
-  pub height-replaces : (b : Airborne) → 18 < b .typecode → stepBody t (body.Airborne b) me site time .groups ≡ atHeight (t .groups) (b .altitude)
+  pub height-replaces : (b : Airborne) → 18 < b .typecode
+      → stepBody t (body.Airborne b) me site time .groups ≡ positioned (atHeight (t .groups) (b .altitude)) (b .typecode) (eqb (b .bit8) 1)
   unfolding airborneTrack
   height-replaces b h = ap (λ (x : Track). x .groups) (located b (omega arith)) ∙ simp (lt-leb (b .typecode) 18 h)
 
@@ -155,10 +176,31 @@ module _ (t : Track) (me : ℕ) (site : Site) (time : ℕ) where
         identification = refl;
         velocity = refl;
         surface = refl;
+        status = refl;
         height = refl;
+        typecode = refl;
+        bit8 = refl;
         position = refl;
         saved = refl;
       })
+
+  -- TYPE 31
+  pub status-leaves : (b : Status) → OnlyStatus me time t (stepBody t (body.Status b) me site time)
+  unfolding groupTrack
+  status-leaves b =
+      record {
+        heard = refl;
+        status = refl;
+        identification = refl;
+        velocity = refl;
+        surface = refl;
+        pressure = refl;
+        height = refl;
+        typecode = refl;
+        bit8 = refl;
+        position = refl;
+        saved = refl;
+      }
 
   pub identification-stays : (b : Identification) → Unmoved t (stepBody t (body.Identification b) me site time)
   unfolding groupTrack

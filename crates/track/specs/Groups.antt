@@ -1,11 +1,20 @@
--- The groups of a track. A message replaces its own group whole, unknown included; only the altitude of a TYPE 0 may be left out.
+-- The groups of a track. A message replaces its own group whole, unknown included; only the altitude of a TYPE 0 may be left out. A position message leaves its TYPE and, in the air, bit 8 too.
 use Prim.Native.Nat.{ℕ}
-use mathlib.Core.Bool.{cond}
+use mathlib.Core.Bool.{Bool, false, cond}
 use lib.Dec.{leb, eqb}
 use Rattle.track.specs.declared.Groups.{Groups}
 
 abbrev pub noGroups : Groups
-noGroups = record { identification = 0; velocity = 0; surface = 0; pressure = 0; height = 0 }
+noGroups = record {
+  identification = 0;
+  velocity = 0;
+  surface = 0;
+  status = 0;
+  pressure = 0;
+  height = 0;
+  typecode = 0;
+  bit8 = false;
+}
 
 -- identification, TYPE 1-4
 abbrev pub identified : Groups → ℕ → Groups
@@ -13,8 +22,11 @@ identified g me = record {
   identification = me;
   velocity = g .velocity;
   surface = g .surface;
+  status = g .status;
   pressure = g .pressure;
   height = g .height;
+  typecode = g .typecode;
+  bit8 = g .bit8;
 }
 
 -- velocity, TYPE 19
@@ -23,8 +35,11 @@ moving g me = record {
   identification = g .identification;
   velocity = me;
   surface = g .surface;
+  status = g .status;
   pressure = g .pressure;
   height = g .height;
+  typecode = g .typecode;
+  bit8 = g .bit8;
 }
 
 -- surface fields, TYPE 5-8
@@ -33,8 +48,24 @@ onSurface g me = record {
   identification = g .identification;
   velocity = g .velocity;
   surface = me;
+  status = g .status;
   pressure = g .pressure;
   height = g .height;
+  typecode = g .typecode;
+  bit8 = g .bit8;
+}
+
+-- operational status, TYPE 31
+abbrev pub stating : Groups → ℕ → Groups
+stating g me = record {
+  identification = g .identification;
+  velocity = g .velocity;
+  surface = g .surface;
+  status = me;
+  pressure = g .pressure;
+  height = g .height;
+  typecode = g .typecode;
+  bit8 = g .bit8;
 }
 
 -- pressure altitude, of TYPE 9-18 and of a TYPE 0 that reports one
@@ -43,8 +74,11 @@ atPressure g altitude = record {
   identification = g .identification;
   velocity = g .velocity;
   surface = g .surface;
+  status = g .status;
   pressure = altitude;
   height = g .height;
+  typecode = g .typecode;
+  bit8 = g .bit8;
 }
 
 -- the pressure altitude that a TYPE 0 reports: a field of zero leaves the one before, any other code replaces it, unknown included
@@ -57,9 +91,25 @@ atHeight g altitude = record {
   identification = g .identification;
   velocity = g .velocity;
   surface = g .surface;
+  status = g .status;
   pressure = g .pressure;
   height = altitude;
+  typecode = g .typecode;
+  bit8 = g .bit8;
 }
 
 abbrev pub high : Groups → ℕ → ℕ → Groups
 high g type altitude = cond (leb type 18) (atPressure g altitude) (atHeight g altitude)
+
+-- of the latest position message TYPE and, in the air, bit 8 of ME
+abbrev pub positioned : Groups → ℕ → Bool → Groups
+positioned g type bit8 = record {
+  identification = g .identification;
+  velocity = g .velocity;
+  surface = g .surface;
+  status = g .status;
+  pressure = g .pressure;
+  height = g .height;
+  typecode = type;
+  bit8 = bit8;
+}

@@ -7,6 +7,7 @@ use lib.ListN.{getD}
 use Rattle.fields.specs.Packing.{me}
 use Rattle.layouts.specs.Layouts.{isIdentification, isSurface}
 use Rattle.layouts.specs.Velocity.{isGround, isAir}
+use Rattle.layouts.specs.Status.{isStatus}
 use Rattle.whereabouts.specs.declared.Saved.{Saved}
 use Rattle.whereabouts.specs.declared.Position.{Position}
 use Rattle.whereabouts.specs.Located.{noPosition}
@@ -14,7 +15,7 @@ use Rattle.track.specs.declared.Groups.{Groups}
 use Rattle.track.specs.declared.Track.{Track}
 use Rattle.track.specs.Track.{noSaved}
 
--- ---- whether an ME gives a group: by its TYPE, bits 1-5, and of velocity by its subtype, bits 6-8
+-- ---- whether an ME gives a group: by its TYPE, bits 1-5, and of velocity and status by its subtype, bits 6-8
 
 abbrev pub givesIdentification : ℕ → Bool
 givesIdentification n = isIdentification (me 1 5 n)
@@ -25,6 +26,9 @@ givesVelocity n = isGround (me 1 5 n) (me 6 8 n) || isAir (me 1 5 n) (me 6 8 n)
 abbrev pub givesSurface : ℕ → Bool
 givesSurface n = isSurface (me 1 5 n)
 
+abbrev pub givesStatus : ℕ → Bool
+givesStatus n = isStatus (me 1 5 n) (me 6 8 n)
+
 -- ---- what is meant
 
 unfoldable pub meantGroups : Groups → Groups
@@ -33,8 +37,11 @@ meantGroups g =
       identification = cond (givesIdentification (g .identification)) (g .identification) 0;
       velocity = cond (givesVelocity (g .velocity)) (g .velocity) 0;
       surface = cond (givesSurface (g .surface)) (g .surface) 0;
+      status = cond (givesStatus (g .status)) (g .status) 0;
       pressure = g .pressure;
       height = g .height;
+      typecode = g .typecode;
+      bit8 = g .bit8;
     }
 
 unfoldable pub meantPosition : Position → Position
@@ -57,6 +64,7 @@ pub record NothingForeign (t : Track) : Type 0 where
   pub identification : givesIdentification (t .groups .identification) ≡ false → t .groups .identification ≡ 0
   pub velocity : givesVelocity (t .groups .velocity) ≡ false → t .groups .velocity ≡ 0
   pub surface : givesSurface (t .groups .surface) ≡ false → t .groups .surface ≡ 0
+  pub status : givesStatus (t .groups .status) ≡ false → t .groups .status ≡ 0
   pub position : t .position .known ≡ false → t .position ≡ noPosition
   pub even : getD (t .saved) 0 noSaved .known ≡ false → getD (t .saved) 0 noSaved ≡ noSaved
   pub odd : getD (t .saved) 1 noSaved .known ≡ false → getD (t .saved) 1 noSaved ≡ noSaved

@@ -25,7 +25,7 @@ use Rattle.whereabouts.specs.declared.Site.{Site}
 use Rattle.track.specs.declared.Groups.{Groups}
 use Rattle.track.specs.declared.Track.{Track}
 use Rattle.track.specs.declared.Stepped.{Stepped}
-use Rattle.track.specs.Groups.{noGroups, identified, moving, onSurface, reported, high}
+use Rattle.track.specs.Groups.{noGroups, identified, moving, onSurface, stating, reported, high, positioned}
 use Rattle.whereabouts.specs.Located.{noPosition, airbornePosition, surfacePosition}
 
 abbrev pub noSaved : Saved
@@ -57,7 +57,7 @@ unfoldable pub airborneTrack : Track → Airborne → ℕ → Track
 airborneTrack t b time =
     record {
       heard = time;
-      groups = high (t .groups) (b .typecode) (b .altitude);
+      groups = positioned (high (t .groups) (b .typecode) (b .altitude)) (b .typecode) (eqb (b .bit8) 1);
       position = placedOr (airbornePosition (t .position) (getD (t .saved) (1 - b .f) noSaved) (countsIn b) (formatOf (b .f)) time) (t .position);
       saved = set (t .saved) (b .f) (record { known = true; counts = countsIn b; time = time });
     }
@@ -71,7 +71,7 @@ unfoldable pub surfaceTrack : Track → Surface → ℕ → Site → ℕ → Tra
 surfaceTrack t b me site time =
     record {
       heard = time;
-      groups = onSurface (t .groups) me;
+      groups = positioned (onSurface (t .groups) me) (b .typecode) false;
       position = placedOr (surfacePosition (t .position) site (record { latitude = b .latitude; longitude = b .longitude }) (formatOf (b .f)) time) (t .position);
       saved = noSaved ∷ noSaved ∷ [];
     }
@@ -83,6 +83,7 @@ stepBody t (body.Surface b) me site time = surfaceTrack t b me site time
 stepBody t (body.Airborne b) me site time = airborneStep t b time
 stepBody t (body.Ground b) me site time = groupTrack t (moving (t .groups) me) time
 stepBody t (body.Air b) me site time = groupTrack t (moving (t .groups) me) time
+stepBody t (body.Status b) me site time = groupTrack t (stating (t .groups) me) time
 
 -- what the ME of a message does, of which 56 bits are read: one that is not taken leaves the track
 abbrev pub stepTaken : Track → Taken → ℕ → Site → ℕ → Track

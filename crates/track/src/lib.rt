@@ -25,13 +25,17 @@ ghost use mathlib.Core.Path.{_≡_};
 ghost use Prim.Native.Nat.{_<_};
 ghost use Rattle.track.specs.Track.{formatOf, placedOr, airborneTrack, airborneStep, surfaceTrack, groupTrack, stepMe, stepped, newTrack, noSaved};
 
-// What was last heard of each group: of three the ME that gave it, 0 where none did; of two the code of 12 bits, 0 where it is unknown.
+// What was last heard of each group: of four the ME that gave it, 0 where none did; of two the code of 12 bits, 0 where it is unknown. Of the latest position message its TYPE, 0 where none was heard,
+// and bit 8 of ME, which one on the surface does not have.
 pub struct Groups {
     pub identification: u64,
     pub velocity: u64,
     pub surface: u64,
+    pub status: u64,
     pub pressure: u16,
     pub height: u16,
+    pub typecode: u8,
+    pub bit8: bool,
 }
 
 pub struct Track {
@@ -115,7 +119,7 @@ fn airborne_track(t: Track, b: Airborne, time: u64) -> Track
     let g = t.groups;
     Track {
         heard: time,
-        groups: replaced::with_altitude(g, b.typecode, b.altitude),
+        groups: replaced::with_altitude(g, b.typecode, b.bit8, b.altitude),
         position: placed_or(
             whereabouts::airborne_position(p, partner, counts, format_of(b.f), time),
             p,
@@ -141,7 +145,7 @@ fn surface_track(t: Track, b: Surface, me: u64, site: Site, time: u64) -> Track
     let g = t.groups;
     Track {
         heard: time,
-        groups: replaced::with_surface(g, me),
+        groups: replaced::with_surface(g, b.typecode, me),
         position: placed_or(
             whereabouts::surface_position(p, site, counts, format_of(b.f), time),
             p,
@@ -188,6 +192,7 @@ pub fn step_me(t: Track, number: u64, site: Site, time: u64) -> Track
         Layout::Airborne => airborne_step(t, layouts::airborne_of(me), time),
         Layout::Ground => group_track(t, replaced::with_velocity(g, me), time),
         Layout::Air => group_track(t, replaced::with_velocity(g, me), time),
+        Layout::Status => group_track(t, replaced::with_status(g, me), time),
         Layout::NotTaken => t,
     }
 }

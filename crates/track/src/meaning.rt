@@ -11,7 +11,7 @@ use whereabouts::Saved;
 ghost use mathlib.Core.Path.{_≡_};
 ghost use mathlib.Core.Bool.{cond};
 ghost use lib.IntN.{pos};
-ghost use Rattle.track.specs.Meaning.{givesIdentification, givesVelocity, givesSurface, meantGroups, meantPosition, meantSaved, meant};
+ghost use Rattle.track.specs.Meaning.{givesIdentification, givesVelocity, givesSurface, givesStatus, meantGroups, meantPosition, meantSaved, meant};
 
 fn gives_identification(me: u64) -> bool
     ensures { λ r. ⌜ r ≡ givesIdentification me ⌝ }
@@ -33,6 +33,13 @@ fn gives_surface(me: u64) -> bool
 {
     let t = me / 0x8_0000_0000_0000 % 32;
     (5 <= t) & (t <= 8)
+}
+
+// TYPE 31 and a subtype of 0 or 1, in one number: the seven bits above the lowest of the subtype's are 31 and two zeros.
+fn gives_status(me: u64) -> bool
+    ensures { λ r. ⌜ r ≡ givesStatus me ⌝ }
+{
+    me / 0x2_0000_0000_0000 % 128 == 4 * 31
 }
 
 // Each value is chosen by itself, which compiles to no branch.
@@ -61,8 +68,11 @@ fn meant_groups(g: Groups) -> Groups
         identification: or_zero(gives_identification(g.identification), g.identification),
         velocity: or_zero(gives_velocity(g.velocity), g.velocity),
         surface: or_zero(gives_surface(g.surface), g.surface),
+        status: or_zero(gives_status(g.status), g.status),
         pressure: g.pressure,
         height: g.height,
+        typecode: g.typecode,
+        bit8: g.bit8,
     }
 }
 

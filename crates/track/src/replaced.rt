@@ -1,7 +1,9 @@
-// The groups of a track: a message replaces its own whole, unknown included; only the altitude of a TYPE 0 may be left out.
+// The groups of a track: a message replaces its own whole, unknown included; only the altitude of a TYPE 0 may be left out. A position message leaves its TYPE and, in the air, bit 8 too.
 use crate::Groups;
 ghost use mathlib.Core.Path.{_≡_};
-ghost use Rattle.track.specs.Groups.{noGroups, identified, moving, onSurface, reported, high};
+ghost use mathlib.Core.Bool.{false};
+ghost use lib.Dec.{eqb};
+ghost use Rattle.track.specs.Groups.{noGroups, identified, moving, onSurface, stating, reported, high, positioned};
 
 pub(crate) fn no_groups() -> Groups
     ensures { λ r. ⌜ r ≡ noGroups ⌝ }
@@ -10,8 +12,11 @@ pub(crate) fn no_groups() -> Groups
         identification: 0,
         velocity: 0,
         surface: 0,
+        status: 0,
         pressure: 0,
         height: 0,
+        typecode: 0,
+        bit8: false,
     }
 }
 
@@ -22,8 +27,11 @@ pub(crate) fn with_identification(g: Groups, me: u64) -> Groups
         identification: me,
         velocity: g.velocity,
         surface: g.surface,
+        status: g.status,
         pressure: g.pressure,
         height: g.height,
+        typecode: g.typecode,
+        bit8: g.bit8,
     }
 }
 
@@ -34,20 +42,43 @@ pub(crate) fn with_velocity(g: Groups, me: u64) -> Groups
         identification: g.identification,
         velocity: me,
         surface: g.surface,
+        status: g.status,
         pressure: g.pressure,
         height: g.height,
+        typecode: g.typecode,
+        bit8: g.bit8,
     }
 }
 
-pub(crate) fn with_surface(g: Groups, me: u64) -> Groups
-    ensures { λ r. ⌜ r ≡ onSurface g me ⌝ }
+pub(crate) fn with_status(g: Groups, me: u64) -> Groups
+    ensures { λ r. ⌜ r ≡ stating g me ⌝ }
 {
     Groups {
         identification: g.identification,
         velocity: g.velocity,
-        surface: me,
+        surface: g.surface,
+        status: me,
         pressure: g.pressure,
         height: g.height,
+        typecode: g.typecode,
+        bit8: g.bit8,
+    }
+}
+
+pub(crate) fn with_surface(g: Groups, typecode: u8, me: u64) -> Groups
+    ensures { λ r. ⌜ r ≡ positioned (onSurface g me) typecode false ⌝ }
+{
+    // there is no bit 8 on the surface
+    let none = false;
+    Groups {
+        identification: g.identification,
+        velocity: g.velocity,
+        surface: me,
+        status: g.status,
+        pressure: g.pressure,
+        height: g.height,
+        typecode: typecode,
+        bit8: none,
     }
 }
 
@@ -59,29 +90,38 @@ pub(crate) fn with_reported(g: Groups, altitude: u16) -> Groups
         identification: g.identification,
         velocity: g.velocity,
         surface: g.surface,
+        status: g.status,
         pressure: if altitude == 0 { g.pressure } else { altitude },
         height: g.height,
+        typecode: g.typecode,
+        bit8: g.bit8,
     }
 }
 
-pub(crate) fn with_altitude(g: Groups, typecode: u8, altitude: u16) -> Groups
-    ensures { λ r. ⌜ r ≡ high g typecode altitude ⌝ }
+pub(crate) fn with_altitude(g: Groups, typecode: u8, bit8: u8, altitude: u16) -> Groups
+    ensures { λ r. ⌜ r ≡ positioned (high g typecode altitude) typecode (eqb bit8 1) ⌝ }
 {
     if typecode <= 18 {
         Groups {
             identification: g.identification,
             velocity: g.velocity,
             surface: g.surface,
+            status: g.status,
             pressure: altitude,
             height: g.height,
+            typecode: typecode,
+            bit8: bit8 == 1,
         }
     } else {
         Groups {
             identification: g.identification,
             velocity: g.velocity,
             surface: g.surface,
+            status: g.status,
             pressure: g.pressure,
             height: altitude,
+            typecode: typecode,
+            bit8: bit8 == 1,
         }
     }
 }

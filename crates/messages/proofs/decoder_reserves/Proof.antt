@@ -1,9 +1,9 @@
--- `messages::decoder_reserves` meets its contract: what no traffic service sent has no flag that is reserved.
+-- `messages::decoder_reserves` meets its contract: what no traffic service sent has neither a flag nor a TYPE that is reserved.
 -- Assumes nothing.
 use mathlib.Core.Path.{sym, _∙_}
 use borrow.Author.Needs.{needs}
 use borrow.Author.Tests.{not-true}
-use Rattle.layouts.specs.Bodies.{flagIn}
+use Rattle.layouts.specs.Bodies.{typeIn, flagIn}
 use Rattle.messages.proofs.Flags.{not-reserved}
 use Rattle.messages.proofs.decoder_reserves.Statement.{statement}
 use Rattle.messages.proofs.decoder_reserves.Tie as tie
@@ -14,7 +14,7 @@ traffic-by-requires c κs = search needs
 returns : tie.Need-returns
 returns c =
     let f = c .before .before .args .f in
-    sym (not-reserved (f .format) (f .control) (flagIn (f .me)) (sym (c .before .traffic-by .ensures) ∙ not-true _ (c .if1 .taken)))
+    sym (not-reserved (f .format) (f .control) (typeIn (f .me)) (flagIn (f .me)) (sym (c .before .traffic-by .ensures) ∙ not-true _ (c .if1 .taken)))
 
 frame-reserved-requires : tie.Need-frame-reserved-requires
 frame-reserved-requires c κs = search needs

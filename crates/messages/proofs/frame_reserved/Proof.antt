@@ -1,6 +1,6 @@
 -- `messages::frame_reserved` meets its contract: its first test is the definition's, and the other that of `is_reserved`.
 -- Assumes nothing.
-use mathlib.Core.Path.{ap, _∙_}
+use mathlib.Core.Path.{ap₂, _∙_}
 use borrow.Author.Tests.{ne-eqb}
 use Rattle.messages.specs.Message.{isReserved}
 use borrow.Author.Needs.{needs}
@@ -10,6 +10,9 @@ use Rattle.messages.proofs.frame_reserved.Tie as tie
 returns : tie.Need-returns
 returns c = rw (ne-eqb _ 18 (c .if1 .taken))
 
+type-in-requires : tie.Need-type-in-requires
+type-in-requires c κs = search needs
+
 flag-in-requires : tie.Need-flag-in-requires
 flag-in-requires c κs = search needs
 
@@ -18,8 +21,8 @@ is-reserved-requires c κs = search needs
 
 returns-2 : tie.Need-returns-2
 returns-2 c =
-    let f = c .before .before .before .before .args .f in
-    c .is-reserved .ensures ∙ ap (isReserved (f .format) (f .control)) (c .before .flag-in .ensures)
+    let f = c .before .before .before .before .before .args .f in
+    c .is-reserved .ensures ∙ ap₂ (isReserved (f .format) (f .control)) (c .before .before .type-in .ensures) (c .before .flag-in .ensures)
 
 pub frame-reserved-spec : {M : Type 1} → statement M
-frame-reserved-spec = tie.close (tie.spec returns flag-in-requires is-reserved-requires returns-2)
+frame-reserved-spec = tie.close (tie.spec returns type-in-requires flag-in-requires is-reserved-requires returns-2)

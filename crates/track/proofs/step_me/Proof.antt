@@ -70,6 +70,15 @@ group-track-requires-3 c κs = search needs
 enum-told-6 : tie.Need-enum-told-6
 enum-told-6 c = search needs
 
+with-status-requires : tie.Need-with-status-requires
+with-status-requires c κs = search needs
+
+group-track-requires-4 : tie.Need-group-track-requires-4
+group-track-requires-4 c κs = search needs
+
+enum-told-7 : tie.Need-enum-told-7
+enum-told-7 c = search needs
+
 returns : tie.Need-returns
 returns c =
     let p = c .before .before .before .before in
@@ -103,9 +112,15 @@ returns-5 c =
 
 returns-6 : tie.Need-returns-6
 returns-6 c =
+    let p = c .before .before .before .before in
+    let a = p .before .before .args in
+    c .group-track4 .ensures ∙ ap (λ (x : Groups). groupTrack (a .t) x (a .time)) (c .before .with-status .ensures) ∙ arm (a .t) (a .site) (a .time) (a .number % 2 ^ 56) (p .layout-of .ensures) (c .before .before .enum-told6 .given .1)
+
+returns-7 : tie.Need-returns-7
+returns-7 c =
     let p = c .before .before in
     let a = p .before .before .args in
-    arm (a .t) (a .site) (a .time) (a .number % 2 ^ 56) (p .layout-of .ensures) (c .enum-told6 .given .1)
+    arm (a .t) (a .site) (a .time) (a .number % 2 ^ 56) (p .layout-of .ensures) (c .enum-told7 .given .1)
 
 pub step-me-spec : {M : Type 1} → statement M
 step-me-spec =
@@ -128,9 +143,13 @@ step-me-spec =
     with-velocity-requires-2
     group-track-requires-3
     enum-told-6
+    with-status-requires
+    group-track-requires-4
+    enum-told-7
     returns
     returns-2
     returns-3
     returns-4
     returns-5
-    returns-6)
+    returns-6
+    returns-7)

@@ -8,7 +8,7 @@ use Rattle.addercoil.proofs.numbers.addercoil_look_up.Statement.{statem
 use Rattle.addercoil.proofs.numbers.addercoil_look_up.Tie as tie
 
 returns : tie.Need-returns
-returns c = into-wrong 57 _ _ (c .if1 .taken)
+returns c = into-wrong 66 _ _ (c .if1 .taken)
 
 look-up-requires : tie.Need-look-up-requires
 look-up-requires c κs = search needs
@@ -20,7 +20,7 @@ same-length : tie.Need-same-length
 same-length c = search needs
 
 returns-2 : tie.Need-returns-2
-returns-2 c = into-right (lookedSaid _) _ refl 57 (c .before .before .before .before .before .before .if1 .left) (c .before .before .before .before .before .look-up .ensures) (c .before .before .give-held .ensures)
+returns-2 c = into-right (lookedSaid _) _ refl 66 (c .before .before .before .before .before .before .if1 .left) (c .before .before .before .before .before .look-up .ensures) (c .before .before .give-held .ensures)
 
 pub addercoil-look-up-spec : {M : Type 1} → statement M
 addercoil-look-up-spec =

@@ -48,6 +48,12 @@ air-of-requires c κs = search needs
 enum-told-6 : tie.Need-enum-told-6
 enum-told-6 c = search needs
 
+status-of-requires : tie.Need-status-of-requires
+status-of-requires c κs = search needs
+
+enum-told-7 : tie.Need-enum-told-7
+enum-told-7 c = search needs
+
 returns : tie.Need-returns
 returns c =
     arm (c .before .before .before .args .me) (c .before .enum-told .given .1) (ap (λ b. read.Body (body.Identification b)) (c .identification-of .ensures))
@@ -69,7 +75,11 @@ returns-5 c =
     arm (c .before .before .before .args .me) (c .before .enum-told5 .given .1) (ap (λ b. read.Body (body.Air b)) (c .air-of .ensures))
 
 returns-6 : tie.Need-returns-6
-returns-6 c = arm (c .before .before .args .me) (c .enum-told6 .given .1) refl
+returns-6 c =
+    arm (c .before .before .before .args .me) (c .before .enum-told6 .given .1) (ap (λ b. read.Body (body.Status b)) (c .status-of .ensures))
+
+returns-7 : tie.Need-returns-7
+returns-7 c = arm (c .before .before .args .me) (c .enum-told7 .given .1) refl
 
 pub body-as-spec : {M : Type 1} → statement M
 body-as-spec =
@@ -86,9 +96,12 @@ body-as-spec =
     enum-told-5
     air-of-requires
     enum-told-6
+    status-of-requires
+    enum-told-7
     returns
     returns-2
     returns-3
     returns-4
     returns-5
-    returns-6)
+    returns-6
+    returns-7)

@@ -36,6 +36,12 @@ enum-known-b-5 c = search needs
 air-fits-requires : tie.Need-air-fits-requires
 air-fits-requires c κs = search needs
 
+enum-known-b-6 : tie.Need-enum-known-b-6
+enum-known-b-6 c = search needs
+
+status-fits-requires : tie.Need-status-fits-requires
+status-fits-requires c κs = search needs
+
 returns : tie.Need-returns
 returns c = c .identification-fits .ensures ∙ sym (ap bodyFits (c .before .before .b .given .1))
 
@@ -51,6 +57,9 @@ returns-4 c = c .ground-fits .ensures ∙ sym (ap bodyFits (c .before .before .b
 returns-5 : tie.Need-returns-5
 returns-5 c = c .air-fits .ensures ∙ sym (ap bodyFits (c .before .before .b5 .given .1))
 
+returns-6 : tie.Need-returns-6
+returns-6 c = c .status-fits .ensures ∙ sym (ap bodyFits (c .before .before .b6 .given .1))
+
 pub body-fits-spec : {M : Type 1} → statement M
 body-fits-spec =
     tie.close
@@ -65,8 +74,11 @@ body-fits-spec =
     ground-fits-requires
     enum-known-b-5
     air-fits-requires
+    enum-known-b-6
+    status-fits-requires
     returns
     returns-2
     returns-3
     returns-4
-    returns-5)
+    returns-5
+    returns-6)

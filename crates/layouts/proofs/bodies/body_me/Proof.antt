@@ -40,6 +40,12 @@ enum-known-b-5 c = search needs
 air-me-requires : tie.Need-air-me-requires
 air-me-requires c κs = search needs
 
+enum-known-b-6 : tie.Need-enum-known-b-6
+enum-known-b-6 c = search needs
+
+status-me-requires : tie.Need-status-me-requires
+status-me-requires c κs = search needs
+
 returns : tie.Need-returns
 returns c = c .identification-me .ensures ∙ sym (ap bodyMe (c .before .before .b .given .1))
 
@@ -55,6 +61,9 @@ returns-4 c = c .ground-me .ensures ∙ sym (ap bodyMe (c .before .before .b4 .g
 returns-5 : tie.Need-returns-5
 returns-5 c = c .air-me .ensures ∙ sym (ap bodyMe (c .before .before .b5 .given .1))
 
+returns-6 : tie.Need-returns-6
+returns-6 c = c .status-me .ensures ∙ sym (ap bodyMe (c .before .before .b6 .given .1))
+
 pub body-me-spec : {M : Type 1} → statement M
 body-me-spec =
     tie.close
@@ -69,8 +78,11 @@ body-me-spec =
     ground-me-requires
     enum-known-b-5
     air-me-requires
+    enum-known-b-6
+    status-me-requires
     returns
     returns-2
     returns-3
     returns-4
-    returns-5)
+    returns-5
+    returns-6)

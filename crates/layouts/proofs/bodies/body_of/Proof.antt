@@ -51,6 +51,12 @@ air-of-requires c κs = search needs
 enum-told-6 : tie.Need-enum-told-6
 enum-told-6 c = search needs
 
+status-of-requires : tie.Need-status-of-requires
+status-of-requires c κs = search needs
+
+enum-told-7 : tie.Need-enum-told-7
+enum-told-7 c = search needs
+
 returns : tie.Need-returns
 returns c =
     let p = c .before .before .before in
@@ -77,7 +83,12 @@ returns-5 c =
     arm (p .before .args .me) (p .layout-of .ensures) (c .before .enum-told5 .given .1) (ap (λ b. read.Body (body.Air b)) (c .air-of .ensures))
 
 returns-6 : tie.Need-returns-6
-returns-6 c = let p = c .before .before in arm (p .before .args .me) (p .layout-of .ensures) (c .enum-told6 .given .1) refl
+returns-6 c =
+    let p = c .before .before .before in
+    arm (p .before .args .me) (p .layout-of .ensures) (c .before .enum-told6 .given .1) (ap (λ b. read.Body (body.Status b)) (c .status-of .ensures))
+
+returns-7 : tie.Need-returns-7
+returns-7 c = let p = c .before .before in arm (p .before .args .me) (p .layout-of .ensures) (c .enum-told7 .given .1) refl
 
 pub body-of-spec : {M : Type 1} → statement M
 body-of-spec =
@@ -95,9 +106,12 @@ body-of-spec =
     enum-told-5
     air-of-requires
     enum-told-6
+    status-of-requires
+    enum-told-7
     returns
     returns-2
     returns-3
     returns-4
     returns-5
-    returns-6)
+    returns-6
+    returns-7)

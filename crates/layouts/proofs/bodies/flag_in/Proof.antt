@@ -46,6 +46,9 @@ cast-result-4 c = search needs
 enum-told-6 : tie.Need-enum-told-6
 enum-told-6 c = search needs
 
+enum-told-7 : tie.Need-enum-told-7
+enum-told-7 c = search needs
+
 returns : tie.Need-returns
 returns c = let p = c .before .before in arm (p .before .args .me) (p .layout-of .ensures) (c .enum-told .given .1) refl
 
@@ -64,6 +67,9 @@ returns-5 c = let p = c .before .before in arm (p .before .args .me) (p .layout-
 returns-6 : tie.Need-returns-6
 returns-6 c = let p = c .before .before in arm (p .before .args .me) (p .layout-of .ensures) (c .enum-told6 .given .1) refl
 
+returns-7 : tie.Need-returns-7
+returns-7 c = let p = c .before .before in arm (p .before .args .me) (p .layout-of .ensures) (c .enum-told7 .given .1) refl
+
 pub flag-in-spec : {M : Type 1} → statement M
 flag-in-spec =
     tie.close
@@ -79,9 +85,11 @@ flag-in-spec =
     enum-told-5
     cast-result-4
     enum-told-6
+    enum-told-7
     returns
     returns-2
     returns-3
     returns-4
     returns-5
-    returns-6)
+    returns-6
+    returns-7)

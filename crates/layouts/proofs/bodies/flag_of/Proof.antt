@@ -21,6 +21,9 @@ enum-known-b-3 c = search needs
 enum-known-b-4 : tie.Need-enum-known-b-4
 enum-known-b-4 c = search needs
 
+enum-told-2 : tie.Need-enum-told-2
+enum-told-2 c = search needs
+
 returns : tie.Need-returns
 returns c = search needs
 
@@ -36,6 +39,9 @@ returns-4 c = sym (ap flagOf (c .before .b3 .given .1))
 returns-5 : tie.Need-returns-5
 returns-5 c = sym (ap flagOf (c .before .b4 .given .1))
 
+returns-6 : tie.Need-returns-6
+returns-6 c = search needs
+
 pub flag-of-spec : {M : Type 1} → statement M
 flag-of-spec =
     tie.close
@@ -45,8 +51,10 @@ flag-of-spec =
     enum-known-b-2
     enum-known-b-3
     enum-known-b-4
+    enum-told-2
     returns
     returns-2
     returns-3
     returns-4
-    returns-5)
+    returns-5
+    returns-6)

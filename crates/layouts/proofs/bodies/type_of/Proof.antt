@@ -21,6 +21,9 @@ enum-known-b-4 c = search needs
 enum-known-b-5 : tie.Need-enum-known-b-5
 enum-known-b-5 c = search needs
 
+enum-known-b-6 : tie.Need-enum-known-b-6
+enum-known-b-6 c = search needs
+
 returns : tie.Need-returns
 returns c = sym (ap bodyType (c .before .b .given .1))
 
@@ -36,6 +39,9 @@ returns-4 c = sym (ap bodyType (c .before .b4 .given .1))
 returns-5 : tie.Need-returns-5
 returns-5 c = sym (ap bodyType (c .before .b5 .given .1))
 
+returns-6 : tie.Need-returns-6
+returns-6 c = sym (ap bodyType (c .before .b6 .given .1))
+
 pub type-of-spec : {M : Type 1} → statement M
 type-of-spec =
     tie.close
@@ -45,8 +51,10 @@ type-of-spec =
     enum-known-b-3
     enum-known-b-4
     enum-known-b-5
+    enum-known-b-6
     returns
     returns-2
     returns-3
     returns-4
-    returns-5)
+    returns-5
+    returns-6)

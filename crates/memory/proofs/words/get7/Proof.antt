@@ -1,44 +1,28 @@
--- `memory::words::get7` meets its contract: four bytes and three more.
+-- `memory::words::get7` meets its contract: eight bytes without the first.
 -- Assumes nothing.
+use Prim.Native.Nat.{ℕ, suc, _-_, _/_}
 use native.Mathlib.Omega.{arith}
-use Rattle.memory.proofs.Numbers.{number-more}
+use mathlib.Core.Path.{_≡_, ap, _∙_}
+use Rattle.fields.specs.Bytes.{Bytes}
+use Rattle.memory.specs.Bytes.{numberAt}
+use Rattle.memory.proofs.Numbers.{number-rest}
 use borrow.Author.Needs.{needs}
 use Rattle.memory.proofs.words.get7.Statement.{statement}
 use Rattle.memory.proofs.words.get7.Tie as tie
 
-get4-requires : tie.Need-get4-requires
-get4-requires c κs = search needs
+sub-get8 : tie.Need-sub-get8
+sub-get8 c = search needs
 
-wider-requires : tie.Need-wider-requires
-wider-requires c κs = search needs
-
-add-get3 : tie.Need-add-get3
-add-get3 c = search needs
-
-get3-requires : tie.Need-get3-requires
-get3-requires c κs = search needs
-
-wider-requires-2 : tie.Need-wider-requires-2
-wider-requires-2 c κs = search needs
-
-mul-result : tie.Need-mul-result
-mul-result c = search needs
-
-add-result : tie.Need-add-result
-add-result c = search needs
+get8-requires : tie.Need-get8-requires
+get8-requires c κs = search needs
 
 returns : tie.Need-returns
-returns c = let a = c .before .before .before .before .before .args in omega (arith, number-more (a .s .now) (a .at) 3)
+returns c =
+    let start = c .before .before in
+    let a = start .args in
+    let h : Bytes (a .s .now) = λ i. omega (arith, c .before .shared-slice-known .given i) in
+    let e : suc (a .at - 1) ≡ a .at = omega (arith, start .pre .0) in
+    ap (λ (n : ℕ). n / 256) (c .get8 .ensures) ∙ number-rest 7 (a .s .now) (a .at - 1) h ∙ ap (numberAt 7 (a .s .now)) e
 
 pub get7-spec : {M : Type 1} → statement M
-get7-spec =
-    tie.close
-    (tie.spec
-    get4-requires
-    wider-requires
-    add-get3
-    get3-requires
-    wider-requires-2
-    mul-result
-    add-result
-    returns)
+get7-spec = tie.close (tie.spec sub-get8 get8-requires returns)

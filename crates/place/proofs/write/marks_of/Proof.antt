@@ -29,9 +29,30 @@ mul-result-2 c = search needs
 add-result-2 : tie.Need-add-result-2
 add-result-2 c = search needs
 
+cast-result-4 : tie.Need-cast-result-4
+cast-result-4 c = search needs
+
+mul-result-3 : tie.Need-mul-result-3
+mul-result-3 c = search needs
+
+add-result-3 : tie.Need-add-result-3
+add-result-3 c = search needs
+
+flag-requires-2 : tie.Need-flag-requires-2
+flag-requires-2 c κs = search needs
+
+cast-result-5 : tie.Need-cast-result-5
+cast-result-5 c = search needs
+
+mul-result-4 : tie.Need-mul-result-4
+mul-result-4 c = search needs
+
+add-result-4 : tie.Need-add-result-4
+add-result-4 c = search needs
+
 returns : tie.Need-returns
 unfolding marksOf
-returns c = rw (c .flag .ensures .0)
+returns c = rw (c .flag2 .ensures .0, c .before .before .flag .ensures .0)
 
 pub marks-of-spec : {M : Type 1} → statement M
 marks-of-spec =
@@ -45,4 +66,11 @@ marks-of-spec =
     cast-result-3
     mul-result-2
     add-result-2
+    cast-result-4
+    mul-result-3
+    add-result-3
+    flag-requires-2
+    cast-result-5
+    mul-result-4
+    add-result-4
     returns)

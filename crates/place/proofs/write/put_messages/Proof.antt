@@ -1,43 +1,54 @@
--- `place::write::put_messages` meets its contract: three stores in a row.
+-- `place::write::put_messages` meets its contract: four stores in a row, each but the last with a byte more, which the next one writes.
 -- Assumes nothing.
+use native.Mathlib.Omega.{arith}
 use Rattle.place.specs.Place.{messageBytes}
-use Rattle.memory.proofs.Numbers.{low-length}
-use Rattle.memory.proofs.Put.{put-then, put-after}
+use Rattle.memory.specs.Bytes.{lowBytes}
+use Rattle.memory.proofs.Put.{put-8-then, put-8-after}
 use borrow.Author.Needs.{needs}
 use Rattle.place.proofs.write.put_messages.Statement.{statement}
 use Rattle.place.proofs.write.put_messages.Tie as tie
 
-put7-requires : tie.Need-put7-requires
-put7-requires c κs = search needs
+put8-requires : tie.Need-put8-requires
+put8-requires c κs = search needs
+
+add-put8 : tie.Need-add-put8
+add-put8 c = search needs
+
+put8-requires-2 : tie.Need-put8-requires-2
+put8-requires-2 c κs = search needs
+
+add-put8-2 : tie.Need-add-put8-2
+add-put8-2 c = search needs
+
+put8-requires-3 : tie.Need-put8-requires-3
+put8-requires-3 c κs = search needs
 
 add-put7 : tie.Need-add-put7
 add-put7 c = search needs
 
-put7-requires-2 : tie.Need-put7-requires-2
-put7-requires-2 c κs = search needs
-
-add-put7-2 : tie.Need-add-put7-2
-add-put7-2 c = search needs
-
-put7-requires-3 : tie.Need-put7-requires-3
-put7-requires-3 c κs = search needs
+put7-requires : tie.Need-put7-requires
+put7-requires c κs = search needs
 
 same-length : tie.Need-same-length
 same-length c = search needs
 
 returns : tie.Need-returns
-unfolding messageBytes
-returns c = put-then _ _ 7 _ _ (low-length 7 _) (c .before .before .before .before .before .before .before .before .before .before .put7 .ensures)
-    (put-after _ _ 7 7 _ _ (low-length 7 _) (c .before .before .before .before .before .before .put72 .ensures) (c .before .before .put73 .ensures))
+unfolding messageBytes lowBytes
+returns c =
+    put-8-then _ _ _ _ (omega arith) (c .before .before .before .before .before .before .before .before .before .before .before .before .before .before .put8 .ensures)
+    (put-8-after _ _ 7 _ _ (omega arith) (c .before .before .before .before .before .before .before .before .before .before .put82 .ensures)
+    (put-8-after _ _ 14 _ _ (omega arith) (c .before .before .before .before .before .before .put83 .ensures) (c .before .before .put7 .ensures)))
 
 pub put-messages-spec : {M : Type 1} → statement M
 put-messages-spec =
     tie.close
     (tie.spec
-    put7-requires
+    put8-requires
+    add-put8
+    put8-requires-2
+    add-put8-2
+    put8-requires-3
     add-put7
-    put7-requires-2
-    add-put7-2
-    put7-requires-3
+    put7-requires
     same-length
     returns)

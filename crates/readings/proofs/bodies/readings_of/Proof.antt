@@ -36,6 +36,12 @@ enum-known-b-5 c = search needs
 air-readings-requires : tie.Need-air-readings-requires
 air-readings-requires c κs = search needs
 
+enum-known-b-6 : tie.Need-enum-known-b-6
+enum-known-b-6 c = search needs
+
+status-readings-requires : tie.Need-status-readings-requires
+status-readings-requires c κs = search needs
+
 returns : tie.Need-returns
 returns c = c .identification-readings .ensures (c .before .before .before .before .args .traffic) ∙ sym (ap (λ b. readingsOf b (c .before .before .before .before .args .traffic)) (c .before .before .b .given .1))
 
@@ -51,6 +57,9 @@ returns-4 c = c .ground-readings .ensures ∙ sym (ap (λ b. readingsOf b (c .be
 returns-5 : tie.Need-returns-5
 returns-5 c = c .air-readings .ensures ∙ sym (ap (λ b. readingsOf b (c .before .before .before .before .args .traffic)) (c .before .before .b5 .given .1))
 
+returns-6 : tie.Need-returns-6
+returns-6 c = c .status-readings .ensures (c .before .before .before .before .args .traffic) ∙ sym (ap (λ b. readingsOf b (c .before .before .before .before .args .traffic)) (c .before .before .b6 .given .1))
+
 pub readings-of-spec : {M : Type 1} → statement M
 readings-of-spec =
     tie.close
@@ -65,8 +74,11 @@ readings-of-spec =
     ground-readings-requires
     enum-known-b-5
     air-readings-requires
+    enum-known-b-6
+    status-readings-requires
     returns
     returns-2
     returns-3
     returns-4
-    returns-5)
+    returns-5
+    returns-6)

@@ -1,8 +1,6 @@
 -- `rows::held::give_held` meets its contract: by whether the key is held.
 -- Assumes nothing.
-use mathlib.Core.Bool.{Bool}
-use mathlib.Core.Path.{refl, ap, _∙_}
-use Rattle.rows.specs.Tracks.{trackRow}
+use mathlib.Core.Path.{refl}
 use Rattle.rows.specs.Held.{heldSaid}
 use Rattle.entries.proofs.Ways.{given-as, given-number, given-list}
 use borrow.Author.Needs.{needs}
@@ -11,9 +9,6 @@ use Rattle.rows.proofs.held.give_held.Tie as tie
 
 enum-told : tie.Need-enum-told
 enum-told c = search needs
-
-traffic-in-requires : tie.Need-traffic-in-requires
-traffic-in-requires c κs = search needs
 
 track-values-requires : tie.Need-track-values-requires
 track-values-requires c κs = search needs
@@ -45,9 +40,9 @@ same-length c = search needs
 returns : tie.Need-returns
 returns c =
     let p = c .before .before .before .before .before in
-    let a = p .before .before .before .before .before .args in
-    given-as (heldSaid (a .key) (a .t)) (a .out .now) (p .before .before .enum-told .given .1)
-    (given-list (a .out .now) (p .track-values .ensures ∙ ap (λ (b : Bool). trackRow b (a .t)) (p .before .traffic-in .ensures)) (c .before .before .give .ensures))
+    let a = p .before .before .before .before .args in
+    given-as (heldSaid (a .key) (a .t)) (a .out .now) (p .before .enum-told .given .1)
+    (given-list (a .out .now) (p .track-values .ensures) (c .before .before .give .ensures))
 
 same-length-2 : tie.Need-same-length-2
 same-length-2 c = search needs
@@ -63,7 +58,6 @@ give-held-spec =
     tie.close
     (tie.spec
     enum-told
-    traffic-in-requires
     track-values-requires
     slice-aggregate-give
     give-requires

@@ -39,6 +39,12 @@ enum-known-m-5 c = search needs
 air-four-requires : tie.Need-air-four-requires
 air-four-requires c κs = search needs
 
+enum-known-m-6 : tie.Need-enum-known-m-6
+enum-known-m-6 c = search needs
+
+status-four-requires : tie.Need-status-four-requires
+status-four-requires c κs = search needs
+
 enum-told : tie.Need-enum-told
 enum-told c = search needs
 
@@ -61,7 +67,10 @@ returns-5 : tie.Need-returns-5
 returns-5 c = c .air-four .ensures ∙ ap fourOf (sym (c .before .before .m5 .given .1) ∙ c .before .before .before .before .readings-of .ensures)
 
 returns-6 : tie.Need-returns-6
-returns-6 c = c .refused-four .ensures ∙ ap fourOf (sym (c .before .enum-told .given .1) ∙ c .before .before .before .readings-of .ensures)
+returns-6 c = c .status-four .ensures ∙ ap fourOf (sym (c .before .before .m6 .given .1) ∙ c .before .before .before .before .readings-of .ensures)
+
+returns-7 : tie.Need-returns-7
+returns-7 c = c .refused-four .ensures ∙ ap fourOf (sym (c .before .enum-told .given .1) ∙ c .before .before .before .readings-of .ensures)
 
 pub four-of-spec : {M : Type 1} → statement M
 four-of-spec =
@@ -78,6 +87,8 @@ four-of-spec =
     ground-four-requires
     enum-known-m-5
     air-four-requires
+    enum-known-m-6
+    status-four-requires
     enum-told
     refused-four-requires
     returns
@@ -85,4 +96,5 @@ four-of-spec =
     returns-3
     returns-4
     returns-5
-    returns-6)
+    returns-6
+    returns-7)

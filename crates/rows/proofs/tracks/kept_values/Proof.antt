@@ -1,9 +1,12 @@
 -- `rows::tracks::kept_values` meets its contract: the numbers stand in the definition's order.
 -- Assumes nothing.
+use mathlib.Core.Path.{ap, _∙_}
 use native.Mathlib.Omega.{arith}
 use mir.Syntax.{w32}
 use mir.Facts.{toZ-ofZ}
-use Rattle.rows.specs.Tracks.{keptRow}
+use Rattle.entries.specs.Twos.{twos}
+use Rattle.entries.specs.Means.{altitudeReading, stepReading}
+use Rattle.rows.proofs.Laid.{keeps}
 use borrow.Author.Needs.{needs}
 use Rattle.rows.proofs.tracks.kept_values.Statement.{statement}
 use Rattle.rows.proofs.tracks.kept_values.Tie as tie
@@ -38,49 +41,54 @@ cast-t18 c = search needs
 cast-t19 : tie.Need-cast-t19
 cast-t19 c = search needs
 
+cast-t20 : tie.Need-cast-t20
+cast-t20 c = search needs
+
 bit-requires : tie.Need-bit-requires
 bit-requires c κs = search needs
-
-twos-of-requires : tie.Need-twos-of-requires
-twos-of-requires c κs = search needs
-
-cast-t22 : tie.Need-cast-t22
-cast-t22 c = search needs
 
 bit-requires-2 : tie.Need-bit-requires-2
 bit-requires-2 c κs = search needs
 
+twos-of-requires : tie.Need-twos-of-requires
+twos-of-requires c κs = search needs
+
 cast-t24 : tie.Need-cast-t24
 cast-t24 c = search needs
-
-cast-t25 : tie.Need-cast-t25
-cast-t25 c = search needs
 
 bit-requires-3 : tie.Need-bit-requires-3
 bit-requires-3 c κs = search needs
 
+cast-t26 : tie.Need-cast-t26
+cast-t26 c = search needs
+
 cast-t27 : tie.Need-cast-t27
 cast-t27 c = search needs
 
-cast-t28 : tie.Need-cast-t28
-cast-t28 c = search needs
+bit-requires-4 : tie.Need-bit-requires-4
+bit-requires-4 c κs = search needs
+
+cast-t29 : tie.Need-cast-t29
+cast-t29 c = search needs
+
+cast-t30 : tie.Need-cast-t30
+cast-t30 c = search needs
 
 returns : tie.Need-returns
-unfolding keptRow
 returns c =
-    rw (
-      c .before .before .bit3 .ensures,
-      c .before .before .before .before .before .bit2 .ensures,
-      c .before .before .before .before .before .before .before .twos-of .ensures,
-      toZ-ofZ {w = w32} {z = c .before .before .before .before .before .before .before .before .before .before .before .before .before .before .before .before .before .before .before .before .before .before .before .args .t .position .spot .latitude} (record { sfits = omega (arith, c .before .before .before .before .before .before .before .before .struct-told .given) }),
-      c .before .before .before .before .before .before .before .before .before .bit .ensures,
-      c .before .before .before .before .before .before .before .before .before .before .before .before .step-reading2 .ensures,
-      c .before .before .before .before .before .before .before .before .before .before .before .before .before .altitude-reading2 .ensures,
-      c .before .before .before .before .before .before .before .before .before .before .before .before .before .before .step-reading .ensures,
-      c .before .before .before .before .before .before .before .before .before .before .before .before .before .before .before .altitude-reading .ensures,
-      c .before .before .before .before .before .before .before .before .before .before .before .before .before .before .before .before .altitude-of2 .ensures,
-      c .before .before .before .before .before .before .before .before .before .before .before .before .before .before .before .before .before .altitude-of .ensures,
-    )
+    let a = c .before .before .before .before .before .before .before .before .before .before .before .before .before .before .before .before .before .before .before .before .before .before .before .before .before .args in
+    let pressure = c .before .before .before .before .before .before .before .before .before .before .before .before .before .before .before .before .before .before .before .altitude-of .ensures in
+    let height = c .before .before .before .before .before .before .before .before .before .before .before .before .before .before .before .before .before .before .altitude-of2 .ensures in
+    keeps (a .t) _ _ _ _ _ _ _ _ _
+    (c .before .before .before .before .before .before .before .before .before .before .bit .ensures)
+    (c .before .before .before .before .before .before .before .before .before .bit2 .ensures)
+    (c .before .before .before .before .before .before .before .twos-of .ensures ∙ ap twos (toZ-ofZ {w = w32} {z = a .t .position .spot .latitude} (record { sfits = omega (arith, c .before .before .before .before .before .before .before .before .struct-told .given) })))
+    (c .before .before .before .before .before .bit3 .ensures)
+    (c .before .before .bit4 .ensures)
+    (c .before .before .before .before .before .before .before .before .before .before .before .before .before .before .before .before .before .altitude-reading .ensures ∙ ap altitudeReading pressure)
+    (c .before .before .before .before .before .before .before .before .before .before .before .before .before .before .before .before .step-reading .ensures ∙ ap stepReading pressure)
+    (c .before .before .before .before .before .before .before .before .before .before .before .before .before .before .before .altitude-reading2 .ensures ∙ ap altitudeReading height)
+    (c .before .before .before .before .before .before .before .before .before .before .before .before .before .before .step-reading2 .ensures ∙ ap stepReading height)
 
 pub kept-values-spec : {M : Type 1} → statement M
 kept-values-spec =
@@ -96,13 +104,15 @@ kept-values-spec =
     step-reading-requires-2
     cast-t18
     cast-t19
+    cast-t20
     bit-requires
-    twos-of-requires
-    cast-t22
     bit-requires-2
+    twos-of-requires
     cast-t24
-    cast-t25
     bit-requires-3
+    cast-t26
     cast-t27
-    cast-t28
+    bit-requires-4
+    cast-t29
+    cast-t30
     returns)

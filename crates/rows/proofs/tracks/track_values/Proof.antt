@@ -8,11 +8,17 @@ use Rattle.rows.proofs.tracks.track_values.Tie as tie
 kept-values-requires : tie.Need-kept-values-requires
 kept-values-requires c κs = search needs
 
+traffic-in-requires : tie.Need-traffic-in-requires
+traffic-in-requires c κs = search needs
+
 shown-values-requires : tie.Need-shown-values-requires
 shown-values-requires c κs = search needs
 
-array-read-t9 : tie.Need-array-read-t9
-array-read-t9 c = search needs
+kind-in-requires : tie.Need-kind-in-requires
+kind-in-requires c κs = search needs
+
+standard-values-requires : tie.Need-standard-values-requires
+standard-values-requires c κs = search needs
 
 array-read-t12 : tie.Need-array-read-t12
 array-read-t12 c = search needs
@@ -182,16 +188,51 @@ array-read-t174 c = search needs
 array-read-t177 : tie.Need-array-read-t177
 array-read-t177 c = search needs
 
+array-read-t180 : tie.Need-array-read-t180
+array-read-t180 c = search needs
+
+array-read-t183 : tie.Need-array-read-t183
+array-read-t183 c = search needs
+
+array-read-t186 : tie.Need-array-read-t186
+array-read-t186 c = search needs
+
+array-read-t189 : tie.Need-array-read-t189
+array-read-t189 c = search needs
+
+array-read-t192 : tie.Need-array-read-t192
+array-read-t192 c = search needs
+
+array-read-t195 : tie.Need-array-read-t195
+array-read-t195 c = search needs
+
+array-read-t198 : tie.Need-array-read-t198
+array-read-t198 c = search needs
+
+array-read-t201 : tie.Need-array-read-t201
+array-read-t201 c = search needs
+
+array-read-t204 : tie.Need-array-read-t204
+array-read-t204 c = search needs
+
+array-read-t207 : tie.Need-array-read-t207
+array-read-t207 c = search needs
+
 returns : tie.Need-returns
-returns c = let a = c .before .before .args in joined (a .traffic) (a .t) (c .before .kept-values .result) (c .shown-values .result) (c .before .kept-values .ensures) (c .shown-values .ensures)
+returns c =
+    let a = c .before .before .before .before .before .args in
+    joined (a .key) (a .t) (c .before .before .before .traffic-in .result) (c .before .kind-in .result) (c .before .before .before .before .kept-values .result) (c .before .before .shown-values .result) (c .standard-values .result)
+    (c .before .before .before .traffic-in .ensures) (c .before .kind-in .ensures) (c .before .before .before .before .kept-values .ensures) (c .before .before .shown-values .ensures) (c .standard-values .ensures)
 
 pub track-values-spec : {M : Type 1} → statement M
 track-values-spec =
     tie.close
     (tie.spec
     kept-values-requires
+    traffic-in-requires
     shown-values-requires
-    array-read-t9
+    kind-in-requires
+    standard-values-requires
     array-read-t12
     array-read-t15
     array-read-t18
@@ -248,4 +289,14 @@ track-values-spec =
     array-read-t171
     array-read-t174
     array-read-t177
+    array-read-t180
+    array-read-t183
+    array-read-t186
+    array-read-t189
+    array-read-t192
+    array-read-t195
+    array-read-t198
+    array-read-t201
+    array-read-t204
+    array-read-t207
     returns)

@@ -57,6 +57,15 @@ cut-requires-5 c κs = search needs
 enum-told-6 : tie.Need-enum-told-6
 enum-told-6 c = search needs
 
+slice-aggregate-cut-6 : tie.Need-slice-aggregate-cut-6
+slice-aggregate-cut-6 c = search needs
+
+cut-requires-6 : tie.Need-cut-requires-6
+cut-requires-6 c κs = search needs
+
+enum-told-7 : tie.Need-enum-told-7
+enum-told-7 c = search needs
+
 returns : tie.Need-returns
 returns c =
     c .cut .ensures ∙ ap (λ (l : Layout). filled 15 (unpack (layoutWidths l) (c .before .before .before .before .args .me))) (sym (c .before .before .enum-told .given .1))
@@ -78,7 +87,11 @@ returns-5 c =
     c .cut5 .ensures ∙ ap (λ (l : Layout). filled 15 (unpack (layoutWidths l) (c .before .before .before .before .args .me))) (sym (c .before .before .enum-told5 .given .1))
 
 returns-6 : tie.Need-returns-6
-returns-6 c = search needs
+returns-6 c =
+    c .cut6 .ensures ∙ ap (λ (l : Layout). filled 15 (unpack (layoutWidths l) (c .before .before .before .before .args .me))) (sym (c .before .before .enum-told6 .given .1))
+
+returns-7 : tie.Need-returns-7
+returns-7 c = search needs
 
 pub fields-in-spec : {M : Type 1} → statement M
 fields-in-spec =
@@ -100,9 +113,13 @@ fields-in-spec =
     slice-aggregate-cut-5
     cut-requires-5
     enum-told-6
+    slice-aggregate-cut-6
+    cut-requires-6
+    enum-told-7
     returns
     returns-2
     returns-3
     returns-4
     returns-5
-    returns-6)
+    returns-6
+    returns-7)

@@ -55,6 +55,15 @@ packed-requires-5 c κs = search needs
 enum-told-6 : tie.Need-enum-told-6
 enum-told-6 c = search needs
 
+slice-aggregate-packed-6 : tie.Need-slice-aggregate-packed-6
+slice-aggregate-packed-6 c = search needs
+
+packed-requires-6 : tie.Need-packed-requires-6
+packed-requires-6 c κs = search needs
+
+enum-told-7 : tie.Need-enum-told-7
+enum-told-7 c = search needs
+
 returns : tie.Need-returns
 unfolding packedAs
 returns c =
@@ -82,7 +91,12 @@ returns-5 c =
 
 returns-6 : tie.Need-returns-6
 unfolding packedAs
-returns-6 c = ap (λ (l : Layout). packedAs l (c .before .before .before .args .fields .now)) (sym (c .enum-told6 .given .1))
+returns-6 c =
+    c .packed6 .ensures ∙ ap (λ (l : Layout). packedAs l (c .before .before .before .before .before .args .fields .now)) (sym (c .before .before .enum-told6 .given .1))
+
+returns-7 : tie.Need-returns-7
+unfolding packedAs
+returns-7 c = ap (λ (l : Layout). packedAs l (c .before .before .before .args .fields .now)) (sym (c .enum-told7 .given .1))
 
 pub packed-as-spec : {M : Type 1} → statement M
 packed-as-spec =
@@ -104,9 +118,13 @@ packed-as-spec =
     slice-aggregate-packed-5
     packed-requires-5
     enum-told-6
+    slice-aggregate-packed-6
+    packed-requires-6
+    enum-told-7
     returns
     returns-2
     returns-3
     returns-4
     returns-5
-    returns-6)
+    returns-6
+    returns-7)

@@ -3,7 +3,7 @@
 use Prim.Native.Nat.{ℕ, _/_, _%_, _≤_}
 use native.Mathlib.Omega.{arith}
 use mathlib.Core.Logic.{⊎-elim}
-use mathlib.Core.Path.{_≡_, refl, sym}
+use mathlib.Core.Path.{_≡_, refl}
 use mathlib.Core.Bool.{Bool, true, false, _&&_, _||_}
 use lib.Dec.{leb, eqb}
 use borrow.Author.Tests.{le-leb, leb-true, leb-false, eq-eqb, eqb-true}
@@ -11,14 +11,10 @@ use Rattle.fields.specs.Packing.{me}
 use Rattle.fields.proofs.Bools.{each, either, both}
 use Rattle.layouts.specs.Velocity.{isGround, isAir}
 use Rattle.track.specs.Meaning.{givesVelocity}
+use Rattle.track.proofs.Alike.{alike}
 use borrow.Author.Needs.{needs}
 use Rattle.track.proofs.meaning.gives_velocity.Statement.{statement}
 use Rattle.track.proofs.meaning.gives_velocity.Tie as tie
-
-alike : (a b : Bool) → (a ≡ true → b ≡ true) → (b ≡ true → a ≡ true) → a ≡ b
-alike true b p q = sym (p refl)
-alike false true p q = q refl
-alike false false p q = refl
 
 -- a test of TYPE 19 and of a subtype from lo to hi
 velocity-in : (lo hi t s : ℕ) → eqb t 19 && leb lo s && leb s hi ≡ true → (t ≡ 19) × ((lo ≤ s) × (s ≤ hi))

@@ -23,12 +23,19 @@ gives-surface-requires c κs = search needs
 or-zero-requires-3 : tie.Need-or-zero-requires-3
 or-zero-requires-3 c κs = search needs
 
+gives-status-requires : tie.Need-gives-status-requires
+gives-status-requires c κs = search needs
+
+or-zero-requires-4 : tie.Need-or-zero-requires-4
+or-zero-requires-4 c κs = search needs
+
 returns : tie.Need-returns
 unfolding meantGroups
 returns c =
-    let velocity = c .before .before in
+    let surface = c .before .before in
+    let velocity = surface .before .before in
     let identification = velocity .before .before in
-    rw (c .or-zero3 .ensures, c .before .gives-surface .ensures, velocity .or-zero2 .ensures, velocity .before .gives-velocity .ensures, identification .or-zero .ensures, identification .before .gives-identification .ensures)
+    rw (c .or-zero4 .ensures, c .before .gives-status .ensures, surface .or-zero3 .ensures, surface .before .gives-surface .ensures, velocity .or-zero2 .ensures, velocity .before .gives-velocity .ensures, identification .or-zero .ensures, identification .before .gives-identification .ensures)
 
 pub meant-groups-spec : {M : Type 1} → statement M
 meant-groups-spec =
@@ -40,4 +47,6 @@ meant-groups-spec =
     or-zero-requires-2
     gives-surface-requires
     or-zero-requires-3
+    gives-status-requires
+    or-zero-requires-4
     returns)

@@ -1,0 +1,4 @@
+pub mod Promised
+pub mod Rows
+pub mod Rules
+pub mod Unique

@@ -1,0 +1,5 @@
+pub mod Code
+pub mod Integrity
+pub mod Said
+pub mod Standard
+pub mod Tables
