@@ -1,14 +1,18 @@
-"""The paper, "Positions". Angles are exact fractions of degrees until they are handed out."""
+"""The paper, "Positions". Angles are exact fractions of degrees until they are handed out.
+
+Where the paper says 2^17 the size of a count stands, which is 2^17 unless another is said.
+"""
 
 from decimal import Decimal, localcontext
 from fractions import Fraction
 from math import floor
 
-from refusals import Refused, fits
+from refusals import Refused
 
 EVEN, ODD = 0, 1  # F is 0 for even, 1 for odd; call it i
 AIRBORNE, SURFACE = 360, 90  # an airborne turn is 360 degrees, a surface turn 90
-COUNTS = 2**17
+COUNTS = 2**17  # a zone's, the size that is meant where none is said
+COARSE = 2**12  # request R-12: those of a coarse message, whose counts have 12 bits
 HALF = Fraction(1, 2)
 UNIT = Fraction(360, 2**32)  # places are in 2^-32 of a turn of 360 degrees
 STEP = Fraction(360, 1855979520)  # request R-5: all decoded latitudes are multiples of 1/1,855,979,520 of a turn
@@ -55,10 +59,10 @@ def latitude_test(latitude):
         raise Refused(8)
 
 
-def count_test(*counts):
-    """Pair and single decoding refuse counts above 131,071 with 8."""
-    for count in counts:
-        fits(count, 17)
+def count_test(size, *counts):
+    """Pair and single decoding refuse counts above 131,071 with 8; request R-12: coarse ones above 4,095."""
+    if any(not 0 <= count <= size - 1 for count in counts):
+        raise Refused(8)
 
 
 def pole_test(latitude):
@@ -75,101 +79,101 @@ def hand_out(latitude, longitude):
 # Encode
 
 
-def rounded(angle, z, turn):
+def rounded(angle, z, turn, size=COUNTS):
     """Take angle x Z / turn x 2^17 and round the product to nearest, half up."""
-    return nearest(angle * z / turn * COUNTS)
+    return nearest(angle * z / turn * size)
 
 
-def angle_of(whole, z, turn):
+def angle_of(whole, z, turn, size=COUNTS):
     """The whole number before the modulo x turn / Z / 2^17."""
-    return Fraction(whole * turn, z * COUNTS)
+    return Fraction(whole * turn, z * size)
 
 
-def rounded_place(turn, i, latitude, longitude):
+def rounded_place(turn, i, latitude, longitude, size=COUNTS):
     """The rounded place in degrees, with the two whole numbers before the modulo and NL."""
-    whole_latitude = rounded(latitude, zones(i), turn)
-    rounded_latitude = angle_of(whole_latitude, zones(i), turn)
+    whole_latitude = rounded(latitude, zones(i), turn, size)
+    rounded_latitude = angle_of(whole_latitude, zones(i), turn, size)
     nl = zone_count(rounded_latitude)
     n = longitude_zones(nl, i)
-    whole_longitude = rounded(longitude, n, turn)
-    return rounded_latitude, angle_of(whole_longitude, n, turn), whole_latitude, whole_longitude, nl
+    whole_longitude = rounded(longitude, n, turn, size)
+    return rounded_latitude, angle_of(whole_longitude, n, turn, size), whole_latitude, whole_longitude, nl
 
 
-def encode(turn, i, latitude, longitude):
+def encode(turn, i, latitude, longitude, size=COUNTS):
     """The two counts of a place: the whole numbers modulo 2^17."""
     latitude_test(latitude)
-    place = rounded_place(turn, i, latitude * UNIT, longitude * UNIT)
+    place = rounded_place(turn, i, latitude * UNIT, longitude * UNIT, size)
     _, _, whole_latitude, whole_longitude, _ = place
-    return whole_latitude % COUNTS, whole_longitude % COUNTS
+    return whole_latitude % size, whole_longitude % size
 
 
 # Pair, airborne only
 
 
-def latitude_zone(even, odd):
+def latitude_zone(even, odd, size=COUNTS):
     """j is (59 x even - 60 x odd)/2^17 + 1/2, rounded down."""
-    return floor(Fraction(59 * even - 60 * odd, COUNTS) + HALF)
+    return floor(Fraction(59 * even - 60 * odd, size) + HALF)
 
 
-def longitude_zone(even, odd, nl):
+def longitude_zone(even, odd, nl, size=COUNTS):
     """m is (even longitude x (NL-1) - odd longitude x NL)/2^17 + 1/2, rounded down."""
-    return floor(Fraction(even * (nl - 1) - odd * nl, COUNTS) + HALF)
+    return floor(Fraction(even * (nl - 1) - odd * nl, size) + HALF)
 
 
-def in_zone(zone, count, z, turn=AIRBORNE):
+def in_zone(zone, count, z, turn=AIRBORNE, size=COUNTS):
     """turn/Z x (zone + count/2^17)."""
-    return Fraction(turn, z) * (zone + Fraction(count, COUNTS))
+    return Fraction(turn, z) * (zone + Fraction(count, size))
 
 
-def paired_latitude(j, count, i):
+def paired_latitude(j, count, i, size=COUNTS):
     """360/Z x (j mod Z + count/2^17), less 360 from 270 up."""
-    latitude = in_zone(j % zones(i), count, zones(i))
+    latitude = in_zone(j % zones(i), count, zones(i), AIRBORNE, size)
     return latitude - 360 if latitude >= 270 else latitude
 
 
-def paired_place(later, even_latitude, even_longitude, odd_latitude, odd_longitude):
+def paired_place(later, even_latitude, even_longitude, odd_latitude, odd_longitude, size=COUNTS):
     """The place of the later message in degrees; both latitudes are tested for 9, then 10."""
-    count_test(even_latitude, even_longitude, odd_latitude, odd_longitude)
-    j = latitude_zone(even_latitude, odd_latitude)
-    latitudes = paired_latitude(j, even_latitude, EVEN), paired_latitude(j, odd_latitude, ODD)
+    count_test(size, even_latitude, even_longitude, odd_latitude, odd_longitude)
+    j = latitude_zone(even_latitude, odd_latitude, size)
+    latitudes = paired_latitude(j, even_latitude, EVEN, size), paired_latitude(j, odd_latitude, ODD, size)
     for latitude in latitudes:
         pole_test(latitude)
     nl = zone_count(latitudes[EVEN])
     if nl != zone_count(latitudes[ODD]):
         raise Refused(10)
-    m = longitude_zone(even_longitude, odd_longitude, nl)
+    m = longitude_zone(even_longitude, odd_longitude, nl, size)
     n = longitude_zones(nl, later)
     count = (even_longitude, odd_longitude)[later]
-    return latitudes[later], in_zone(m % n, count, n)
+    return latitudes[later], in_zone(m % n, count, n, AIRBORNE, size)
 
 
-def pair(later, *four_counts):
+def pair(later, *four_counts, size=COUNTS):
     """The place of the later message, given by its F, handed out."""
-    return hand_out(*paired_place(later, *four_counts))
+    return hand_out(*paired_place(later, *four_counts, size))
 
 
 # Single
 
 
-def nearby(count, reference, z, turn):
+def nearby(count, reference, z, turn, size=COUNTS):
     """The zone is 1/2 + reference x Z/turn - count/2^17, rounded down."""
-    zone = floor(HALF + reference * z / turn - Fraction(count, COUNTS))
-    return in_zone(zone, count, z, turn)
+    zone = floor(HALF + reference * z / turn - Fraction(count, size))
+    return in_zone(zone, count, z, turn, size)
 
 
-def single_place(turn, i, latitude_count, longitude_count, reference_latitude, reference_longitude):
+def single_place(turn, i, latitude_count, longitude_count, reference_latitude, reference_longitude, size=COUNTS):
     """The place in degrees; longitude with n, NL being the decoded latitude's, modulo 360."""
     latitude_test(reference_latitude)
-    count_test(latitude_count, longitude_count)
-    latitude = nearby(latitude_count, reference_latitude * UNIT, zones(i), turn)
+    count_test(size, latitude_count, longitude_count)
+    latitude = nearby(latitude_count, reference_latitude * UNIT, zones(i), turn, size)
     pole_test(latitude)
     n = longitude_zones(zone_count(latitude), i)
-    return latitude, nearby(longitude_count, reference_longitude * UNIT, n, turn) % 360
+    return latitude, nearby(longitude_count, reference_longitude * UNIT, n, turn, size) % 360
 
 
-def single(turn, i, *counts_and_reference):
+def single(turn, i, *counts_and_reference, size=COUNTS):
     """The place of one message near the reference, handed out."""
-    return hand_out(*single_place(turn, i, *counts_and_reference))
+    return hand_out(*single_place(turn, i, *counts_and_reference, size))
 
 
 # The published formula: a test compares the table with it

@@ -29,7 +29,7 @@ import table as lent_table
 import tracks
 import traffic
 from parity import GENERATOR, remainder, seal, sealed
-from positions import AIRBORNE, COUNTS, EVEN, FIGURES, ODD, STEP, SURFACE, UNIT, zone_count, zones
+from positions import AIRBORNE, COARSE, COUNTS, EVEN, FIGURES, ODD, STEP, SURFACE, UNIT, zone_count, zones
 from refusals import Refused, answer
 from tracks import Position, Saved, Track
 from traffic import ANOTHER, GROUND, ICAO, MODE_A, OTHER, TRANSPONDER
@@ -403,15 +403,16 @@ def position_rows():
 
 
 def last_longitudes():
-    """Request R-11: every longitude is short of a turn by more than half a unit: every n, zone by zone, the outermost counts."""
-    for turn, shortfall, handed in ((AIRBORNE, 555, 555), (SURFACE, 138, 139)):
+    """Requests R-11, R-12: every longitude is short of a turn by more than half a unit: every n, zone by zone, the outermost counts."""
+    figures = (AIRBORNE, COUNTS, 555, 555), (SURFACE, COUNTS, 138, 139), (AIRBORNE, COARSE, 17772, 17772), (SURFACE, COARSE, 4443, 4443)
+    for turn, size, shortfall, handed in figures:
         least, last = Fraction(360), 0
         for n in range(1, 60):
             for zone in range(n * 360 // turn):
-                for count in (0, 1, COUNTS - 2, COUNTS - 1):
-                    longitude = positions.in_zone(zone, count, n, turn)
+                for count in (0, 1, size - 2, size - 1):
+                    longitude = positions.in_zone(zone, count, n, turn, size)
                     least, last = min(least, 360 - longitude), max(last, positions.hand_out(0, longitude)[1])
-            equal(f"the last of n = {n}", 360 - longitude, Fraction(turn, n * COUNTS))
+            equal(f"the last of n = {n}", 360 - longitude, Fraction(turn, n * size))
         true("more than half a unit", least > UNIT / 2)
         equal("the least shortfall, whole units", floor(least / UNIT), shortfall)
         equal("the last longitude handed out", last, 2**32 - handed)
@@ -419,23 +420,23 @@ def last_longitudes():
         equal(f"the last of {m} counts", positions.hand_out(0, 360 * Fraction(m - 1, m))[1], 2**32 - (m < 2**33))
 
 
-def published_encode(turn, i, latitude, longitude):
+def published_encode(turn, i, latitude, longitude, size):
     """Encoding as the standard prints it: YZ = floor(2^17 MOD(lat, D)/D + 1/2), Rlat, XZ; modulo 2^17."""
-    scale = COUNTS * AIRBORNE // turn  # 2^17, on the surface 2^19
+    scale = size * AIRBORNE // turn  # 2^17, on the surface 2^19; 2^12 and 2^14 of coarse counts
     step = Fraction(360, 60 - i)
     yz = floor(scale * (latitude % step) / step + Fraction(1, 2))
     rlat = step * (Fraction(yz, scale) + floor(latitude / step))
     step = Fraction(360, max(zone_count(rlat) - i, 1))
     xz = floor(scale * (longitude % step) / step + Fraction(1, 2))
-    return yz % COUNTS, xz % COUNTS
+    return yz % size, xz % size
 
 
-def published_single(turn, i, latitude_count, longitude_count, latitude, longitude):
+def published_single(turn, i, latitude_count, longitude_count, latitude, longitude, size):
     """Reading near a reference as the standard prints it, with MOD."""
 
     def near(count, reference, step):
-        zone = floor(reference / step) + floor(Fraction(1, 2) + reference % step / step - Fraction(count, COUNTS))
-        return step * (zone + Fraction(count, COUNTS))
+        zone = floor(reference / step) + floor(Fraction(1, 2) + reference % step / step - Fraction(count, size))
+        return step * (zone + Fraction(count, size))
 
     rlat = near(latitude_count, latitude, Fraction(turn, 60 - i))
     if abs(rlat) > 90:
@@ -462,7 +463,7 @@ def around(one, other):
     return min((one - other) % 360, (other - one) % 360)
 
 
-def position_laws():
+def position_laws(size):
     """Encoding one place both ways and pairing; half a count; single; the standard's own forms."""
     chance = Random(13)
     both = {AIRBORNE: 0, SURFACE: 0}
@@ -471,67 +472,67 @@ def position_laws():
         for turn in (AIRBORNE, SURFACE):
             nls, rounded_places, counts = [], [], []
             for i in (EVEN, ODD):
-                rlat, rlon, _, _, nl = positions.rounded_place(turn, i, *true_place)
+                rlat, rlon, _, _, nl = positions.rounded_place(turn, i, *true_place, size)
                 nls.append(nl)
                 rounded_places.append((rlat, rlon % 360))
-                mine = positions.encode(turn, i, latitude, longitude)
+                mine = positions.encode(turn, i, latitude, longitude, size)
                 counts += mine
-                equal("as the standard encodes", mine, published_encode(turn, i, *true_place))
+                equal("as the standard encodes", mine, published_encode(turn, i, *true_place, size))
                 n = max(nl - i, 1)
-                half_counts = Fraction(turn, 2 * zones(i) * COUNTS), Fraction(turn, 2 * n * COUNTS)
+                half_counts = Fraction(turn, 2 * zones(i) * size), Fraction(turn, 2 * n * size)
                 true("half a count of latitude", abs(rlat - true_place[0]) <= half_counts[0])
                 true("half a count of longitude", around(rlon, true_place[1]) <= half_counts[1])
-                place = positions.single_place(turn, i, *mine, latitude, longitude)
+                place = positions.single_place(turn, i, *mine, latitude, longitude, size)
                 equal("single at the place", place, rounded_places[-1])
             if turn == SURFACE:
                 continue
             for later in (EVEN, ODD):
                 if nls[EVEN] != nls[ODD]:
                     both[turn] += 1
-                    refused(10, positions.paired_place, later, *counts)
+                    refused(10, positions.paired_place, later, *counts, size)
                 else:
-                    equal("paired", positions.paired_place(later, *counts), rounded_places[later])
+                    equal("paired", positions.paired_place(later, *counts, size), rounded_places[later])
     true("some places differ in NL", both[AIRBORNE] > 20)
     for _ in range(600):
         turn, i = chance.choice((AIRBORNE, SURFACE)), chance.choice((EVEN, ODD))
-        counts = position_vectors.random_counts(chance, 2)
+        counts = position_vectors.random_counts(chance, 2, size)
         reference = position_vectors.random_latitude(chance), chance.getrandbits(32)
-        due = published_single(turn, i, *counts, reference[0] * UNIT, reference[1] * UNIT)
+        due = published_single(turn, i, *counts, reference[0] * UNIT, reference[1] * UNIT, size)
         if due is None:
-            refused(9, positions.single_place, turn, i, *counts, *reference)
+            refused(9, positions.single_place, turn, i, *counts, *reference, size)
             continue
-        place = positions.single_place(turn, i, *counts, *reference)
+        place = positions.single_place(turn, i, *counts, *reference, size)
         equal("as the standard reads it", place, due)
         half = Fraction(turn, 2 * zones(i))
         true("within half a zone", -half < place[0] - reference[0] * UNIT <= half)
 
 
-def position_ties():
+def position_ties(size):
     """Halves: j and m go up, a reference half a zone below the place still gives it."""
     chance = Random(15)
-    for _, _, even, even_longitude, odd, odd_longitude in position_vectors.half_zones(chance):
-        j = positions.latitude_zone(even, odd)
+    for _, _, even, even_longitude, odd, odd_longitude in position_vectors.half_zones(chance, size):
+        j = positions.latitude_zone(even, odd, size)
         exactly = 59 * even - 60 * odd
-        if exactly % COUNTS == COUNTS // 2:
-            equal("halfway j", j * COUNTS, exactly + COUNTS // 2)
-        nl = zone_count(positions.paired_latitude(j, even, EVEN))
-        m = positions.longitude_zone(even_longitude, odd_longitude, nl)
+        if exactly % size == size // 2:
+            equal("halfway j", j * size, exactly + size // 2)
+        nl = zone_count(positions.paired_latitude(j, even, EVEN, size))
+        m = positions.longitude_zone(even_longitude, odd_longitude, nl, size)
         exactly = even_longitude * (nl - 1) - odd_longitude * nl
-        if exactly % COUNTS == COUNTS // 2:
-            equal("halfway m", m * COUNTS, exactly + COUNTS // 2)
+        if exactly % size == size // 2:
+            equal("halfway m", m * size, exactly + size // 2)
     for turn in (AIRBORNE, SURFACE):
         for i in (EVEN, ODD):
             for _ in range(50):
-                reference, count = position_vectors.boundary(chance, zones(i), turn, -(2**30), 2**30)
-                place = positions.nearby(count, reference * UNIT, zones(i), turn)
+                reference, count = position_vectors.boundary(chance, zones(i), turn, -(2**30), 2**30, size)
+                place = positions.nearby(count, reference * UNIT, zones(i), turn, size)
                 equal("half a zone ahead", place - reference * UNIT, Fraction(turn, 2 * zones(i)))
 
 
-def refusals_of_positions():
+def refusals_of_positions(size):
     """8 before 9 and 10; and 9 never meets 10, since the two latitudes lie within 360/7080 degrees."""
     chance = Random(14)
-    for question in position_vectors.refused(chance):
-        wide_count = any(count >= COUNTS for count in question[2 : 6 if question[0] == 2 else 4])
+    for question in position_vectors.refused(chance, size):
+        wide_count = any(count >= size for count in question[2 : 6 if question[0] == 2 else 4])
         if question[0] in (0, 1):
             due = abs(question[2]) > 2**30
         elif question[0] == 2:
@@ -540,13 +541,21 @@ def refusals_of_positions():
             due = wide_count or abs(question[4]) > 2**30
         equal(f"8 for {question}", answer(position_vectors.answered, *question) == "refused 8", due)
     for _ in range(2000):
-        even, odd = position_vectors.random_counts(chance, 2)
-        j = positions.latitude_zone(even, odd)
-        latitudes = positions.paired_latitude(j, even, EVEN), positions.paired_latitude(j, odd, ODD)
+        even, odd = position_vectors.random_counts(chance, 2, size)
+        j = positions.latitude_zone(even, odd, size)
+        latitudes = positions.paired_latitude(j, even, EVEN, size), positions.paired_latitude(j, odd, ODD, size)
         true("-90 and up, below 270", all(-90 <= latitude < 270 for latitude in latitudes))
         true("within half a step", around(*latitudes) <= Fraction(360, 60 * 59 * 2))
         if max(latitudes) > 90:
             equal("NL beyond the pole", [zone_count(latitude) for latitude in latitudes], [1, 1])
+
+
+def positions_by_size():
+    """Fine counts, and request R-12's coarse ones."""
+    for size in (COUNTS, COARSE):
+        position_laws(size)
+        position_ties(size)
+        refusals_of_positions(size)
 
 
 # Tracks
@@ -1268,9 +1277,7 @@ TESTS = [
     steps,
     position_rows,
     last_longitudes,
-    position_laws,
-    position_ties,
-    refusals_of_positions,
+    positions_by_size,
     track_edges,
     track_rules,
     lost_positions,

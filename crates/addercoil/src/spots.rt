@@ -6,6 +6,7 @@ use positions::Counts;
 use positions::Encoded;
 use positions::Format;
 use positions::Found;
+use positions::Size;
 use positions::Spot;
 use positions::Turn;
 ghost use mathlib.Core.Path.{_≡_};
@@ -75,7 +76,7 @@ pub extern "C" fn addercoil_encode_position(
         latitude: latitude,
         longitude: longitude,
     };
-    let answer = positions::encode(spot, turn_of(surface), format_of(odd));
+    let answer = positions::encode(Size::Fine, spot, turn_of(surface), format_of(odd));
     give_counts(out, answer)
 }
 
@@ -105,7 +106,10 @@ pub extern "C" fn addercoil_pair(
         latitude: LatitudeCount(odd_latitude),
         longitude: LongitudeCount(odd_longitude),
     };
-    give_spot(out, positions::pair(even, odd, format_of(later_odd)))
+    give_spot(
+        out,
+        positions::pair(Size::Fine, even, odd, format_of(later_odd)),
+    )
 }
 
 // The spot of one message near a reference, into 2 entries. Or 1, then 8, 9.
@@ -135,6 +139,12 @@ pub extern "C" fn addercoil_single(
         latitude: LatitudeCount(count_latitude),
         longitude: LongitudeCount(count_longitude),
     };
-    let answer = positions::single(reference, counts, turn_of(surface), format_of(odd));
+    let answer = positions::single(
+        Size::Fine,
+        reference,
+        counts,
+        turn_of(surface),
+        format_of(odd),
+    );
     give_spot(out, answer)
 }

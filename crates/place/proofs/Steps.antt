@@ -15,6 +15,7 @@ use Rattle.refusals.specs.Numbers.{numberOf}
 use Rattle.fields.proofs.Bools.{each, by-test}
 use Rattle.positions.specs.declared.Counts.{Counts}
 use Rattle.positions.specs.declared.Spot.{Spot}
+use Rattle.positions.specs.declared.Size.the-variants.{Fine}
 use Rattle.positions.specs.declared.Turn.{Turn}
 use Rattle.positions.specs.declared.Turn.the-variants as turn
 use Rattle.positions.specs.declared.Format.{Format}
@@ -161,9 +162,9 @@ paired-fits even odd later =
 
 singly-fits : (s : Spot) (c : Counts) (k : Turn) (f : Format) → FitsFound (singly 131072 s c k f)
 singly-fits s c k f =
-    spot-fits (singleZones 131072 s c k f) (singleExact 131072 s c k f) (lastShort k - 1) (singly 131072 s c k f)
+    spot-fits (singleZones 131072 s c k f) (singleExact 131072 s c k f) (lastShort Fine k - 1) (singly 131072 s c k f)
     (singly-polar s c k f)
-    (singly-handed 131072 (lastShort k - 1) k (last-room k) (omega arith) s c f)
+    (singly-handed 131072 (lastShort Fine k - 1) k (last-room Fine k) (omega arith) s c f)
 
 -- ---- the position
 

@@ -1,7 +1,8 @@
 // Answers questions about positions from standard input, 18 bytes each, with a line each.
 //
 // Byte 0 is the question: 0 encode airborne, 1 encode surface, 2 pair, 3 single airborne, 4 single surface, 5 to degrees,
-// 6 from degrees. Byte 1 is F; for a pair it is F of the later message. Four numbers of four bytes follow, high byte first:
+// 6 from degrees. Byte 1 is F, and 2 more for coarse counts; for a pair it is F of the later message. Four numbers of four
+// bytes follow, high byte first:
 //   encode and to degrees: latitude and longitude; pair: the even counts, then the odd ones; single: the counts, then the
 //   reference; from degrees: the bit patterns of latitude and longitude, of two numbers each.
 // A latitude of a spot is signed, in two's complement. Degrees are written as bit patterns in hex.
@@ -15,6 +16,7 @@ use positions::Counts;
 use positions::Encoded;
 use positions::Format;
 use positions::Found;
+use positions::Size;
 use positions::Spot;
 use positions::Turn;
 use refusals::Refusal;
@@ -94,7 +96,15 @@ fn degrees_at(record: &[u8; 18]) -> Degrees {
 }
 
 fn format_of(f: u8) -> Format {
-    if f == 0 { Format::Even } else { Format::Odd }
+    if f % 2 == 0 {
+        Format::Even
+    } else {
+        Format::Odd
+    }
+}
+
+fn size_of(f: u8) -> Size {
+    if f < 2 { Size::Fine } else { Size::Coarse }
 }
 
 fn say_signed(z: i32) {
@@ -154,17 +164,20 @@ fn say_degrees(a: InDegrees) {
 fn answer(record: &[u8; 18]) {
     let question = record[0];
     let format = format_of(record[1]);
+    let size = size_of(record[1]);
     match question {
-        0 => say_encoded(positions::encode(spot_at(record, 2), Turn::Airborne, format)),
-        1 => say_encoded(positions::encode(spot_at(record, 2), Turn::Surface, format)),
-        2 => say_found(positions::pair(counts_at(record, 2), counts_at(record, 10), format)),
+        0 => say_encoded(positions::encode(size, spot_at(record, 2), Turn::Airborne, format)),
+        1 => say_encoded(positions::encode(size, spot_at(record, 2), Turn::Surface, format)),
+        2 => say_found(positions::pair(size, counts_at(record, 2), counts_at(record, 10), format)),
         3 => say_found(positions::single(
+            size,
             spot_at(record, 10),
             counts_at(record, 2),
             Turn::Airborne,
             format,
         )),
         4 => say_found(positions::single(
+            size,
             spot_at(record, 10),
             counts_at(record, 2),
             Turn::Surface,

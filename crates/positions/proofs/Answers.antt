@@ -5,7 +5,7 @@ use mathlib.Core.Bool.{true, false, _||_}
 use mathlib.Core.Logic.{⊎-elim}
 use Prim.Native.Nat.{ℕ, _+_, _*_, _%_, _≤_, _<_}
 use native.Mathlib.Omega.{arith}
-use lib.Dec.{ltb, lit<}
+use lib.Dec.{ltb}
 use lib.IntN.{ℤ, pos, subℕ}
 use borrow.Author.Tests.{ltb-true, ltb-false, eq-eqb, ne-eqb}
 use Rattle.refusals.specs.declared.Refusal.the-variants.{Latitude, Zones}
@@ -57,13 +57,13 @@ module _ (up z n longitude zone c : ℕ) (some : 0 < n) (small : c < 131072) {y 
   near-spot ezone ey ex = same ey (ex ∙ rw (ezone, near-longitude 131072 n longitude c (omega arith) some small))
 
 -- the counts of a spot
-module _ (k : Turn) (f : Format) (up longitude lz z y NL lo n x : ℕ) where
+module _ (P : ℕ) (p : 0 < P) (k : Turn) (f : Format) (up longitude lz z y NL lo n x : ℕ) where
   pub counts :
-      lz ≡ latitudeZones f → z ≡ allRound k lz → whole 131072 z (subℕ up units) ≡ subℕ y (z * 131072) →
-      NL ≡ zoneCount (z * 131072) (subℕ y (z * 131072)) → lo ≡ longitudeZones f NL → n ≡ allRound k lo → whole 131072 n (pos longitude) ≡ pos x →
-      _≡_ {A = Counts} (record { latitude = record { 0 = y % 131072 }; longitude = record { 0 = x % 131072 } }) (countsOf 131072 (spot (subℕ up units) longitude) k f)
+      lz ≡ latitudeZones f → z ≡ allRound k lz → whole P z (subℕ up units) ≡ subℕ y (z * P) →
+      NL ≡ zoneCount (z * P) (subℕ y (z * P)) → lo ≡ longitudeZones f NL → n ≡ allRound k lo → whole P n (pos longitude) ≡ pos x →
+      _≡_ {A = Counts} (record { latitude = record { 0 = y % P }; longitude = record { 0 = x % P } }) (countsOf P (spot (subℕ up units) longitude) k f)
   unfolding countsOf count spotZones modulo
-  counts elz ez ey eNL elo en ex = rw (← elz, ← ez, ey, ← eNL, ← elo, ← en, ex, sub-modulo y z 131072 (lit< tt))
+  counts elz ez ey eNL elo en ex = rw (← elz, ← ez, ey, ← eNL, ← elo, ← en, ex, sub-modulo y z P p)
 
 pub fit-counts : (P : ℕ) (c : Counts) → fit P c ≡ true → (c .latitude .0 < P) × (c .longitude .0 < P)
 fit-counts P c e =

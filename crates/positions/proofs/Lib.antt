@@ -9,6 +9,7 @@ pub mod Pairing
 pub mod Promised
 pub mod RoundTrip
 pub mod Rounding
+pub mod Scaled
 pub mod Shift
 pub mod Short
 pub mod Signed

@@ -2,7 +2,7 @@
 -- Before the wrap at 270 degrees the two latitudes of any pair are at most half of one of 60 * 59 zones apart, 0.051 degrees:
 -- so if one is past a pole, the other is past 87 degrees. All numbers are known but the two counts, so `omega` does the cases.
 -- Assumes nothing.
-use mathlib.Core.Path.{_≡_, sym, ap, _∙_}
+use mathlib.Core.Path.{_≡_, sym, ap, ap₂, _∙_}
 use mathlib.Core.Bool.{false, _&&_}
 use mathlib.Core.Logic.{_⊎_, inl, inr, ⊎-elim}
 use Prim.Native.Nat.{ℕ, _+_, _-_, _*_, _/_, _%_, _≤_, _<_}
@@ -13,14 +13,17 @@ use lib.Dec.{lit<, lit≤}
 use lib.IntN.{natAbs}
 use borrow.Author.Tests.{leb-false}
 use Rattle.positions.specs.declared.Format.the-variants.{Even, Odd}
+use Rattle.positions.specs.declared.Size.{Size}
+use Rattle.positions.specs.declared.Size.the-variants.{Fine, Coarse}
 use Rattle.positions.specs.Whole.{modulo}
 use Rattle.positions.specs.Code.{nearestℕ}
 use Rattle.positions.specs.Zones.{latitudes, zoneCount}
-use Rattle.positions.specs.Positions.{inside, pairZone, inZone, less360, pairLatitude, pairNL}
+use Rattle.positions.specs.Positions.{countSize, inside, pairZone, inZone, less360, pairLatitude, pairNL}
 use Rattle.fields.proofs.Bools.{not-each}
 use Rattle.positions.proofs.Shift.{order, abs-is}
 use Rattle.positions.proofs.Naturals.{pair-zone-is, less-high, less-low}
 use Rattle.positions.proofs.Latitudes.{latitudes-rise, passed, reached}
+use Rattle.positions.proofs.Scaled.{count-scale, in-scale}
 
 -- the positions x / (60 * 131072) and y / (59 * 131072) of 360 degrees are at most half of one of 60 * 59 zones apart
 abbrev Close : ℕ → ℕ → Type 0
@@ -149,11 +152,10 @@ module _ (a b : ℕ) (ha : a < 131072) (hb : b < 131072) where
       one 7864320 (u * 131072 + a) (omega arith) (omega arith) (omega arith) ∙ sym (one 7733248 (t * 131072 + b) (omega arith) (omega arith) (omega arith)))
       p
 
-  -- where either latitude is outside, the two have one NL
-  pub nine-is-never-ten : (inside (60 * 131072) (pairLatitude 131072 Even a b) && inside (59 * 131072) (pairLatitude 131072 Odd a b)) ≡ false →
+  fine-order : (inside (60 * 131072) (pairLatitude 131072 Even a b) && inside (59 * 131072) (pairLatitude 131072 Odd a b)) ≡ false →
       pairNL 131072 Even a b ≡ pairNL 131072 Odd a b
   unfolding pairLatitude inZone
-  nine-is-never-ten e =
+  fine-order e =
       let ue = u-lt in
       let te = t-lt in
       ⊎-elim
@@ -164,3 +166,13 @@ module _ (a b : ℕ) (ha : a < 131072) (hb : b < 131072) where
       let p = past 7733248 (t * 131072 + b) (omega arith) f in
       both-one (odd-past a b j u t ha hb (omega arith) (omega arith) u-is t-is (p .0) (p .1)) (inr p))
       (not-each (inside 7864320 (less360 7864320 (u * 131072 + a))) (inside 7733248 (less360 7733248 (t * 131072 + b))) e)
+
+-- where either latitude is outside, the two have one NL; of coarse counts by the law of Scaled
+pub nine-is-never-ten : (size : Size) (a b : ℕ) → a < countSize size → b < countSize size
+    → (inside (60 * countSize size) (pairLatitude (countSize size) Even a b) && inside (59 * countSize size) (pairLatitude (countSize size) Odd a b)) ≡ false
+    → pairNL (countSize size) Even a b ≡ pairNL (countSize size) Odd a b
+nine-is-never-ten Fine a b ha hb e = fine-order a b ha hb e
+nine-is-never-ten Coarse a b ha hb e =
+    let zones = count-scale 32 (lit< tt) 4096 (lit< tt) in
+    let tests = in-scale 32 (lit< tt) 4096 (lit< tt) in
+    sym (zones Even a b) ∙ fine-order (a * 32) (b * 32) (omega arith) (omega arith) (ap₂ _&&_ (tests Even a b) (tests Odd a b) ∙ e) ∙ zones Odd a b

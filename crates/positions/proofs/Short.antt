@@ -14,13 +14,15 @@ use Rattle.positions.specs.declared.Turn.{Turn}
 use Rattle.positions.specs.declared.Turn.the-variants.{Airborne, Surface}
 use Rattle.positions.specs.declared.Format.{Format}
 use Rattle.positions.specs.declared.Format.the-variants.{Even, Odd}
+use Rattle.positions.specs.declared.Size.{Size}
+use Rattle.positions.specs.declared.Size.the-variants.{Fine, Coarse}
 use Rattle.positions.specs.declared.Counts.{Counts}
 use Rattle.positions.specs.declared.Found.{Found}
 use Rattle.positions.specs.declared.Found.the-variants.{Refused}
 use Rattle.positions.specs.Whole.{floor, modulo, nearest}
 use Rattle.positions.specs.Zones.{zoneCount}
 use Rattle.positions.specs.Code.{nearestℕ}
-use Rattle.positions.specs.Positions.{units, own, latitudeZones, longitudeZones, allRound, poleToPole, rounded, roundedTurn, inside, pairZone, inZone, pairLatitude, pairLongitude, pairNL, pairSpot, pairFound, fit, paired, near, nearSpot, nearFound, singly}
+use Rattle.positions.specs.Positions.{units, countSize, own, latitudeZones, longitudeZones, allRound, poleToPole, rounded, roundedTurn, inside, pairZone, inZone, pairLatitude, pairLongitude, pairNL, pairSpot, pairFound, fit, paired, near, nearSpot, nearFound, singly}
 use Rattle.positions.specs.Rounded.{ShortBy, Room, Handed, HandedBy, pairZones, pairExact, singleZones, singleExact, lastShort}
 use Rattle.fields.proofs.Bools.{each, by-test}
 use Rattle.positions.proofs.Shift.{modulo-lt}
@@ -68,6 +70,10 @@ airborne-short n zone c m l s = short-by 1110 (n * 131072) (zone * 131072 + c) (
 
 pub surface-short : (n zone c : ℕ) → n ≤ 59 → zone < 4 * n → c < 131072 → ShortBy 277 (4 * n * 131072) (zone * 131072 + c)
 surface-short n zone c m l s = short-by 277 (4 * n * 131072) (zone * 131072 + c) (in-turn 131072 (4 * n) zone c l s) (omega arith)
+
+-- of counts of 2^12 more than 17,772 units
+pub coarse-short : (n zone c : ℕ) → n ≤ 59 → zone < n → c < 4096 → ShortBy 35544 (n * 4096) (zone * 4096 + c)
+coarse-short n zone c m l s = short-by 35544 (n * 4096) (zone * 4096 + c) (in-turn 4096 n zone c l s) (omega arith)
 
 -- ---- what is handed out, at any count size
 
@@ -141,16 +147,23 @@ module _ (P u : ℕ) where
       (λ _. tt))
       (λ _. tt)
 
--- ---- the figure, of counts of 2^17 and n zones to a turn, up to 59: handed out, 555 units or more in the air and 139 on the surface
+-- ---- the figure, of n zones to a turn, up to 59: handed out, 555 units or more in the air and 139 on the surface, of coarse counts 17,772 and 4,443
 
-pub last-room : (k : Turn) → Room 131072 (lastShort k - 1) (allRound k 59)
+pub last-room : (size : Size) (k : Turn) → Room (countSize size) (lastShort size k - 1) (allRound k 59)
 unfolding allRound
-last-room Airborne = omega arith
-last-room Surface = omega arith
+last-room Fine Airborne = omega arith
+last-room Fine Surface = omega arith
+last-room Coarse Airborne = omega arith
+last-room Coarse Surface = omega arith
 
-pub every-longitude : (k : Turn) (n zone c : ℕ) → 0 < n → n ≤ 59 → zone < allRound k n → c < 131072
-    → roundedTurn (allRound k n * 131072) (zone * 131072 + c) + lastShort k ≤ units
-every-longitude Airborne n zone c p m l s =
-    handed 131072 554 (allRound Airborne n) _ (fewer 131072 554 (allRound Airborne n) (allRound Airborne 59) (round-most Airborne n p m .1) (last-room Airborne)) (in-turn 131072 (allRound Airborne n) zone c l s) .short
-every-longitude Surface n zone c p m l s =
-    handed 131072 138 (allRound Surface n) _ (fewer 131072 138 (allRound Surface n) (allRound Surface 59) (round-most Surface n p m .1) (last-room Surface)) (in-turn 131072 (allRound Surface n) zone c l s) .short
+module _ (P u : ℕ) (k : Turn) (room : Room P u (allRound k 59)) where
+  longitude-short : (n zone c : ℕ) → 0 < n → n ≤ 59 → zone < allRound k n → c < P → roundedTurn (allRound k n * P) (zone * P + c) + suc u ≤ units
+  longitude-short n zone c p m l s =
+      handed P u (allRound k n) _ (fewer P u (allRound k n) (allRound k 59) (round-most k n p m .1) room) (in-turn P (allRound k n) zone c l s) .short
+
+pub every-longitude : (size : Size) (k : Turn) (n zone c : ℕ) → 0 < n → n ≤ 59 → zone < allRound k n → c < countSize size
+    → roundedTurn (allRound k n * countSize size) (zone * countSize size + c) + lastShort size k ≤ units
+every-longitude Fine Airborne n zone c p m l s = longitude-short 131072 554 Airborne (last-room Fine Airborne) n zone c p m l s
+every-longitude Fine Surface n zone c p m l s = longitude-short 131072 138 Surface (last-room Fine Surface) n zone c p m l s
+every-longitude Coarse Airborne n zone c p m l s = longitude-short 4096 17771 Airborne (last-room Coarse Airborne) n zone c p m l s
+every-longitude Coarse Surface n zone c p m l s = longitude-short 4096 4442 Surface (last-room Coarse Surface) n zone c p m l s

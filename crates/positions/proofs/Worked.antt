@@ -1,4 +1,4 @@
--- Worked positions at the edges of 8, 10, 270 degrees and a turn, and beside the right answers the wrong ones that document 01's slips would give: each computed, so each holds by `refl`.
+-- Worked positions at the edges of 8, 10, 270 degrees and a turn, of fine counts and of coarse, and beside the right answers the wrong ones that document 01's slips would give: each computed, so each holds by `refl`.
 -- Assumes nothing.
 use mathlib.Core.Path.{_≡_, refl}
 use Prim.Native.Nat.{ℕ, suc, _-_, _*_, _/_}
@@ -84,6 +84,37 @@ pub last-longitudes :
     × (singly 131072 (spot (pos 1073741824) 0) (counts 0 131071) Surface Even ≡ At (spot (pos 1073741824) 4294959104))
 unfolding floor modulo nearest latitudes first zoneCount allRound rounded roundedTurn inside pairZone inZone less360 pairLatitude pairLongitude pairNL pairSpot pairFound nearZone near nearSpot nearFound
 last-longitudes = (refl, refl, refl, refl, refl)
+
+-- coarse counts: 45 degrees north and 90 east, encoded both ways, paired and read singly
+pub coarse-place :
+    (encoded 4096 (spot (pos 536870912) 1073741824) Airborne Even ≡ As (counts 2048 2048))
+    × (encoded 4096 (spot (pos 536870912) 1073741824) Airborne Odd ≡ As (counts 1536 1024))
+    × (paired 4096 (counts 2048 2048) (counts 1536 1024) Odd ≡ At (spot (pos 536870912) 1073741824))
+    × (singly 4096 (spot (pos 536870912) 1073741824) (counts 1536 1024) Airborne Odd ≡ At (spot (pos 536870912) 1073741824))
+unfolding floor modulo nearest latitudes first zoneCount allRound whole count spotZones countsOf rounded roundedTurn inside pairZone inZone less360 pairLatitude pairLongitude pairNL pairSpot pairFound nearZone near nearSpot nearFound
+coarse-place = (refl, refl, refl, refl)
+
+-- 4,096 is 8; 4,095 of 59 zones is the last longitude, 17,772 units short of a turn
+pub coarse-ends :
+    (paired 4096 (counts 0 4096) (counts 0 4095) Even ≡ Refused Field)
+    × (singly 4096 (spot (pos 0) 0) (counts 0 4096) Airborne Even ≡ Refused Field)
+    × (paired 4096 (counts 0 4095) (counts 0 4095) Even ≡ At (spot (pos 0) 4294949524))
+    × (singly 4096 (spot (pos 0) 0) (counts 0 4095) Airborne Even ≡ At (spot (pos 0) 4294949524))
+unfolding floor modulo nearest latitudes first zoneCount allRound rounded roundedTurn inside pairZone inZone less360 pairLatitude pairLongitude pairNL pairSpot pairFound nearZone near nearSpot nearFound
+coarse-ends = (refl, refl, refl, refl)
+
+-- coarse counts as they are, or times 16, for times 32: the pair of 45 degrees north would lie elsewhere
+pub not-sixteen :
+    (paired 131072 (counts (2048 * 32) (2048 * 32)) (counts (1536 * 32) (1024 * 32)) Even ≡ At (spot (pos 536870912) 1073741824))
+    × (paired 131072 (counts (2048 * 16) (2048 * 16)) (counts (1536 * 16) (1024 * 16)) Even ≡ At (spot (pos 304226850) 576639128))
+    × (paired 131072 (counts 2048 2048) (counts 1536 1024) Even ≡ At (spot (pos 1118481) 1137438))
+unfolding floor modulo nearest latitudes first zoneCount rounded roundedTurn inside pairZone inZone less360 pairLatitude pairLongitude pairNL pairSpot pairFound
+not-sixteen = (refl, refl, refl)
+
+-- the fine count without its last five bits for the coarse count: 16 of 2^17 are half a count of 2^12, and that rounds up
+pub not-cut-off : (count 131072 60 (pos 8739) ≡ 16) × (count 4096 60 (pos 8739) ≡ 1)
+unfolding floor modulo nearest whole count
+not-cut-off = (refl, refl)
 
 -- a circle of 2^33 counts would be too fine: its last count is half a unit short, and rounds to a turn
 pub half-a-unit-is-needed : roundedTurn (2 * units) (2 * units - 1) ≡ units

@@ -6,8 +6,19 @@ use mathlib.Core.Logic.{_⊎_}
 use Prim.Native.Nat.{ℕ, _+_, _*_, _/_, _≤_, _<_}
 use lib.IntN.{subℕ}
 use Rattle.positions.specs.declared.Format.{Format}
+use Rattle.positions.specs.declared.Size.{Size}
+use Rattle.positions.specs.declared.Size.the-variants.{Fine, Coarse}
+use Rattle.positions.specs.declared.Counts.{Counts}
 use Rattle.positions.specs.Zones.{latitudes}
 use Rattle.positions.specs.Positions.{latitudeZones, less360, pairLatitude}
+
+-- the code's counts are of 2^17: a count of a size is so many of these
+abbrev pub factor : Size → ℕ
+factor Fine = 1
+factor Coarse = 32
+
+abbrev pub times : ℕ → Counts → Counts
+times k c = record { latitude = record { 0 = c .latitude .0 * k }; longitude = record { 0 = c .longitude .0 * k } }
 
 -- a / d to nearest, half up
 unfoldable pub nearestℕ : ℕ → ℕ → ℕ

@@ -1,4 +1,4 @@
--- Positions, as document 01 states them. P is the count size, 2^17, and N how many zones make 360 degrees.
+-- Positions, as document 01 states them. P is the count size, 2^17 or 2^12, and N how many zones make 360 degrees.
 -- A spot is in 2^-32 of 360 degrees. An exact position is a fraction of 360 degrees, a whole number over N * P.
 -- So a spot's x times Z / turn x P is x * (N * P) / 2^32, and a whole number times turn / Z / P is that number over N * P.
 use mathlib.Core.Bool.{Bool, cond, _&&_}
@@ -11,6 +11,8 @@ use Rattle.positions.specs.declared.Turn.{Turn}
 use Rattle.positions.specs.declared.Turn.the-variants.{Airborne, Surface}
 use Rattle.positions.specs.declared.Format.{Format}
 use Rattle.positions.specs.declared.Format.the-variants.{Even, Odd}
+use Rattle.positions.specs.declared.Size.{Size}
+use Rattle.positions.specs.declared.Size.the-variants.{Fine, Coarse}
 use Rattle.positions.specs.declared.Counts.{Counts}
 use Rattle.positions.specs.declared.Encoded.{Encoded}
 use Rattle.positions.specs.declared.Encoded.the-variants.{As, Refused as NotEncoded}
@@ -22,6 +24,11 @@ use Rattle.positions.specs.Zones.{zoneCount}
 -- a spot's units in 360 degrees
 abbrev pub units : ℕ
 units = 4294967296
+
+-- P, where 01 says 2^17: a coarse message's counts have 12 bits
+abbrev pub countSize : Size → ℕ
+countSize Fine = 131072
+countSize Coarse = 4096
 
 -- F, called i: 0 for even, 1 for odd
 abbrev pub bit : Format → ℕ

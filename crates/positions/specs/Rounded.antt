@@ -10,6 +10,8 @@ use Rattle.positions.specs.declared.Turn.{Turn}
 use Rattle.positions.specs.declared.Turn.the-variants.{Airborne, Surface}
 use Rattle.positions.specs.declared.Format.{Format}
 use Rattle.positions.specs.declared.Format.the-variants.{Even, Odd}
+use Rattle.positions.specs.declared.Size.{Size}
+use Rattle.positions.specs.declared.Size.the-variants.{Fine, Coarse}
 use Rattle.positions.specs.declared.Counts.{Counts}
 use Rattle.positions.specs.declared.Found.{Found}
 use Rattle.positions.specs.declared.Found.the-variants.{At, Refused}
@@ -87,10 +89,12 @@ singleExact P reference c k f =
     let n = singleZones P reference c k f in
     modulo (near P n (pos (reference .longitude)) (c .longitude .0)) (n * P)
 
--- so many units short of 360 degrees is the last longitude of 59 zones to a turn and counts of 2^17, as it is handed out
-abbrev pub lastShort : Turn → ℕ
-lastShort Airborne = 555
-lastShort Surface = 139
+-- so many units short of 360 degrees is the last longitude of 59 zones to a turn, as it is handed out
+abbrev pub lastShort : Size → Turn → ℕ
+lastShort Fine Airborne = 555
+lastShort Fine Surface = 139
+lastShort Coarse Airborne = 17772
+lastShort Coarse Surface = 4443
 
 -- s was encoded and r came back: r is an exact place rounded to 2^-32, and that place is within half a count of s on each axis, longitude around the circle.
 -- Its latitude is a whole number over N * P of 360 degrees and its longitude one over n * P, so in these differences a count is `units`

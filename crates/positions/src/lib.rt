@@ -13,8 +13,8 @@ ghost use lib.Dec.{leb};
 ghost use lib.IntN.{subℕ, pos};
 ghost use Rattle.positions.specs.Whole.{modulo};
 ghost use Rattle.positions.specs.Zones.{first, zoneCount};
-ghost use Rattle.positions.specs.Positions.{own, latitudeZones, longitudeZones, allRound, whole, countsOf, encoded, rounded, roundedTurn, pairZone, pairSpot, pairFound, fit, paired, nearZone, nearSpot, nearFound, singly};
-ghost use Rattle.positions.specs.Code.{nearestℕ, edges, Zoned, Polar, Within, Paired};
+ghost use Rattle.positions.specs.Positions.{countSize, own, latitudeZones, longitudeZones, allRound, whole, countsOf, encoded, rounded, roundedTurn, pairZone, pairSpot, pairFound, fit, paired, nearZone, nearSpot, nearFound, singly};
+ghost use Rattle.positions.specs.Code.{factor, times, nearestℕ, edges, Zoned, Polar, Within, Paired};
 
 // 58 latitudes, at which the number of longitude zones falls: 59 up to the first, 2 up to the last. The unit is 1/1,855,979,520 of 360 degrees: every
 // latitude that is compared with them is a whole number of it, and so they may be rounded down.
@@ -79,7 +79,7 @@ const LATITUDES: [u64; 58] = [
     448528384,
 ];
 
-// A spot's units in 360 degrees, a zone's counts, and the product of the two.
+// A spot's units in 360 degrees, a zone's counts if they are fine, and the product of the two.
 const TURN: u64 = 4294967296;
 
 const SIZE: u64 = 131072;
@@ -113,6 +113,12 @@ pub enum Format {
     Odd,
 }
 
+// How many counts a zone has: 2^17, or 2^12 of a coarse message.
+pub enum Size {
+    Fine,
+    Coarse,
+}
+
 // The two counts of one message.
 pub struct Counts {
     pub latitude: LatitudeCount,
@@ -130,19 +136,39 @@ pub enum Found {
 }
 
 // The counts of a spot, by the zones at its rounded latitude.
-pub fn encode(spot: Spot, turn: Turn, format: Format) -> Encoded
-    ensures { λ r. ⌜ r ≡ encoded 131072 spot turn format ⌝ }
+pub fn encode(size: Size, spot: Spot, turn: Turn, format: Format) -> Encoded
+    ensures { λ r. ⌜ r ≡ encoded (countSize size) spot turn format ⌝ }
 {
     let up = signs::raise(spot.latitude);
     if pole_to_pole(up) {
-        Encoded::As(encode_raised(up, spot.longitude, turn, format))
+        Encoded::As(encode_raised(size, up, spot.longitude, turn, format))
     } else {
         Encoded::Refused(Refusal::Field)
     }
 }
 
 // The spot of the later of an even and an odd airborne message.
-pub fn pair(even: Counts, odd: Counts, later: Format) -> Found
+pub fn pair(size: Size, even: Counts, odd: Counts, later: Format) -> Found
+    ensures { λ r. ⌜ r ≡ paired (countSize size) even odd later ⌝ }
+{
+    match size {
+        Size::Fine => pair_fine(even, odd, later),
+        Size::Coarse => pair_coarse(even, odd, later),
+    }
+}
+
+// The spot of one message that lies nearest to a reference.
+pub fn single(size: Size, reference: Spot, counts: Counts, turn: Turn, format: Format) -> Found
+    ensures { λ r. ⌜ r ≡ singly (countSize size) reference counts turn format ⌝ }
+{
+    match size {
+        Size::Fine => single_fine(reference, counts, turn, format),
+        Size::Coarse => single_coarse(reference, counts, turn, format),
+    }
+}
+
+// Each size has functions of its own, so that whoever knows the size pays for no other.
+fn pair_fine(even: Counts, odd: Counts, later: Format) -> Found
     ensures { λ r. ⌜ r ≡ paired 131072 even odd later ⌝ }
 {
     if fits(even) & fits(odd) {
@@ -152,8 +178,18 @@ pub fn pair(even: Counts, odd: Counts, later: Format) -> Found
     }
 }
 
-// The spot of one message that lies nearest to a reference.
-pub fn single(reference: Spot, counts: Counts, turn: Turn, format: Format) -> Found
+// Coarse counts are tested as such, and read as fine ones.
+fn pair_coarse(even: Counts, odd: Counts, later: Format) -> Found
+    ensures { λ r. ⌜ r ≡ paired 4096 even odd later ⌝ }
+{
+    if fits_coarse(even) & fits_coarse(odd) {
+        pair_fitting(finer(even), finer(odd), later)
+    } else {
+        Found::Refused(Refusal::Field)
+    }
+}
+
+fn single_fine(reference: Spot, counts: Counts, turn: Turn, format: Format) -> Found
     ensures { λ r. ⌜ r ≡ singly 131072 reference counts turn format ⌝ }
 {
     let up = signs::raise(reference.latitude);
@@ -164,11 +200,39 @@ pub fn single(reference: Spot, counts: Counts, turn: Turn, format: Format) -> Fo
     }
 }
 
-// Whether both counts have 17 bits.
+fn single_coarse(reference: Spot, counts: Counts, turn: Turn, format: Format) -> Found
+    ensures { λ r. ⌜ r ≡ singly 4096 reference counts turn format ⌝ }
+{
+    let up = signs::raise(reference.latitude);
+    if fits_coarse(counts) & pole_to_pole(up) {
+        single_raised(up, reference.longitude, finer(counts), turn, format)
+    } else {
+        Found::Refused(Refusal::Field)
+    }
+}
+
+// Whether both counts have 17 bits; or 12.
 fn fits(c: Counts) -> bool
     ensures { λ r. ⌜ r ≡ fit 131072 c ⌝ }
 {
     (c.latitude.0 < 131072) & (c.longitude.0 < 131072)
+}
+
+fn fits_coarse(c: Counts) -> bool
+    ensures { λ r. ⌜ r ≡ fit 4096 c ⌝ }
+{
+    (c.latitude.0 < 4096) & (c.longitude.0 < 4096)
+}
+
+// Counts of 2^12, as counts of 2^17.
+fn finer(c: Counts) -> Counts
+    requires { ⌜ (c .latitude .0 < 4096) × (c .longitude .0 < 4096) ⌝ }
+    ensures { λ r. ⌜ (r ≡ times 32 c) × ((r .latitude .0 < 131072) × (r .longitude .0 < 131072)) ⌝ }
+{
+    Counts {
+        latitude: LatitudeCount(c.latitude.0 * 32),
+        longitude: LongitudeCount(c.longitude.0 * 32),
+    }
 }
 
 // Whether a latitude, held one whole turn up, is in range.
@@ -299,35 +363,70 @@ fn longitude_out(zone: Zone, count: LongitudeCount, n: u64) -> u32
     nearest(v * TURN, n * SIZE) as u32
 }
 
-// A latitude one turn up, encoded by n zones: the whole number before the modulo, one turn up.
-fn latitude_whole(up: u64, n: u64) -> u64
-    requires { ⌜ ((0 < n) × (n ≤ 240)) × ((3221225472 ≤ up) × (up ≤ 5368709120)) ⌝ }
-    ensures { λ r. ⌜ (whole 131072 n (subℕ up 4294967296) ≡ subℕ r (n * 131072)) × Polar (n * 131072) r ⌝ }
+// A count of the size, in counts of 2^17.
+fn factor_of(size: Size) -> u64
+    ensures { λ r. ⌜ (r ≡ factor size) × (r ≤ 32) ⌝ }
 {
-    nearest(up * (n * SIZE), TURN)
+    match size {
+        Size::Fine => 1,
+        Size::Coarse => 32,
+    }
+}
+
+// A quarter of a zone's counts: a pole is a whole number of them.
+fn quarter_of(size: Size) -> u64
+    ensures { λ r. ⌜ (4 * r ≡ countSize size) × ((0 < r) × (r ≤ 32768)) ⌝ }
+{
+    match size {
+        Size::Fine => 32768,
+        Size::Coarse => 1024,
+    }
+}
+
+// A latitude one turn up, encoded by n zones of 4 q counts: the whole number before the modulo, one turn up.
+fn latitude_whole(up: u64, n: u64, q: u64) -> u64
+    requires { ⌜ ((0 < n) × (n ≤ 240)) × (((0 < q) × (q ≤ 32768)) × ((3221225472 ≤ up) × (up ≤ 5368709120))) ⌝ }
+    ensures { λ r. ⌜ (whole (4 * q) n (subℕ up 4294967296) ≡ subℕ r (n * (4 * q))) × (Polar (n * (4 * q)) r × (r ≤ 39321600)) ⌝ }
+{
+    nearest(up * (n * (4 * q)), TURN)
 }
 
 // A longitude likewise; it is never below zero.
-fn longitude_whole(longitude: u32, n: u64) -> u64
-    requires { ⌜ (0 < n) × (n ≤ 240) ⌝ }
-    ensures { λ r. ⌜ whole 131072 n (pos longitude) ≡ pos r ⌝ }
+fn longitude_whole(longitude: u32, n: u64, q: u64) -> u64
+    requires { ⌜ ((0 < n) × (n ≤ 240)) × ((0 < q) × (q ≤ 32768)) ⌝ }
+    ensures { λ r. ⌜ whole (4 * q) n (pos longitude) ≡ pos r ⌝ }
 {
-    nearest((longitude as u64) * (n * SIZE), TURN)
+    nearest((longitude as u64) * (n * (4 * q)), TURN)
 }
 
-// The counts of a spot whose latitude is one turn up and in range.
-fn encode_raised(up: u64, longitude: u32, turn: Turn, format: Format) -> Counts
+// The count of such a whole number, modulo the size: by a number that is known, so that nothing is divided.
+fn count_of(size: Size, whole: u64) -> u32
+    ensures { λ r. ⌜ r ≡ whole % countSize size ⌝ }
+{
+    match size {
+        Size::Fine => (whole % SIZE) as u32,
+        Size::Coarse => (whole % 4096) as u32,
+    }
+}
+
+// The counts of a spot whose latitude is one turn up and in range. NL is asked of its rounded latitude in counts of 2^17.
+fn encode_raised(size: Size, up: u64, longitude: u32, turn: Turn, format: Format) -> Counts
     requires { ⌜ (3221225472 ≤ up) × (up ≤ 5368709120) ⌝ }
-    ensures { λ r. ⌜ r ≡ countsOf 131072 (record { latitude = subℕ up 4294967296; longitude = longitude }) turn format ⌝ }
+    ensures { λ r. ⌜ r ≡ countsOf (countSize size) (record { latitude = subℕ up 4294967296; longitude = longitude }) turn format ⌝ }
 {
     let table = code_table();
+    let q = quarter_of(size);
+    let k = factor_of(size);
     let z = all_round(turn, latitude_zones(format));
-    let y = latitude_whole(up, z);
-    let n = all_round(turn, longitude_zones(format, zone_count_at(&table, y, z)));
-    let x = longitude_whole(longitude, n);
+    let y = latitude_whole(up, z, q);
+    let n = all_round(
+        turn,
+        longitude_zones(format, zone_count_at(&table, y * k, z)),
+    );
+    let x = longitude_whole(longitude, n, q);
     Counts {
-        latitude: LatitudeCount((y % SIZE) as u32),
-        longitude: LongitudeCount((x % SIZE) as u32),
+        latitude: LatitudeCount(count_of(size, y)),
+        longitude: LongitudeCount(count_of(size, x)),
     }
 }
 

@@ -2,6 +2,7 @@
 use positions::Counts;
 use positions::Format;
 use positions::Found;
+use positions::Size;
 use positions::Spot;
 use positions::Turn;
 use refusals::Refusal;
@@ -123,7 +124,11 @@ fn read_near(
 ) -> Placed
     ensures { λ r. ⌜ r ≡ readNear reference p counts turn format time ⌝ }
 {
-    settle(positions::single(reference, counts, turn, format), p, time)
+    settle(
+        positions::single(Size::Fine, reference, counts, turn, format),
+        p,
+        time,
+    )
 }
 
 // An airborne message without its partner.
@@ -142,8 +147,8 @@ fn paired_with(partner: Counts, counts: Counts, format: Format) -> Found
     ensures { λ r. ⌜ r ≡ pairedWith partner counts format ⌝ }
 {
     match format {
-        Format::Even => positions::pair(counts, partner, Format::Even),
-        Format::Odd => positions::pair(partner, counts, Format::Odd),
+        Format::Even => positions::pair(Size::Fine, counts, partner, Format::Even),
+        Format::Odd => positions::pair(Size::Fine, partner, counts, Format::Odd),
     }
 }
 

@@ -1,40 +1,35 @@
--- `positions::pair` meets its contract: what it tests is what the definition tests.
+-- `positions::pair` meets its contract: each arm has its size.
 -- Assumes nothing.
-use mathlib.Core.Path.{_≡_, _∙_}
-use mathlib.Core.Bool.{true, false, _&&_}
-use Rattle.positions.specs.Positions.{fit}
-use Rattle.fields.proofs.Bools.{each}
-use Rattle.positions.proofs.Answers.{fit-counts}
+use mathlib.Core.Path.{sym, ap, _∙_}
+use Rattle.positions.specs.declared.Size.{Size}
+use Rattle.positions.specs.Positions.{countSize, paired}
 use borrow.Author.Needs.{needs}
 use Rattle.positions.proofs.pair.Statement.{statement}
 use Rattle.positions.proofs.pair.Tie as tie
 
-fits-requires : tie.Need-fits-requires
-fits-requires c κs = search needs
+enum-told : tie.Need-enum-told
+enum-told c = search needs
 
-fits-requires-2 : tie.Need-fits-requires-2
-fits-requires-2 c κs = search needs
+pair-fine-requires : tie.Need-pair-fine-requires
+pair-fine-requires c κs = search needs
 
-pair-fitting-requires : tie.Need-pair-fitting-requires
-pair-fitting-requires c κs =
-    let a = c .before .before .before .args in
-    let t = each (fit 131072 (a .even)) (fit 131072 (a .odd)) (rw (c .before .before .fits2 .ensures, c .before .fits3 .ensures) at (c .if1 .taken)) in
-    (fit-counts 131072 (a .even) (t .0), fit-counts 131072 (a .odd) (t .1))
+enum-told-2 : tie.Need-enum-told-2
+enum-told-2 c = search needs
+
+pair-coarse-requires : tie.Need-pair-coarse-requires
+pair-coarse-requires c κs = search needs
 
 returns : tie.Need-returns
 returns c =
-    let a = c .before .before .before .before .args in
-    let t : (fit 131072 (a .even) && fit 131072 (a .odd)) ≡ true =
-    rw (c .before .before .before .fits2 .ensures, c .before .before .fits3 .ensures) at (c .before .if1 .taken) in
-    c .pair-fitting .ensures ∙ rw t
+    let a = c .before .before .before .args in
+    c .pair-fine .ensures ∙ sym (ap (λ (z : Size). paired (countSize z) (a .even) (a .odd) (a .later)) (c .before .enum-told .given .1))
 
 returns-2 : tie.Need-returns-2
 returns-2 c =
     let a = c .before .before .before .args in
-    let t : (fit 131072 (a .even) && fit 131072 (a .odd)) ≡ false =
-    rw (c .before .before .fits2 .ensures, c .before .fits3 .ensures) at (c .if1 .left) in
-    rw t
+    c .pair-coarse .ensures ∙ sym (ap (λ (z : Size). paired (countSize z) (a .even) (a .odd) (a .later)) (c .before .enum-told2 .given .1))
 
 pub pair-spec : {M : Type 1} → statement M
 pair-spec =
-    tie.close (tie.spec fits-requires fits-requires-2 pair-fitting-requires returns returns-2)
+    tie.close
+    (tie.spec enum-told pair-fine-requires enum-told-2 pair-coarse-requires returns returns-2)
