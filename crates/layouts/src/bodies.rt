@@ -104,11 +104,22 @@ pub fn is_layout(layout: Layout) -> bool
     }
 }
 
-// Whether ME has a layout, so that it does not earn 5.
+// Whether ME has a layout, so that it does not earn 5. Every message is asked this: by its TYPE alone it costs less than by its layout.
 pub fn is_taken(me: u64) -> bool
     ensures { λ r. ⌜ r ≡ isTaken (layoutOf me) ⌝ }
 {
-    is_layout(layout_of(me))
+    let t = me / 0x8_0000_0000_0000 % 32;
+    let s = me / 0x1_0000_0000_0000 % 8;
+    if t <= 18 {
+        return true;
+    }
+    if t == 19 {
+        return (1 <= s) & (s <= 4);
+    }
+    if t == 31 {
+        return s <= 1;
+    }
+    t <= 22
 }
 
 // TYPE of ME.
