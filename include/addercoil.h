@@ -27,7 +27,9 @@
  *   - A key is an aircraft: its kind times 2^24, plus the 24 bits of AA (ADDERCOIL_KEY_OF). Of what aircraft send
  *     themselves the kinds are 1, I: an ICAO address, and 2, O: another one. Of what a ground station's traffic
  *     service sends (DF 18 with CF 2 or 5) they are 3, T: an ICAO address; 4, M: a Mode A code of 12 bits, then a
- *     track number of 12; 5, N: another address.
+ *     track number of 12; 5, N: another address. Its coarse messages (CF 3) are of kind 6, C. Their key is 2^31, plus
+ *     32 times AA, plus 16 times the flag of the address, plus the number of the station (ADDERCOIL_KEY_COARSE): an
+ *     aircraft that two stations tell of is two keys. Flag 0 is an ICAO address, 1 a Mode A code with a track number.
  *
  * Link with libaddercoil.a, which `tools/staticlib` writes to target/staticlib/PROCESSOR/, for x86_64 or for aarch64.
  */
@@ -46,11 +48,11 @@ extern "C" {
 #endif
 
 /*
- * 10,000 times the major number, 100 times the minor one, and the patch: this is 0.5.0. addercoil_version() says that
+ * 10,000 times the major number, 100 times the minor one, and the patch: this is 0.6.0. addercoil_version() says that
  * of the archive; where the two differ, the program was built with another header. The bytes of a table may change with
  * it.
  */
-#define ADDERCOIL_VERSION 500
+#define ADDERCOIL_VERSION 600
 
 /* The version of the archive, as ADDERCOIL_VERSION has it. */
 uint32_t addercoil_version(void);
@@ -61,13 +63,13 @@ enum {
     ADDERCOIL_REFUSED_LENGTH = 1,    /* a message that is not of 14 bytes, or an array of a wrong length */
     ADDERCOIL_REFUSED_LATE = 2,      /* a time below the table's clock, or a stamp 2^31 or more past the last one */
     ADDERCOIL_REFUSED_PARITY = 3,    /* a parity remainder that is not 0 */
-    ADDERCOIL_REFUSED_FORMAT = 4,    /* a DF or CF that is not taken: DF 17 is, and DF 18 with CF 0, 1, 2 or 5 */
+    ADDERCOIL_REFUSED_FORMAT = 4,    /* a DF or CF that is not taken: DF 17 is, and DF 18 with CF 0, 1, 2, 3, 5 */
     ADDERCOIL_REFUSED_TYPE = 5,      /* a TYPE or subtype that is not taken, TYPE 31 under CF 2 or 5, or CF 5 with the
-                                        flag of its address set */
+                                        flag of its address set; never of CF 3 */
     ADDERCOIL_REFUSED_FULL = 6,      /* a new aircraft, and no place is free */
     ADDERCOIL_REFUSED_PLACES = 7,    /* a table that is not of 1 to 1,024 whole places */
     ADDERCOIL_REFUSED_FIELD = 8,     /* a field wider than its bits or that no such message has, a latitude beyond a
-                                        pole, a choice above 1 */
+                                        pole, a choice above 1, a station above 15 */
     ADDERCOIL_REFUSED_LATITUDE = 9,  /* a decoded latitude beyond a pole */
     ADDERCOIL_REFUSED_ZONES = 10,    /* two latitudes in different longitude zones */
     ADDERCOIL_REFUSED_NO_TRACK = 12, /* an aircraft that is not held, and a message that starts no track */
@@ -107,13 +109,21 @@ enum {
     ADDERCOIL_KIND_O = 2,
     ADDERCOIL_KIND_T = 3,
     ADDERCOIL_KIND_M = 4,
-    ADDERCOIL_KIND_N = 5
+    ADDERCOIL_KIND_N = 5,
+    ADDERCOIL_KIND_C = 6
 };
 
-/* The key of a kind with the 24 bits of AA, and either of them back. */
+/* The key of a kind, I to N, with the 24 bits of AA; and of kind C, with the flag, 0 or 1, and the station, 0 to 15. */
 #define ADDERCOIL_KEY_OF(kind, aa) ((uint32_t)(kind) << 24 | ((uint32_t)(aa) & 0xFFFFFFu))
-#define ADDERCOIL_KEY_KIND(key) ((uint32_t)(key) >> 24)
-#define ADDERCOIL_KEY_AA(key) ((uint32_t)(key) & 0xFFFFFFu)
+#define ADDERCOIL_KEY_COARSE(aa, flag, station)                       \
+    (0x80000000u | ((uint32_t)(aa) & 0xFFFFFFu) << 5 | ((uint32_t)(flag) & 1u) << 4 | ((uint32_t)(station) & 15u))
+
+/* Of any key its kind and AA; of one of kind C also the flag and the station, which are 0 of all others. */
+#define ADDERCOIL_KEY_IS_COARSE(key) ((uint32_t)(key) >> 31 != 0)
+#define ADDERCOIL_KEY_KIND(key) (ADDERCOIL_KEY_IS_COARSE(key) ? (uint32_t)ADDERCOIL_KIND_C : (uint32_t)(key) >> 24)
+#define ADDERCOIL_KEY_AA(key) ((ADDERCOIL_KEY_IS_COARSE(key) ? (uint32_t)(key) >> 5 : (uint32_t)(key)) & 0xFFFFFFu)
+#define ADDERCOIL_KEY_FLAG(key) (ADDERCOIL_KEY_IS_COARSE(key) ? (uint32_t)(key) >> 4 & 1u : 0u)
+#define ADDERCOIL_KEY_STATION(key) (ADDERCOIL_KEY_IS_COARSE(key) ? (uint32_t)(key) & 15u : 0u)
 
 /* ---- The table: tracks in bytes that the caller lends ---- */
 
@@ -140,7 +150,7 @@ uint32_t addercoil_set_up_at(uint8_t *table, size_t table_len, int32_t latitude,
  * A message of 14 bytes received at a time: starts or updates its aircraft's track, and moves the clock to the time. A
  * track goes when it was last heard 125,000 ms ago. TYPE 0 starts no track, and of one that is held it updates when it
  * was last heard and, unless the altitude code is 0, the pressure altitude. A track of kind T, M or N is started by a
- * position message alone, of TYPE 5-18 or 20-22.
+ * position message alone, of TYPE 5-18 or 20-22. Every coarse message is one, and starts or updates a track of kind C.
  * Or ADDERCOIL_REFUSED_LENGTH, ADDERCOIL_REFUSED_PLACES, ADDERCOIL_REFUSED_LATE, which leave the table as it was;
  * or ADDERCOIL_REFUSED_PARITY, ADDERCOIL_REFUSED_FORMAT, ADDERCOIL_REFUSED_TYPE, and last ADDERCOIL_REFUSED_FULL, or of
  * a message that starts no track ADDERCOIL_REFUSED_NO_TRACK, which move the clock, so that tracks out of date go, and
@@ -199,26 +209,27 @@ uint32_t addercoil_next(const uint8_t *table, size_t table_len, uint32_t key, ui
  * The last six say how far a position can be trusted. What the TYPE of a position message says of that depends on the
  * version of the standard that the aircraft is built to: NUC, 0 to 9, in version 0, and NIC, 0 to 11, in versions 1 and
  * 2; more is better, and 0 is a number too. Aircraft say their version in a status message, TYPE 31, and until one is
- * heard it is 0; kinds T, M and N are version 1. Up to three bits supplement the TYPE: A (versions 1 and 2) and C
- * (version 2, on the surface) stand in the status, B (version 2, in the air) in the position message.
+ * heard it is 0; kinds T, M, N and C are version 1. Up to three bits supplement the TYPE: A (versions 1 and 2) and C
+ * (version 2, on the surface) stand in the status, B (version 2, in the air) in the position message. A coarse message
+ * has no TYPE, and says nothing of it: of kind C the integrity is unknown.
  */
 enum {
     ADDERCOIL_TRACK_HELD,                  /* 0 or 1 */
     ADDERCOIL_TRACK_HEARD,                 /* time of its last message */
     ADDERCOIL_TRACK_IDENTIFICATION,        /* ME of its last identification, 0 if it sent none */
-    ADDERCOIL_TRACK_VELOCITY,              /* .. velocity */
+    ADDERCOIL_TRACK_VELOCITY,              /* .. velocity; of kind C its last message, which says angle and speed */
     ADDERCOIL_TRACK_SURFACE,               /* .. surface position */
     ADDERCOIL_TRACK_STATUS,                /* .. operational status */
     ADDERCOIL_TRACK_PRESSURE_CODE,         /* 12 bits, 0 unknown */
     ADDERCOIL_TRACK_HEIGHT_CODE,           /* 12 bits, 0 unknown */
-    ADDERCOIL_TRACK_POSITION_TYPE,         /* TYPE of its last position message, 0 if it sent none */
+    ADDERCOIL_TRACK_POSITION_TYPE,         /* TYPE of its last position message, 0 if it sent none, and of kind C */
     ADDERCOIL_TRACK_POSITION_BIT8,         /* bit 8 of its ME if that was airborne, else 0 */
     ADDERCOIL_TRACK_POSITION_KNOWN,        /* 0 or 1 */
     ADDERCOIL_TRACK_LATITUDE,              /* signed */
     ADDERCOIL_TRACK_LONGITUDE,
     ADDERCOIL_TRACK_POSITION_TIME,         /* when it was heard */
     ADDERCOIL_TRACK_EVEN_KNOWN,            /* the latest even encoded position: 0 or 1 */
-    ADDERCOIL_TRACK_EVEN_LATITUDE_COUNT,   /* 17 bits, as of addercoil_encode_position */
+    ADDERCOIL_TRACK_EVEN_LATITUDE_COUNT,   /* 17 bits, as of addercoil_encode_position; of kind C 12, as of its twin */
     ADDERCOIL_TRACK_EVEN_LONGITUDE_COUNT,
     ADDERCOIL_TRACK_EVEN_TIME,             /* when it was heard */
     ADDERCOIL_TRACK_ODD_KNOWN,             /* the latest odd one: 0 or 1 */
@@ -239,7 +250,8 @@ enum {
     ADDERCOIL_TRACK_CATEGORY_SET,
     ADDERCOIL_TRACK_CATEGORY_IS,           /* 0 to 7 in its set */
     ADDERCOIL_TRACK_CATEGORY,
-    ADDERCOIL_TRACK_EAST_IS,               /* velocity over ground, in knots, signed; unknown of one through air */
+    ADDERCOIL_TRACK_EAST_IS,               /* velocity over ground, in knots, signed; unknown of one through air; all
+                                              from here to RATE_SOURCE is unknown of kind C */
     ADDERCOIL_TRACK_EAST,
     ADDERCOIL_TRACK_NORTH_IS,
     ADDERCOIL_TRACK_NORTH,
@@ -263,6 +275,13 @@ enum {
     ADDERCOIL_TRACK_SURFACE_HEADING,
     ADDERCOIL_TRACK_SURFACE_STATUS_IS,
     ADDERCOIL_TRACK_SURFACE_STATUS,        /* 1 if that heading is valid */
+    ADDERCOIL_TRACK_ANGLE_IS,              /* of kind C: where it goes, in 2^-32 of a turn from true north, clockwise,
+                                              whatever the status says; unknown of all others, as the next two */
+    ADDERCOIL_TRACK_ANGLE,
+    ADDERCOIL_TRACK_ANGLE_STATUS_IS,
+    ADDERCOIL_TRACK_ANGLE_STATUS,          /* 1 if that angle is valid */
+    ADDERCOIL_TRACK_SPEED_IS,              /* over ground, in knots, the lower edge; over: 1,968 and up */
+    ADDERCOIL_TRACK_SPEED,
     ADDERCOIL_TRACK_VERSION,               /* of the standard: 0 to 2, or 3 to 7, which are reserved */
     ADDERCOIL_TRACK_SUPPLEMENT_A,          /* 0 or 1; 0 where the version has none, as the next two */
     ADDERCOIL_TRACK_SUPPLEMENT_B,
@@ -273,8 +292,8 @@ enum {
 };
 
 /*
- * What the integrity of a track is; these are not the numbers of a reading. It is unknown if its version is above 2, or
- * it sent no position message.
+ * What the integrity of a track is; these are not the numbers of a reading. It is unknown if its kind is C, its version
+ * is above 2, or it sent no position message.
  */
 enum { ADDERCOIL_INTEGRITY_UNKNOWN = 0, ADDERCOIL_INTEGRITY_NUC = 1, ADDERCOIL_INTEGRITY_NIC = 2 };
 
@@ -291,25 +310,34 @@ uint32_t addercoil_look_up(const uint8_t *table, size_t table_len, uint32_t key,
 #define ADDERCOIL_RECORDS 2900
 
 /*
- * The track of one aircraft, by its kind, 1 to 5, and its address, after all that was received. The log is records of
+ * The track of one aircraft, by its kind, I to N, and its address, after all that was received. The log is records of
  * ADDERCOIL_RECORD bytes, as a block has them: a time in 8 bytes, high byte first, and a message. It is heard in order,
  * from clock 0, and the clock moves at each record that is not late, whatever its message is. Into out of
  * ADDERCOIL_TRACK entries, as those of addercoil_look_up: all 0 if it is not held. They are those that
  * addercoil_look_up gives after addercoil_set_up and these records received one after the other, unless
  * ADDERCOIL_REFUSED_FULL was answered to a message of this aircraft.
- * Or ADDERCOIL_REFUSED_LENGTH, ADDERCOIL_REFUSED_LOG, ADDERCOIL_REFUSED_FIELD for a kind that is none or an address
- * above 24 bits.
+ * Or ADDERCOIL_REFUSED_LENGTH, ADDERCOIL_REFUSED_LOG, ADDERCOIL_REFUSED_FIELD for a kind that is not 1 to 5 or an
+ * address above 24 bits.
  */
 uint32_t addercoil_replay(const uint8_t *log, size_t log_len, uint32_t kind, uint32_t address, uint64_t *out,
                           size_t out_len);
 
 /*
  * The same after addercoil_set_up_at, with that site.
- * Or ADDERCOIL_REFUSED_LENGTH, ADDERCOIL_REFUSED_LOG, ADDERCOIL_REFUSED_FIELD for a kind that is none, an address above
- * 24 bits or the latitude.
+ * Or ADDERCOIL_REFUSED_LENGTH, ADDERCOIL_REFUSED_LOG, ADDERCOIL_REFUSED_FIELD for a kind that is not 1 to 5, an address
+ * above 24 bits or the latitude.
  */
 uint32_t addercoil_replay_at(const uint8_t *log, size_t log_len, uint32_t kind, uint32_t address, int32_t latitude,
                              uint32_t longitude, uint64_t *out, size_t out_len);
+
+/*
+ * The same of kind C: the track of what one station tells of one address, with the flag of that address. It has no use
+ * for a site.
+ * Or ADDERCOIL_REFUSED_LENGTH, ADDERCOIL_REFUSED_LOG, ADDERCOIL_REFUSED_FIELD for an address above 24 bits, a flag
+ * above 1 or a station above 15.
+ */
+uint32_t addercoil_replay_coarse(const uint8_t *log, size_t log_len, uint32_t address, uint32_t flag, uint32_t station,
+                                 uint64_t *out, size_t out_len);
 
 /*
  * ---- The listing: a header, then a line for each key ----
@@ -330,9 +358,10 @@ uint32_t addercoil_header(const uint8_t *table, size_t table_len, uint64_t bad, 
 
 /*
  * The line of a key, "I ABCDEF 1400 536870912 1073741824 10000 25" and a newline, then zeros, into out of
- * ADDERCOIL_LINE bytes: kind I, O, T, M or N, AA, last heard, latitude, longitude, pressure altitude and its step,
- * which is 25 or 100; "-" for what is unknown. All zeros, the empty string, if the key is not held or its track is not
- * shown. Or ADDERCOIL_REFUSED_LENGTH, ADDERCOIL_REFUSED_PLACES, ADDERCOIL_REFUSED_FIELD for all above 1.
+ * ADDERCOIL_LINE bytes: kind I, O, T, M, N or C, AA, last heard, latitude, longitude, pressure altitude and its step,
+ * which is 25 or 100; "-" for what is unknown. Of kind C the flag and the station stand behind AA: "C ABCDEF 0 3 1400
+ * 536870912 1073741824 10000 25". All zeros, the empty string, if the key is not held or its track is not shown. Or
+ * ADDERCOIL_REFUSED_LENGTH, ADDERCOIL_REFUSED_PLACES, ADDERCOIL_REFUSED_FIELD for all above 1.
  */
 uint32_t addercoil_line(const uint8_t *table, size_t table_len, uint32_t key, uint32_t all, uint8_t *out,
                         size_t out_len);
@@ -354,7 +383,7 @@ uint32_t addercoil_feed_block(uint8_t *table, size_t table_len, const uint8_t *b
 
 /* ---- Positions ---- */
 
-/* The entries of a spot on the earth, and of its two counts of 17 bits. */
+/* The entries of a spot on the earth, and of its two counts, of 17 bits or, in a coarse message, of 12. */
 enum { ADDERCOIL_SPOT_LATITUDE /* signed */, ADDERCOIL_SPOT_LONGITUDE, ADDERCOIL_SPOT /* how many there are */ };
 enum { ADDERCOIL_COUNT_LATITUDE, ADDERCOIL_COUNT_LONGITUDE, ADDERCOIL_COUNTS /* how many there are */ };
 
@@ -382,6 +411,17 @@ uint32_t addercoil_pair(uint32_t even_latitude, uint32_t even_longitude, uint32_
 uint32_t addercoil_single(int32_t latitude, uint32_t longitude, uint32_t count_latitude, uint32_t count_longitude,
                           uint32_t surface, uint32_t odd, uint64_t *out, size_t out_len);
 
+/*
+ * The same three of coarse messages, which come from the air alone and whose counts are of 12 bits: a count above 4,095
+ * is refused as one above 131,071 is above. Coarse and fine counts make no pair.
+ */
+uint32_t addercoil_encode_position_coarse(int32_t latitude, uint32_t longitude, uint32_t odd, uint64_t *out,
+                                          size_t out_len);
+uint32_t addercoil_pair_coarse(uint32_t even_latitude, uint32_t even_longitude, uint32_t odd_latitude,
+                               uint32_t odd_longitude, uint32_t later_odd, uint64_t *out, size_t out_len);
+uint32_t addercoil_single_coarse(int32_t latitude, uint32_t longitude, uint32_t count_latitude,
+                                 uint32_t count_longitude, uint32_t odd, uint64_t *out, size_t out_len);
+
 /* The entries of a spot in degrees. */
 enum { ADDERCOIL_DEGREES_LATITUDE, ADDERCOIL_DEGREES_LONGITUDE, ADDERCOIL_DEGREES /* how many there are */ };
 
@@ -408,7 +448,7 @@ uint32_t addercoil_from_degrees(double latitude, double longitude, uint64_t *out
 enum {
     ADDERCOIL_UNKNOWN = 0,
     ADDERCOIL_KNOWN = 1,
-    ADDERCOIL_OVER = 2,    /* above what the code can say; of a surface movement the value is where that begins */
+    ADDERCOIL_OVER = 2,    /* above what the code can say; of a movement and a coarse speed where that begins */
     ADDERCOIL_NONE = 3,    /* a reserved code */
     ADDERCOIL_STOPPED = 4  /* of a surface movement */
 };
@@ -420,18 +460,20 @@ enum {
     ADDERCOIL_LAYOUT_AIRBORNE = 3,        /* TYPE 9-18 and 20-22; TYPE 0, whose F and counts mean nothing */
     ADDERCOIL_LAYOUT_GROUND = 4,          /* TYPE 19, subtypes 1 and 2: velocity over ground */
     ADDERCOIL_LAYOUT_AIR = 5,             /* TYPE 19, subtypes 3 and 4: velocity through air */
-    ADDERCOIL_LAYOUT_STATUS = 6           /* TYPE 31, subtypes 0 and 1: operational status, of DF 17, CF 0 and CF 1 */
+    ADDERCOIL_LAYOUT_STATUS = 6,          /* TYPE 31, subtypes 0 and 1: operational status, of DF 17, CF 0 and CF 1 */
+    ADDERCOIL_LAYOUT_COARSE = 7           /* DF 18 with CF 3, whatever the bits of ME, which has no TYPE */
 };
 
 /* How many entries the fields of a message have. */
 #define ADDERCOIL_FIELDS 28
 
-/* The first six entries, alike in all layouts. */
+/* The first six entries, alike in all layouts, but that a coarse message has no TYPE. */
 enum {
     ADDERCOIL_LAYOUT = 0,
     ADDERCOIL_DF = 1,       /* 17 or 18 */
-    ADDERCOIL_CA = 2,       /* 3 bits: CA of DF 17; CF of DF 18, which is 0, 1, 2 or 5 */
-    ADDERCOIL_AA = 3,       /* 24 bits: the address; of kind M the Mode A code, then the track number */
+    ADDERCOIL_CA = 2,       /* 3 bits: CA of DF 17; CF of DF 18, which is 0, 1, 2, 3 or 5 */
+    ADDERCOIL_AA = 3,       /* 24 bits: the address; of kind M, and of C with the flag, the Mode A code, then the track
+                               number */
     ADDERCOIL_KEY = 4,      /* the encoder does not read it */
     ADDERCOIL_TYPECODE = 5  /* 5 bits: TYPE, one of those of the layout */
 };
@@ -549,6 +591,27 @@ enum {
     ADDERCOIL_STATUS_SUPPLEMENT_C_IS = 24,    /* 0 or 1: known in version 2, 0 there in subtype 0 */
     ADDERCOIL_STATUS_SUPPLEMENT_C = 25
 };
+/* What a ground station's traffic service sends coarsely: one message says it all, and there is no TYPE. */
+enum {
+    ADDERCOIL_COARSE_FLAG = 5,              /* of the address: 0 ICAO, 1 a Mode A code, then a track number */
+    ADDERCOIL_COARSE_SURVEILLANCE = 6,      /* 2 bits */
+    ADDERCOIL_COARSE_STATION = 7,           /* 4 bits: which station sends it */
+    ADDERCOIL_COARSE_ALTITUDE_CODE = 8,     /* 12 bits: pressure altitude, as ADDERCOIL_AIRBORNE_ALTITUDE_CODE */
+    ADDERCOIL_COARSE_STATUS = 9,            /* 1 if the angle is valid */
+    ADDERCOIL_COARSE_ANGLE_CODE = 10,       /* 5 bits: 32nds of a turn */
+    ADDERCOIL_COARSE_SPEED_CODE = 11,       /* 6 bits: 0 unknown, 1 below 16 knots, n 32 n - 48 and up, 63 over */
+    ADDERCOIL_COARSE_F = 12,                /* 0 even, 1 odd */
+    ADDERCOIL_COARSE_LATITUDE_COUNT = 13,   /* 12 bits, as of addercoil_encode_position_coarse */
+    ADDERCOIL_COARSE_LONGITUDE_COUNT = 14,  /* 12 bits */
+    ADDERCOIL_COARSE_ALTITUDE_IS = 20,      /* feet, signed */
+    ADDERCOIL_COARSE_ALTITUDE = 21,
+    ADDERCOIL_COARSE_STEP_IS = 22,          /* how coarse that is, in feet: 25 or 100, known just when it is */
+    ADDERCOIL_COARSE_STEP = 23,
+    ADDERCOIL_COARSE_ANGLE_IS = 24,         /* track angle in 2^-32 of a turn, whatever the status says */
+    ADDERCOIL_COARSE_ANGLE = 25,
+    ADDERCOIL_COARSE_SPEED_IS = 26,         /* knots over ground, the lower edge; over: 1,968 and up */
+    ADDERCOIL_COARSE_SPEED = 27
+};
 
 /*
  * What a message of ADDERCOIL_MESSAGE bytes says, into fields of ADDERCOIL_FIELDS entries. Or ADDERCOIL_REFUSED_LENGTH,
@@ -559,18 +622,19 @@ uint32_t addercoil_decode(const uint8_t *message, size_t message_len, uint64_t *
 /*
  * What an ME says, as ADDERCOIL_TRACK_IDENTIFICATION, _VELOCITY, _SURFACE and _STATUS have it, into fields of
  * ADDERCOIL_FIELDS entries, as addercoil_decode gives them; what stands before ME, which are entries 1 to 4, is 0. key
- * is that of the track: its kind tells what the height difference means, and no more of it is asked. An ME of 0, which
- * a track has where it heard none, reads as TYPE 0: look at the ME first, or at ADDERCOIL_LAYOUT. Or
- * ADDERCOIL_REFUSED_LENGTH, ADDERCOIL_REFUSED_FIELD for an ME of more than 56 bits or what is no key,
- * ADDERCOIL_REFUSED_TYPE.
+ * is that of the track: its kind tells what the height difference means and, if it is C, that the ME is a coarse one,
+ * whatever its bits; no more of it is asked. An ME of 0, which a track has where it heard none, reads as TYPE 0: look
+ * at the ME first, or at ADDERCOIL_LAYOUT. Or ADDERCOIL_REFUSED_LENGTH, ADDERCOIL_REFUSED_FIELD for an ME of more than
+ * 56 bits or what is no key, ADDERCOIL_REFUSED_TYPE, which kind C never earns.
  */
 uint32_t addercoil_me(uint64_t me, uint32_t key, uint64_t *fields, size_t fields_len);
 
 /*
  * The message that says the fields, its parity included, into message of ADDERCOIL_MESSAGE bytes. It reads the layout,
  * DF, CA or CF, AA and the fields of ME of that layout, and no other entry. Or ADDERCOIL_REFUSED_LENGTH for either
- * array, ADDERCOIL_REFUSED_FIELD for a layout that is not 1 to 6, a field wider than its bits, or fields that
- * addercoil_decode would refuse; each leaves message as it was.
+ * array, ADDERCOIL_REFUSED_FIELD for a layout that is not 1 to 7, a field wider than its bits, fields that
+ * addercoil_decode would refuse, or layout 7 without CF 3 of DF 18, or CF 3 with another layout; each leaves message as
+ * it was.
  */
 uint32_t addercoil_encode(const uint64_t *fields, size_t fields_len, uint8_t *message, size_t message_len);
 

@@ -53,7 +53,7 @@ struct addercoil_reading {
     int64_t value;
 };
 
-/* The latest even, or odd, encoded position of a track. */
+/* The latest even, or odd, encoded position of a track; of kind C its counts are coarse. */
 struct addercoil_saved {
     int known;
     struct addercoil_counts counts;
@@ -95,6 +95,9 @@ struct addercoil_track {
     struct addercoil_reading movement;
     struct addercoil_reading surface_heading;
     struct addercoil_reading surface_status;
+    struct addercoil_reading angle; /* of kind C, as the next two */
+    struct addercoil_reading angle_status;
+    struct addercoil_reading speed;
     uint32_t version;
     int supplement_a;
     int supplement_b;
@@ -112,15 +115,15 @@ struct addercoil_message {
     uint32_t ca;
     uint32_t aa;
     uint32_t key;
-    uint32_t type;
+    uint32_t type; /* of a coarse message, which has none, the flag of its address */
     char callsign[9]; /* of an identification, as the next */
     char category[3];
     struct addercoil_reading movement; /* of a surface position in 48ths of a knot, as the next two */
     struct addercoil_reading surface_heading;
     int surface_status; /* 1 if that heading is valid */
-    struct addercoil_reading altitude; /* of an airborne position, as the next two */
+    struct addercoil_reading altitude; /* of an airborne position or a coarse message, as the next */
     struct addercoil_reading altitude_step;
-    struct addercoil_reading gnss; /* 1 if it is a GNSS height */
+    struct addercoil_reading gnss; /* 1 if it is a GNSS height; of an airborne position */
     struct addercoil_reading east; /* of a velocity over ground, as the next */
     struct addercoil_reading north;
     struct addercoil_reading heading; /* of a velocity through air, as the next two */
@@ -131,6 +134,9 @@ struct addercoil_message {
     struct addercoil_reading version; /* of a status, as the next two */
     struct addercoil_reading supplement_a;
     struct addercoil_reading supplement_c;
+    struct addercoil_reading angle; /* of a coarse message, as the next two */
+    int angle_status; /* 1 if that angle is valid */
+    struct addercoil_reading speed;
     uint64_t fields[ADDERCOIL_FIELDS];
 };
 
@@ -217,6 +223,9 @@ static inline uint32_t addercoil_easy_to_track(uint32_t number, const uint64_t *
     track->movement = addercoil_easy_reading(row + ADDERCOIL_TRACK_MOVEMENT_IS);
     track->surface_heading = addercoil_easy_reading(row + ADDERCOIL_TRACK_SURFACE_HEADING_IS);
     track->surface_status = addercoil_easy_reading(row + ADDERCOIL_TRACK_SURFACE_STATUS_IS);
+    track->angle = addercoil_easy_reading(row + ADDERCOIL_TRACK_ANGLE_IS);
+    track->angle_status = addercoil_easy_reading(row + ADDERCOIL_TRACK_ANGLE_STATUS_IS);
+    track->speed = addercoil_easy_reading(row + ADDERCOIL_TRACK_SPEED_IS);
     track->version = (uint32_t)row[ADDERCOIL_TRACK_VERSION];
     track->supplement_a = (int)row[ADDERCOIL_TRACK_SUPPLEMENT_A];
     track->supplement_b = (int)row[ADDERCOIL_TRACK_SUPPLEMENT_B];
@@ -240,7 +249,7 @@ static inline struct addercoil_reading addercoil_easy_of(const struct addercoil_
 static inline void addercoil_easy_to_readings(struct addercoil_message *message) {
     const uint32_t named = ADDERCOIL_LAYOUT_IDENTIFICATION, surface = ADDERCOIL_LAYOUT_SURFACE;
     const uint32_t airborne = ADDERCOIL_LAYOUT_AIRBORNE, ground = ADDERCOIL_LAYOUT_GROUND, air = ADDERCOIL_LAYOUT_AIR;
-    const uint32_t status = ADDERCOIL_LAYOUT_STATUS;
+    const uint32_t status = ADDERCOIL_LAYOUT_STATUS, coarse = ADDERCOIL_LAYOUT_COARSE;
     const uint64_t *fields = message->fields;
     uint32_t is = message->layout, velocity = is == air ? air : ground;
     addercoil_easy_callsign(addercoil_easy_at(message, named, ADDERCOIL_IDENTIFICATION_TEXT_IS), message->callsign);
@@ -249,8 +258,10 @@ static inline void addercoil_easy_to_readings(struct addercoil_message *message)
     message->movement = addercoil_easy_of(message, surface, ADDERCOIL_SURFACE_SPEED_IS);
     message->surface_heading = addercoil_easy_of(message, surface, ADDERCOIL_SURFACE_TURN_IS);
     message->surface_status = is == surface && fields[ADDERCOIL_SURFACE_STATUS] == 1;
-    message->altitude = addercoil_easy_of(message, airborne, ADDERCOIL_AIRBORNE_ALTITUDE_IS);
-    message->altitude_step = addercoil_easy_of(message, airborne, ADDERCOIL_AIRBORNE_STEP_IS);
+    message->altitude = is == coarse ? addercoil_easy_of(message, coarse, ADDERCOIL_COARSE_ALTITUDE_IS)
+                                     : addercoil_easy_of(message, airborne, ADDERCOIL_AIRBORNE_ALTITUDE_IS);
+    message->altitude_step = is == coarse ? addercoil_easy_of(message, coarse, ADDERCOIL_COARSE_STEP_IS)
+                                          : addercoil_easy_of(message, airborne, ADDERCOIL_AIRBORNE_STEP_IS);
     message->gnss = addercoil_easy_of(message, airborne, ADDERCOIL_AIRBORNE_GNSS_IS);
     message->east = addercoil_easy_of(message, ground, ADDERCOIL_GROUND_EAST_IS);
     message->north = addercoil_easy_of(message, ground, ADDERCOIL_GROUND_NORTH_IS);
@@ -262,6 +273,9 @@ static inline void addercoil_easy_to_readings(struct addercoil_message *message)
     message->version = addercoil_easy_of(message, status, ADDERCOIL_STATUS_VERSION_IS);
     message->supplement_a = addercoil_easy_of(message, status, ADDERCOIL_STATUS_SUPPLEMENT_A_IS);
     message->supplement_c = addercoil_easy_of(message, status, ADDERCOIL_STATUS_SUPPLEMENT_C_IS);
+    message->angle = addercoil_easy_of(message, coarse, ADDERCOIL_COARSE_ANGLE_IS);
+    message->angle_status = is == coarse && fields[ADDERCOIL_COARSE_STATUS] == 1;
+    message->speed = addercoil_easy_of(message, coarse, ADDERCOIL_COARSE_SPEED_IS);
 }
 
 /* A call that filled the entries answered so: the struct of them, if it did. */
@@ -292,10 +306,13 @@ static inline const char *addercoil_easy_number_words(uint32_t number) {
     return number < ADDERCOIL_NUMBERS ? words[number] : "";
 }
 
-/* The letter of a key's kind, or '-' of what is no key. */
+/* The letter of a key's kind, or '-' of what is no key: the last is that of kind C with all bits of AA set. */
 static inline char addercoil_easy_kind_letter(uint32_t key) {
     uint32_t kind = ADDERCOIL_KEY_KIND(key);
-    return kind >= ADDERCOIL_KIND_I && kind <= ADDERCOIL_KIND_N ? "IOTMN"[kind - ADDERCOIL_KIND_I] : '-';
+    if (key > ADDERCOIL_KEY_COARSE(0xFFFFFF, 1, 15) || kind < ADDERCOIL_KIND_I || kind > ADDERCOIL_KIND_C) {
+        return '-';
+    }
+    return "IOTMNC"[kind - ADDERCOIL_KIND_I];
 }
 
 /* ---- The table ---- */
@@ -359,21 +376,40 @@ static inline uint32_t addercoil_easy_look_up(struct addercoil_table table, uint
     return addercoil_easy_to_track(number, row, track);
 }
 
-/* ---- A doubted track, of a key, from a log; the second with a site ---- */
+/* ---- A doubted track, of a key, from a log ---- */
 
+/* Of a key of kind C; of a number above all keys the address is too wide, which is refused. */
+static inline uint32_t addercoil_easy_replay_coarse(const uint8_t *log, size_t length, uint32_t key,
+                                                    struct addercoil_track *track) {
+    uint64_t row[ADDERCOIL_TRACK];
+    uint32_t number = addercoil_replay_coarse(log, length, (key & 0x7FFFFFFFu) >> 5, ADDERCOIL_KEY_FLAG(key),
+                                              ADDERCOIL_KEY_STATION(key), row, ADDERCOIL_TRACK);
+    return addercoil_easy_to_track(number, row, track);
+}
+
+/* Of a key of any kind. */
 static inline uint32_t addercoil_easy_replay(const uint8_t *log, size_t length, uint32_t key,
                                              struct addercoil_track *track) {
     uint64_t row[ADDERCOIL_TRACK];
-    uint32_t number =
-        addercoil_replay(log, length, ADDERCOIL_KEY_KIND(key), ADDERCOIL_KEY_AA(key), row, ADDERCOIL_TRACK);
+    uint32_t number;
+    if (ADDERCOIL_KEY_IS_COARSE(key)) {
+        return addercoil_easy_replay_coarse(log, length, key, track);
+    }
+    number = addercoil_replay(log, length, ADDERCOIL_KEY_KIND(key), ADDERCOIL_KEY_AA(key), row, ADDERCOIL_TRACK);
     return addercoil_easy_to_track(number, row, track);
 }
+
+/* The same with a site, at which kind C does not look. */
 
 static inline uint32_t addercoil_easy_replay_at(const uint8_t *log, size_t length, uint32_t key,
                                                 struct addercoil_spot site, struct addercoil_track *track) {
     uint64_t row[ADDERCOIL_TRACK];
-    uint32_t number = addercoil_replay_at(log, length, ADDERCOIL_KEY_KIND(key), ADDERCOIL_KEY_AA(key), site.latitude,
-                                          site.longitude, row, ADDERCOIL_TRACK);
+    uint32_t number;
+    if (ADDERCOIL_KEY_IS_COARSE(key)) {
+        return addercoil_easy_replay_coarse(log, length, key, track);
+    }
+    number = addercoil_replay_at(log, length, ADDERCOIL_KEY_KIND(key), ADDERCOIL_KEY_AA(key), site.latitude,
+                                 site.longitude, row, ADDERCOIL_TRACK);
     return addercoil_easy_to_track(number, row, track);
 }
 
@@ -393,13 +429,10 @@ static inline uint32_t addercoil_easy_feed_block(struct addercoil_table table, c
     return addercoil_feed_block(table.bytes, table.length, block, length, *bad, bad, 1);
 }
 
-/* ---- Positions ---- */
+/* ---- Positions; each of the first three has a twin of coarse counts ---- */
 
-static inline uint32_t addercoil_easy_encode_position(struct addercoil_spot spot, int surface, int odd,
-                                                      struct addercoil_counts *counts) {
-    uint64_t row[ADDERCOIL_COUNTS];
-    uint32_t number = addercoil_encode_position(spot.latitude, spot.longitude, (uint32_t)surface, (uint32_t)odd, row,
-                                                ADDERCOIL_COUNTS);
+/* A call that filled the row of counts, or of a spot, answered so: the struct of it, if it did. */
+static inline uint32_t addercoil_easy_to_counts(uint32_t number, const uint64_t *row, struct addercoil_counts *counts) {
     if (number == ADDERCOIL_OK) {
         counts->latitude = (uint32_t)row[ADDERCOIL_COUNT_LATITUDE];
         counts->longitude = (uint32_t)row[ADDERCOIL_COUNT_LONGITUDE];
@@ -407,15 +440,43 @@ static inline uint32_t addercoil_easy_encode_position(struct addercoil_spot spot
     return number;
 }
 
+static inline uint32_t addercoil_easy_to_spot(uint32_t number, const uint64_t *row, struct addercoil_spot *spot) {
+    if (number == ADDERCOIL_OK) {
+        *spot = addercoil_easy_spot(row);
+    }
+    return number;
+}
+
+static inline uint32_t addercoil_easy_encode_position(struct addercoil_spot spot, int surface, int odd,
+                                                      struct addercoil_counts *counts) {
+    uint64_t row[ADDERCOIL_COUNTS];
+    uint32_t number = addercoil_encode_position(spot.latitude, spot.longitude, (uint32_t)surface, (uint32_t)odd, row,
+                                                ADDERCOIL_COUNTS);
+    return addercoil_easy_to_counts(number, row, counts);
+}
+
+static inline uint32_t addercoil_easy_encode_position_coarse(struct addercoil_spot spot, int odd,
+                                                             struct addercoil_counts *counts) {
+    uint64_t row[ADDERCOIL_COUNTS];
+    uint32_t number =
+        addercoil_encode_position_coarse(spot.latitude, spot.longitude, (uint32_t)odd, row, ADDERCOIL_COUNTS);
+    return addercoil_easy_to_counts(number, row, counts);
+}
+
 static inline uint32_t addercoil_easy_pair(struct addercoil_counts even, struct addercoil_counts odd, int later_odd,
                                            struct addercoil_spot *spot) {
     uint64_t row[ADDERCOIL_SPOT];
     uint32_t number = addercoil_pair(even.latitude, even.longitude, odd.latitude, odd.longitude, (uint32_t)later_odd,
                                      row, ADDERCOIL_SPOT);
-    if (number == ADDERCOIL_OK) {
-        *spot = addercoil_easy_spot(row);
-    }
-    return number;
+    return addercoil_easy_to_spot(number, row, spot);
+}
+
+static inline uint32_t addercoil_easy_pair_coarse(struct addercoil_counts even, struct addercoil_counts odd,
+                                                  int later_odd, struct addercoil_spot *spot) {
+    uint64_t row[ADDERCOIL_SPOT];
+    uint32_t number = addercoil_pair_coarse(even.latitude, even.longitude, odd.latitude, odd.longitude,
+                                            (uint32_t)later_odd, row, ADDERCOIL_SPOT);
+    return addercoil_easy_to_spot(number, row, spot);
 }
 
 static inline uint32_t addercoil_easy_single(struct addercoil_spot about, struct addercoil_counts counts, int surface,
@@ -423,10 +484,15 @@ static inline uint32_t addercoil_easy_single(struct addercoil_spot about, struct
     uint64_t row[ADDERCOIL_SPOT];
     uint32_t number = addercoil_single(about.latitude, about.longitude, counts.latitude, counts.longitude,
                                        (uint32_t)surface, (uint32_t)odd, row, ADDERCOIL_SPOT);
-    if (number == ADDERCOIL_OK) {
-        *spot = addercoil_easy_spot(row);
-    }
-    return number;
+    return addercoil_easy_to_spot(number, row, spot);
+}
+
+static inline uint32_t addercoil_easy_single_coarse(struct addercoil_spot about, struct addercoil_counts counts,
+                                                    int odd, struct addercoil_spot *spot) {
+    uint64_t row[ADDERCOIL_SPOT];
+    uint32_t number = addercoil_single_coarse(about.latitude, about.longitude, counts.latitude, counts.longitude,
+                                              (uint32_t)odd, row, ADDERCOIL_SPOT);
+    return addercoil_easy_to_spot(number, row, spot);
 }
 
 static inline uint32_t addercoil_easy_degrees(struct addercoil_spot spot, struct addercoil_degrees *degrees) {
@@ -442,10 +508,7 @@ static inline uint32_t addercoil_easy_degrees(struct addercoil_spot spot, struct
 static inline uint32_t addercoil_easy_from_degrees(struct addercoil_degrees degrees, struct addercoil_spot *spot) {
     uint64_t row[ADDERCOIL_SPOT];
     uint32_t number = addercoil_from_degrees(degrees.latitude, degrees.longitude, row, ADDERCOIL_SPOT);
-    if (number == ADDERCOIL_OK) {
-        *spot = addercoil_easy_spot(row);
-    }
-    return number;
+    return addercoil_easy_to_spot(number, row, spot);
 }
 
 /* ---- Messages ---- */

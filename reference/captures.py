@@ -1,14 +1,15 @@
-"""The paper, "Captures and the listing"; of document 02 the requests R-1, which tracks the listing shows, and R-3, its kinds."""
+"""The paper, "Captures and the listing"; of document 02 the requests R-1, which tracks the listing shows, R-3 and R-12, its kinds."""
 
 import readings
 import table
+import tracks
 from parity import remainder, sealed
 from refusals import Refused
 
 BLOCK, RECORD, MOST_RECORDS = 512, 22, 23
 HEAD, SEAL = 3, 3  # count and serial; the three bytes that make the remainder 0
 PLACES = 256  # the program "listing" has 256 places and no site
-KINDS = {1: "I", 2: "O", 3: "T", 4: "M", 5: "N"}
+KINDS = {1: "I", 2: "O", 3: "T", 4: "M", 5: "N", 6: "C"}
 UNKNOWN = "-"
 
 # Writing
@@ -97,13 +98,18 @@ def offer(made, string, time):
 # The listing
 
 
+def key_text(key):
+    """Kind, address in six hex digits, and of kind C the flag and the station."""
+    return " ".join([KINDS[tracks.kind_in(key)], f"{tracks.address_in(key):06X}", *map(str, tracks.sender_in(key))])
+
+
 def line(key, track):
-    """Kind, address in six hex digits, last heard, latitude, longitude, pressure altitude and, since R-4, its step."""
+    """The key, last heard, latitude, longitude, pressure altitude and, since R-4, its step."""
     position = track.position
     place = f"{position.latitude} {position.longitude}" if position.known else f"{UNKNOWN} {UNKNOWN}"
     known = readings.altitude(track.pressure) != readings.UNKNOWN
     altitude = f"{readings.altitude(track.pressure)} {readings.step(track.pressure)}" if known else f"{UNKNOWN} {UNKNOWN}"
-    return f"{KINDS[key >> 24]} {key % 2**24:06X} {track.heard} {place} {altitude}"
+    return f"{key_text(key)} {track.heard} {place} {altitude}"
 
 
 def is_shown(track, every):
@@ -112,7 +118,7 @@ def is_shown(track, every):
 
 
 def shown(made, every):
-    """The keys and tracks that the listing of a table shows, by kind, I O T M N, then address."""
+    """The keys and tracks that the listing of a table shows, by kind, I O T M N C, then address, then of C flag and station."""
     return [(key, track) for key, track in table.walk(made) if is_shown(track, every)]
 
 

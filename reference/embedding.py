@@ -19,12 +19,12 @@ import replay as plain_method
 import stamps
 import table as tables
 from refusals import Refused, fits
-from tracks import KINDS, M, N, T, key_of
+from tracks import KINDS, C, M, N, T, key_of, kind_in
 
 HEADER = Path(__file__).resolve().parent.parent / "include/addercoil.h"
 FRESH = 0xA5  # what each byte of a result array holds before the call
 BYTES, WORDS = 1, 8  # the size of an element
-GROUND_KINDS = T, M, N  # what a ground station's traffic service sends
+GROUND_KINDS = T, M, N, C  # what a ground station's traffic service sends
 
 
 def header_numbers():
@@ -87,7 +87,7 @@ def track_row(track, kind):
         entries |= {f"TRACK_{name}_LATITUDE_COUNT": saved.latitude, f"TRACK_{name}_LONGITUDE_COUNT": saved.longitude}
     for name, code in (("TRACK_ALTITUDE", track.pressure), ("TRACK_GNSS_HEIGHT", track.height)):
         entries |= reading(name, readings.altitude(code)) | reading(f"{name}_STEP", readings.step(code))
-    return entries | shown(track, kind in GROUND_KINDS) | integrity_row(track, kind)
+    return entries | shown(track, kind) | integrity_row(track, kind)
 
 
 def integrity_row(track, kind):
@@ -108,15 +108,24 @@ SHOWN = {
     "GROUND": {"EAST": "GROUND_EAST", "NORTH": "GROUND_NORTH", **RATE},
     "AIR": {"HEADING": "AIR_TURN", "HEADING_STATUS": "AIR_STATUS", "AIRSPEED": "AIR_SPEED", "AIRSPEED_KIND": "AIR_AIRSPEED_KIND", **RATE},
     "SURFACE": {"MOVEMENT": "SURFACE_SPEED", "SURFACE_HEADING": "SURFACE_TURN", "SURFACE_STATUS": "SURFACE_STATUS"},
+    "COARSE": {"ANGLE": "COARSE_ANGLE", "ANGLE_STATUS": "COARSE_STATUS", "SPEED": "COARSE_SPEED"},
 }
 
 
-def shown(track, traffic):
+def last_said(track, kind):
+    """The last ME of each group, and the layout that it is read by; of kind C the velocity is a coarse message, whatever its bits."""
+    velocity = "COARSE" if kind == C else layout_in(track.velocity)
+    groups = (track.identification, layout_in(track.identification), {"IDENTIFICATION"}), (track.surface, layout_in(track.surface), {"SURFACE"})
+    for number, layout, own in (*groups, (track.velocity, velocity, {"GROUND", "AIR", "COARSE"})):
+        if layout in own:  # else none was heard
+            yield number, layout
+
+
+def shown(track, kind):
     """What people are shown: of the last ME of each group, and whether the last position came from the ground."""
-    entries = {}
-    for number in filter(None, (track.identification, track.velocity, track.surface)):
-        said = me_row(number, traffic)
-        layout = next(name for name in LAYOUTS if AT[f"LAYOUT_{name}"] == said["LAYOUT"])
+    entries, traffic = {}, kind in GROUND_KINDS
+    for number, layout in last_said(track, kind):
+        said = me_row(number, layout, traffic)
         for name, of in SHOWN[layout].items():
             if traffic and name == "RATE_SOURCE":
                 continue  # not sent
@@ -129,12 +138,13 @@ def shown(track, traffic):
 
 # Messages
 
-# The entries of ME after TYPE, in the order of their bits; the header's names in the paper's order
+# The entries of ME after TYPE, in the order of their bits; the header's names in the paper's order. A coarse one has no TYPE
 PLACE = ["T", "F", "LATITUDE_COUNT", "LONGITUDE_COUNT"]
 VERTICAL = ["SOURCE", "DOWN", "RATE_CODE", "RESERVED", "BELOW", "DIFFERENCE_CODE"]
 VELOCITY = ["SUBTYPE", "BIT9", "BIT10", "NACV"]
 STATUS = ["SUBTYPE", "CLASS", "BIT20", "WIDTH", "MODE", "VERSION_CODE", "SUPPLEMENT_A_CODE", "NACP"]
 STATUS += ["BITS49", "SIL", "BIT53", "BIT54", "BITS55"]
+COARSE = ["FLAG", "SURVEILLANCE", "STATION", "ALTITUDE_CODE", "STATUS", "ANGLE_CODE", "SPEED_CODE", "F", "LATITUDE_COUNT", "LONGITUDE_COUNT"]
 LAYOUTS = {
     "IDENTIFICATION": (messages.IDENTIFICATION, ["CATEGORY", "CHARACTERS"]),
     "SURFACE": (messages.SURFACE, ["MOVEMENT_CODE", "STATUS", "HEADING_CODE", *PLACE]),
@@ -142,6 +152,7 @@ LAYOUTS = {
     "GROUND": (messages.OVER_GROUND, [*VELOCITY, "WEST", "EASTWARD_CODE", "SOUTH", "NORTHWARD_CODE"]),
     "AIR": (messages.THROUGH_AIR, [*VELOCITY, "STATUS", "HEADING_CODE", "AIRSPEED_KIND", "AIRSPEED_CODE"]),
     "STATUS": (messages.STATUS, STATUS),
+    "COARSE": (messages.COARSE, COARSE),
 }
 
 
@@ -156,8 +167,14 @@ def entry_names(layout):
 
 def layout_of(message):
     """The header's name for the layout of a message."""
-    fields = messages.layout(message["TYPE"], message.get("subtype"))
+    fields = messages.layout_of(message)
     return next(name for name, (one, _) in LAYOUTS.items() if one is fields)
+
+
+def layout_in(number):
+    """The header's name for the layout of an ME by its TYPE and subtype, or None."""
+    fields = messages.layout(number >> 51, number >> 48 & 7)
+    return next((name for name, (one, _) in LAYOUTS.items() if one is fields), None)
 
 
 def number_of_text(text):
@@ -165,12 +182,12 @@ def number_of_text(text):
     return int.from_bytes(text.encode("ascii"), "big")
 
 
-def movement_reading(name, value):
-    """The lower edge of a movement; of the last range, over."""
+def edge_reading(name, value):
+    """The lower edge of a movement, or of a coarse speed; of the last range, over."""
     if value.startswith("from "):
         return reading(name, int(value.removeprefix("from ")))
-    if value == "8400 and up":
-        return {f"{name}_IS": AT["OVER"], name: 8400}
+    if value.endswith(" and up"):
+        return {f"{name}_IS": AT["OVER"], name: int(value.removesuffix(" and up"))}
     return reading(name, value)
 
 
@@ -182,6 +199,7 @@ READINGS = {
     "GROUND": ["GROUND_EAST", "GROUND_NORTH", "VERTICAL_RATE", "VERTICAL_DIFFERENCE"],
     "AIR": ["AIR_TURN", "AIR_SPEED", "VERTICAL_RATE", "VERTICAL_DIFFERENCE"],
     "STATUS": ["STATUS_VERSION", "STATUS_SUPPLEMENT_A", "STATUS_SUPPLEMENT_C"],
+    "COARSE": ["COARSE_ALTITUDE", "COARSE_STEP", "COARSE_ANGLE", "COARSE_SPEED"],
 }
 
 
@@ -192,7 +210,7 @@ def layout_readings(layout, message, traffic):
         meant |= {"set": ord(meant["set"]), "text": number_of_text(meant["text"])}
     entries = {}
     for name, (of, value) in zip(READINGS[layout], meant.items(), strict=True):
-        entries |= movement_reading(name, value) if of == "movement" else reading(name, value)
+        entries |= edge_reading(name, value) if of in ("movement", "speed") else reading(name, value)
     return entries
 
 
@@ -203,22 +221,18 @@ def message_row(message):
     """The entries of a decoded message."""
     layout = layout_of(message)
     entries = {"LAYOUT": AT[f"LAYOUT_{layout}"], "KEY": key_of(message)}
-    entries |= {ours: message[name] for name, ours in HEAD.items()}
+    entries |= {ours: message[name] for name, ours in HEAD.items() if name in message}
     entries |= {ours: message[name] for name, ours in entry_names(layout)}
     return entries | layout_readings(layout, message, messages.is_traffic(message))
 
 
-def me_row(number, traffic):
-    """The entries of an ME by itself, of a ground station's traffic or not; 5 for a TYPE or subtype that is not taken."""
+def me_row(number, layout, traffic):
+    """The entries of an ME by itself, by its layout, of a ground station's traffic or not."""
     string = number.to_bytes(7, "big")
-    type_code = messages.field(string, 1, 5)
-    fields = messages.layout(type_code, messages.field(string, 6, 8))
-    if fields is None:
-        raise Refused(5)
-    said = {"TYPE": type_code} | {name: messages.field(string, first, last) for name, first, last in fields}
-    layout = layout_of(said)
-    entries = {"LAYOUT": AT[f"LAYOUT_{layout}"], "TYPECODE": type_code} | {ours: said[name] for name, ours in entry_names(layout)}
-    return entries | layout_readings(layout, said, traffic)
+    said = {name: messages.field(string, first, last) for name, first, last in LAYOUTS[layout][0]}
+    said |= {} if layout == "COARSE" else {"TYPE": messages.field(string, 1, 5)}
+    entries = {"LAYOUT": AT[f"LAYOUT_{layout}"]} | ({"TYPECODE": said["TYPE"]} if "TYPE" in said else {})
+    return entries | {ours: said[name] for name, ours in entry_names(layout)} | layout_readings(layout, said, traffic)
 
 
 def message_from(fields):
@@ -226,7 +240,7 @@ def message_from(fields):
     layout = next((name for name in LAYOUTS if AT[f"LAYOUT_{name}"] == fields[AT["LAYOUT"]]), None)
     if layout is None:
         raise Refused(8)
-    message = {name: fields[AT[ours]] for name, ours in HEAD.items()}
+    message = {name: fields[AT[ours]] for name, ours in HEAD.items() if layout != "COARSE" or name != "TYPE"}
     return message | {name: fields[AT[ours]] for name, ours in entry_names(layout)}
 
 
@@ -309,24 +323,34 @@ def look_up(table, key):
     """The track of a key, all 0 if it is not held."""
     key %= 2**32
     track = tables.look_up(table, key)
-    return row(AT["TRACK"], {} if track is None else track_row(track, key >> 24))
+    return row(AT["TRACK"], {} if track is None else track_row(track, kind_in(key)))
 
 
-def replayed(log, kind, address, site):
-    """The track of a key worked out again, all 0 if it is not held; 14, then 8 for a kind that is none too."""
-    kind, address = kind % 2**32, address % 2**32
-    track = plain_method.replay(log, kind, address if kind in KINDS else 2**24, site)
+def replayed(log, kind, address, site=None, flag=0, station=0):
+    """The track of a key worked out again, all 0 if it is not held."""
+    track = plain_method.replay(log, kind, address, site, flag, station)
     return row(AT["TRACK"], {} if track is None else track_row(track, kind))
+
+
+def by_number(log, kind, address, site):
+    """The same by the number of a kind, I to N; 14, then 8 for one that is none too."""
+    kind, address = kind % 2**32, address % 2**32
+    return replayed(log, kind, address if kind in KINDS and kind != C else 2**24, site)
 
 
 def replay(log, kind, address):
     """Without a site."""
-    return replayed(log, kind, address, None)
+    return by_number(log, kind, address, None)
 
 
 def replay_at(log, kind, address, latitude, longitude):
     """With one."""
-    return replayed(log, kind, address, (signed(latitude % 2**32), longitude % 2**32))
+    return by_number(log, kind, address, (signed(latitude % 2**32), longitude % 2**32))
+
+
+def replay_coarse(log, address, flag, station):
+    """Of kind C, with a flag and a station."""
+    return replayed(log, C, address % 2**32, None, flag % 2**32, station % 2**32)
 
 
 def text_bytes(text):
@@ -382,24 +406,39 @@ def place_row(place):
     return row(AT["SPOT"], {"SPOT_LATITUDE": place[0], "SPOT_LONGITUDE": place[1]})
 
 
-def encode_position(latitude, longitude, surface, odd):
+def encode_position(latitude, longitude, surface, odd, size=positions.COUNTS):
     """The two counts of a place."""
-    counts = positions.encode(*turn_and_i(surface, odd), signed(latitude % 2**32), longitude % 2**32)
+    counts = positions.encode(*turn_and_i(surface, odd), signed(latitude % 2**32), longitude % 2**32, size)
     return row(AT["COUNTS"], {"COUNT_LATITUDE": counts[0], "COUNT_LONGITUDE": counts[1]})
 
 
-def pair(even_latitude, even_longitude, odd_latitude, odd_longitude, later_odd):
+def encode_position_coarse(latitude, longitude, odd):
+    """The two coarse counts of a place; a coarse message is airborne."""
+    return encode_position(latitude, longitude, 0, odd, positions.COARSE)
+
+
+def pair(even_latitude, even_longitude, odd_latitude, odd_longitude, later_odd, size=positions.COUNTS):
     """The place of two messages."""
     counts = [count % 2**32 for count in (even_latitude, even_longitude, odd_latitude, odd_longitude)]
     fits(later_odd % 2**32, 1)
-    return place_row(positions.pair(later_odd % 2**32, *counts))
+    return place_row(positions.pair(later_odd % 2**32, *counts, size=size))
 
 
-def single(latitude, longitude, count_latitude, count_longitude, surface, odd):
+def pair_coarse(*numbers):
+    """The place of two coarse messages."""
+    return pair(*numbers, positions.COARSE)
+
+
+def single(latitude, longitude, count_latitude, count_longitude, surface, odd, size=positions.COUNTS):
     """The place of one message near a reference."""
     reference = signed(latitude % 2**32), longitude % 2**32
     counts = count_latitude % 2**32, count_longitude % 2**32
-    return place_row(positions.single(*turn_and_i(surface, odd), *counts, *reference))
+    return place_row(positions.single(*turn_and_i(surface, odd), *counts, *reference, size=size))
+
+
+def single_coarse(latitude, longitude, count_latitude, count_longitude, odd):
+    """The place of one coarse message."""
+    return single(latitude, longitude, count_latitude, count_longitude, 0, odd, positions.COARSE)
 
 
 def to_degrees(latitude, longitude):
@@ -419,12 +458,15 @@ def decode(message):
 
 
 def me(number, key):
-    """What an ME of a key says; 8 for more than 56 bits or what is no key, then 5."""
+    """What an ME of a key says; 8 for more than 56 bits or what is no key, then 5. Of kind C every ME is a coarse message's."""
     fits(number, 56)
-    kind = key % 2**32 >> 24
-    if kind not in KINDS:
+    kind = kind_in(key % 2**32)
+    if kind is None:
         raise Refused(8)
-    return row(AT["FIELDS"], me_row(number, kind in GROUND_KINDS))
+    layout = "COARSE" if kind == C else layout_in(number)
+    if layout is None:
+        raise Refused(5)
+    return row(AT["FIELDS"], me_row(number, layout, kind in GROUND_KINDS))
 
 
 def encode(fields):
@@ -460,12 +502,16 @@ FUNCTIONS = {
     "look_up": Function(look_up, READS, None, AT["TRACK"], WORDS),
     "replay": Function(replay, None, BYTES, AT["TRACK"], WORDS),
     "replay_at": Function(replay_at, None, BYTES, AT["TRACK"], WORDS),
+    "replay_coarse": Function(replay_coarse, None, BYTES, AT["TRACK"], WORDS),
     "header": Function(header, READS, None, AT["LINE"], BYTES),
     "line": Function(line, READS, None, AT["LINE"], BYTES),
     "feed_block": Function(feed_block, WRITES, BYTES, 1, WORDS),
     "encode_position": Function(encode_position, None, None, AT["COUNTS"], WORDS),
     "pair": Function(pair, None, None, AT["SPOT"], WORDS),
     "single": Function(single, None, None, AT["SPOT"], WORDS),
+    "encode_position_coarse": Function(encode_position_coarse, None, None, AT["COUNTS"], WORDS),
+    "pair_coarse": Function(pair_coarse, None, None, AT["SPOT"], WORDS),
+    "single_coarse": Function(single_coarse, None, None, AT["SPOT"], WORDS),
     "degrees": Function(to_degrees, None, None, AT["DEGREES"], WORDS),
     "from_degrees": Function(from_degrees, None, None, AT["SPOT"], WORDS),
     "decode": Function(decode, None, BYTES, AT["FIELDS"], WORDS),

@@ -1,4 +1,5 @@
 """Request R-10 of document 02: which version of the standard a key's messages are of, and what the TYPE of a position message says then.
+Request R-12: of kind C the version is that of the other traffic kinds, and the integrity is unknown.
 
 The tables are data, a row for each that the sources print: version 0 by source 001, table 2-11, whose slips of 380.4 m and
 7.704 km are lower bounds and not here; version 1 by the published DO-260A; version 2 by source 000, table 2-70, the published
@@ -8,7 +9,7 @@ DO-260B. The radius is not handed out.
 import messages
 from readings import UNKNOWN
 from refusals import fits
-from tracks import I, O
+from tracks import C, I, O
 
 # Version 0: TYPE, NUC, the horizontal protection limit
 NUC = [
@@ -101,7 +102,7 @@ def status_of(me):
 
 
 def version(kind, status):
-    """The version of a key's messages: 1 of T, M and N; without a status 0, else what that says, 0 to 7. 8 for an ME of more than 56 bits."""
+    """The version of a key's messages: 1 of T, M, N and C; without a status 0, else what that says, 0 to 7. 8 for an ME of more than 56 bits."""
     fits(status, 56)
     if kind not in (I, O):
         return 1
@@ -126,11 +127,11 @@ def nic(rows, type_code, *named):
 
 
 def integrity(kind, status, type_code, bit8):
-    """NUC or NIC and its number, or unknown: a version above 2, or no position message heard. 8 for what is wider than its bits."""
+    """NUC or NIC and its number, or unknown: kind C, a version above 2, or no position message heard. 8 for what is wider than its bits."""
     fits(status, 56)
     fits(type_code, 5)
     number, (a, b, c) = version(kind, status), supplements(kind, status, bit8)
-    if type_code not in TYPES or number > 2:
+    if kind == C or type_code not in TYPES or number > 2:
         return UNKNOWN
     if number == 0:
         return "NUC", {row[0]: row[1] for row in NUC}[type_code]

@@ -18,8 +18,9 @@ from captures import BLOCK, MOST_RECORDS, PLACES, SEAL, block, capture, listing,
 from parity import sealed
 from positions import EVEN, ODD
 from traffic import ANOTHER, ICAO, MODE_A, NO_TRANSPONDER, OTHER, TRANSPONDER
-from vectors.message_vectors import FLAGS, NOT_TAKEN, flipped, sealed_message
+from vectors.message_vectors import FLAGS, flipped, sealed_message
 
+STRANGE = (3, 3, 4, 4, 6, 7)  # CFs of DF 18, for a draw; of these 3 is taken since R-12
 MINUTE = 60_000
 HOUR = 60 * MINUTE
 DEGREE = 2**32 // 360
@@ -99,14 +100,14 @@ def roll_call(chance, all_flights):
 
 
 def with_faults(chance, records):
-    """Some messages damaged, some that are not taken, some of status, some records late."""
+    """Some messages damaged, some that are not taken, some of status, some coarse, some records late."""
     for place in chance.sample(range(len(records)), 100):
         time, string = records[place]
         records[place] = time, flipped(string, chance.randrange(1, 113))
     for _ in range(60):
         place = chance.randrange(len(records))
         aa = int.from_bytes(records[place][1][1:4], "big")
-        strange = sealed_message(18, chance.choice(NOT_TAKEN), aa, 11, 0), sealed_message(17, 5, aa, 31, 0), bytes(14)
+        strange = sealed_message(18, chance.choice(STRANGE), aa, 11, 0), sealed_message(17, 5, aa, 31, 0), bytes(14)
         records.insert(place, (records[place][0], chance.choice(strange)))
     for _ in range(60):
         place = chance.randrange(len(records) - 40)
@@ -221,10 +222,10 @@ def not_begun(head, aa):
 
 
 def strange_traffic(aa):
-    """CF 5 with the flag set in each layout, which is refused with 5; CF 3, 4, 6 and 7, with 4."""
+    """CF 5 with the flag set in each layout, which is refused with 5; CF 4, 6 and 7, with 4; of CF 3 one message without a partner."""
     for time, (type_code, flag) in enumerate(((7, FLAGS[0]), (11, FLAGS[1]), (0, FLAGS[1]), (19, FLAGS[2] | 1 << 48)), 50):
         yield 1_000 * time, sealed_message(18, 5, aa, type_code, flag)
-    for cf in sorted({*NOT_TAKEN}):
+    for cf in sorted({*STRANGE}):
         yield 55_000 + cf, sealed_message(18, cf, aa, 11, 888 << 36)
 
 
@@ -243,6 +244,35 @@ def airport():
     place = north, 2 * east
     rows += [(6_000, traffic.airborne(ICAO, 0x484415, EVEN, place)), (6_400, traffic.airborne(MODE_A, 0x484415, ODD, place))]
     rows += [(6_800, traffic.airborne(ANOTHER, 0x484415, EVEN, place, 20)), *strange_traffic(0x484415)]
+    return capture(sorted(rows))
+
+
+# Far from an airport, where stations send coarsely what they see
+
+
+def told_by(station, aa, spot, feet, flag=0, first=0, step=3_000):
+    """What a station tells of an aircraft for a minute: its position, angle and speed, every few seconds."""
+    for k, time in enumerate(range(first, first + MINUTE, step)):
+        here = spot[0] + 15_000 * k, (spot[1] + 40_000 * k) % 2**32
+        code = traffic.hundreds_code(feet + k // 4 * 100) if flag else traffic.altitude_code(feet + 25 * k)
+        yield time, traffic.coarse(aa, k % 2, here, station, flag, code, **{"track status": 1, "track angle": 6, "speed": 10})
+
+
+def stations():
+    """Kind C. The paper's example, told by station 3, then by station 4; an aircraft between two stations, which sends itself and is
+    sent finely too; a Mode A code that is an address as well; one of a third station, heard once; any bits."""
+    place, north, east, both = (2**29, 2**30), 47 * DEGREE, 9 * DEGREE, 0x3C6481
+    code = 0o1200 << 12 | 7  # Mode A code 1200, track number 7
+    rows = [(1_000, traffic.coarse(0xABCDEF, EVEN, place)), (1_400, traffic.coarse(0xABCDEF, ODD, place))]
+    rows += [(1_500 + time, traffic.coarse(0xABCDEF, i, place, 4)) for time, i in ((0, EVEN), (9_999, ODD))]
+    rows += told_by(0, both, (north, east), 9_000, first=200)
+    rows += told_by(15, both, (north + DEGREE // 9, east), 9_000, first=1_700, step=7_000)
+    for time, i in ((300, EVEN), (900, ODD)):
+        rows += [(time, traffic.airborne(TRANSPONDER, both, i, (north, east))), (time, traffic.airborne(ICAO, both, i, (north, east)))]
+    rows += [*told_by(2, code, (-north, east), 2_000, 1, 400), *told_by(2, code, (north, 2 * east), 3_000, 0, 500)]
+    rows += [(9_000 + 400 * i, traffic.coarse(code, i, (north, 2 * east), 9)) for i in (EVEN, ODD)]  # in order before its flag 1
+    rows += [(7_000, traffic.coarse_bits(0, 0)), (7_100, traffic.coarse_bits(2**24 - 1, 2**56 - 1))]
+    rows += [(8_000, traffic.coarse(both, EVEN, (north, east), 7)), (8_200, traffic.airborne(ICAO, both, ODD, (north, east)))]
     return capture(sorted(rows))
 
 
@@ -287,7 +317,7 @@ def hex_listing(strings, step, every):
     return listing_of(made, 0, every).encode("ascii"), refused
 
 
-SAMPLES = {"example": example, "busy-hour": busy_hour, "crowd": crowd, "gliders": gliders, "airport": airport}
+SAMPLES = {"example": example, "busy-hour": busy_hour, "crowd": crowd, "gliders": gliders, "airport": airport, "stations": stations}
 RUN = "example"  # its two listings are the same
 LISTINGS = {"listing": True, "positioned": False}  # the ending of a sample's listing, and whether all are asked for
 

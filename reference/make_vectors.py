@@ -31,11 +31,12 @@ def listed(root):
 
 
 def made(program):
-    """The two files of a program, and how many cases they have."""
+    """The two files of a program, and in words how many cases they have."""
     cases = list(PROGRAMS[program].cases())
-    stdin = b"".join(record for record, _ in cases)
+    records = [record for record, _ in cases]
     stdout = "".join(line + "\n" for _, line in cases).encode("ascii")
-    return {"stdin": stdin, "stdout": stdout}, len(cases)
+    noted = f", {PROGRAMS[program].noted(records)}" if hasattr(PROGRAMS[program], "noted") else ""
+    return {"stdin": b"".join(records), "stdout": stdout}, f"{len(cases)} cases{noted}"
 
 
 def first_difference(name, content, standing):
@@ -85,7 +86,7 @@ def main():
                 write(root, program, name, content)
             elif not check(root, program, name, content):
                 return 1
-        print(f"{program}: {count} cases {'as made' if arguments.check else 'written'}")
+        print(f"{program}: {count} {'as made' if arguments.check else 'written'}")
     return 0
 
 

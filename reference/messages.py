@@ -1,5 +1,6 @@
 """The paper, "What the decoder covers" and "ME fields, by bit numbers of ME"; of TYPE 0 the request R-2, of DF 18 with CF 2
-and 5, a ground station's traffic service, the request R-3, of operational status the request R-10.
+and 5, a ground station's traffic service, the request R-3, of operational status the request R-10, of DF 18 with CF 3, that
+service's coarse messages, the request R-12.
 
 A message is its fields by name, in the order of their bits; those the paper leaves without a
 name are called by their bit numbers. All bits, reserved ones included, are kept.
@@ -8,8 +9,9 @@ name are called by their bit numbers. All bits, reserved ones included, are kept
 from parity import remainder, sealed
 from refusals import Refused, fits
 
-# name, first bit, last bit: of the message
-HEAD = [("DF", 1, 5), ("CA or CF", 6, 8), ("AA", 9, 32), ("TYPE", 33, 37)]
+# name, first bit, last bit: of the message; a coarse one has no TYPE
+SENDER = [("DF", 1, 5), ("CA or CF", 6, 8), ("AA", 9, 32)]
+HEAD = [*SENDER, ("TYPE", 33, 37)]
 
 # and of ME, after TYPE
 IDENTIFICATION = [("category", 6, 8), ("characters", 9, 56)]
@@ -57,6 +59,19 @@ STATUS = [
     ("bit 54", 54, 54),
     ("bits 55-56", 55, 56),
 ]
+# A coarse message, all of ME: source 002, 2.2.17.3.5, figure 2-30
+COARSE = [
+    ("flag", 1, 1),
+    ("surveillance status", 2, 3),
+    ("station", 4, 7),
+    ("altitude", 8, 19),
+    ("track status", 20, 20),
+    ("track angle", 21, 25),
+    ("speed", 26, 31),
+    ("F", 32, 32),
+    ("latitude", 33, 44),
+    ("longitude", 45, 56),
+]
 
 
 def field(string, first, last):
@@ -66,13 +81,18 @@ def field(string, first, last):
 
 
 def df_taken(df, ca_or_cf):
-    """Taken: DF 17 with any CA, and DF 18 with CF 0, 1, 2 or 5."""
-    return df == 17 or df == 18 and ca_or_cf in (0, 1, 2, 5)
+    """Taken: DF 17 with any CA, and DF 18 with CF 0, 1, 2, 3 or 5."""
+    return df == 17 or df == 18 and ca_or_cf in (0, 1, 2, 3, 5)
+
+
+def is_coarse(message):
+    """Whether it is a coarse message: DF 18 with CF 3."""
+    return message["DF"] == 18 and message["CA or CF"] == 3
 
 
 def is_traffic(message):
-    """Whether a ground station's traffic service sent it: DF 18 with CF 2 or 5."""
-    return message["DF"] == 18 and message["CA or CF"] in (2, 5)
+    """Whether a ground station's traffic service sent it: DF 18 with CF 2, 3 or 5."""
+    return message["DF"] == 18 and message["CA or CF"] in (2, 3, 5)
 
 
 def layout(type_code, subtype):
@@ -92,8 +112,22 @@ def layout(type_code, subtype):
     return None
 
 
+def layout_of(message):
+    """The layout of a message: by CF if it is coarse, whatever its bits, else by TYPE; none where that is missing."""
+    if is_coarse(message):
+        return COARSE
+    return layout(message["TYPE"], message.get("subtype")) if "TYPE" in message else None
+
+
+def fields_of(fields):
+    """Every field of a message of this layout."""
+    return (SENDER if fields is COARSE else HEAD) + fields
+
+
 def flag_name(fields):
-    """What says which address AA is: ME bit 21 on the surface, 8 airborne, 9 of a velocity; what names or tells a status has none."""
+    """What says which address AA is: ME bit 21 on the surface, 8 airborne, 9 of a velocity, 1 if coarse; what names or tells a status has none."""
+    if fields is COARSE:
+        return "flag"
     if fields is SURFACE:
         return "T"
     if fields is AIRBORNE:
@@ -103,7 +137,7 @@ def flag_name(fields):
 
 def flag(message):
     """The flag of a message; it counts as 0 where there is none."""
-    return message.get(flag_name(layout(message["TYPE"], message.get("subtype"))), 0)
+    return message.get(flag_name(layout_of(message)), 0)
 
 
 def is_reserved(message):
@@ -112,8 +146,8 @@ def is_reserved(message):
 
 
 def is_ground_status(message):
-    """TYPE 31 under CF 2 and 5, whatever its subtype: a ground station sends none."""
-    return message["TYPE"] == 31 and is_traffic(message)
+    """TYPE 31 under CF 2 and 5, whatever its subtype: a ground station sends none. A coarse message has no TYPE."""
+    return message.get("TYPE") == 31 and is_traffic(message)
 
 
 def decode(string):
@@ -122,11 +156,13 @@ def decode(string):
         raise Refused(1)
     if remainder(string) != 0:
         raise Refused(3)
-    message = {name: field(string, first, last) for name, first, last in HEAD}
+    message = {name: field(string, first, last) for name, first, last in SENDER}
     if not df_taken(message["DF"], message["CA or CF"]):
         raise Refused(4)
     me = string[4:11]  # ME is bits 33-88
-    fields = layout(message["TYPE"], field(me, 6, 8))
+    if not is_coarse(message):
+        message["TYPE"] = field(me, 1, 5)
+    fields = layout_of(message | {"subtype": field(me, 6, 8)})
     if fields is None:
         raise Refused(5)
     message |= {name: field(me, first, last) for name, first, last in fields}
@@ -136,16 +172,19 @@ def decode(string):
 
 
 def encode(message):
-    """The same 14 bytes; 8 for a field wider than its bits or a message that would earn 4 or 5."""
+    """The same 14 bytes; 8 for a field wider than its bits or a message that would earn 4 or 5.
+
+    So it is for coarse fields without CF 3, and for others with it.
+    """
     if not df_taken(message["DF"], message["CA or CF"]):
         raise Refused(8)
-    fields = layout(message["TYPE"], message.get("subtype"))
-    if fields is None or list(message) != [name for name, _, _ in HEAD + fields]:
+    fields = layout_of(message)
+    if fields is None or list(message) != [name for name, _, _ in fields_of(fields)]:
         raise Refused(8)
     if is_reserved(message) or is_ground_status(message):
         raise Refused(8)
     whole = 0
-    for name, first, last in HEAD + fields:
+    for name, first, last in fields_of(fields):
         width = last - first + 1
         fits(message[name], width)
         whole = whole << width | message[name]

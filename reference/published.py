@@ -1,7 +1,8 @@
 """Published vectors, and the paper's own examples, as data.
 
 The coding rows stand in the draft of DO-260B; the messages and positions are the well-known public
-ones. Rows that the paper leaves out (coarse speed, surface pairs) are not here; those of integrity are in integrity.py.
+ones. Rows that the paper leaves out (surface pairs) are not here; those of integrity are in integrity.py. Of coarse messages
+none is published: the bits of two are set out by the figure of source 002.
 """
 
 import csv
@@ -159,6 +160,14 @@ STATUS_ROWS = [
     ("8DABCDEFF800000000300012DE27", {"subtype": 0, "version": 1, "supplement A": 1, "bit 20": 0}),
     ("8DABCDEFF80000000060008E8E35", {"subtype": 0, "version": 3, "supplement A": 0, "bit 20": 0}),
 ]
+
+# Coarse messages, by source 002, 2.2.17.3.5: figure 2-30, field by field, the example of 45 N 90 E with 10,000 feet, even and odd,
+# sent by station 3; and its table of speeds, in knots, lower edge
+COARSE_BITS = [
+    "10010 011 101010111100110111101111 0 00 0011 001101111000 0 00000 000000 0 100000000000 100000000000",
+    "10010 011 101010111100110111101111 0 00 0011 001101111000 0 00000 000000 1 011000000000 010000000000",
+]
+COARSE_SPEEDS = [(0, "unknown"), (1, "from 0"), (2, "from 16"), (3, "from 48"), (62, "from 1936"), (63, "1968 and up")]
 
 TEXTS = [("8D406B902015A678D4D220AA4BDA", "EZY85MH "), ("8D4840D6202CC371C32CE0576098", "KLM1023 ")]
 

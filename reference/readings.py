@@ -1,4 +1,5 @@
-"""What codes mean: the paper, "ME fields, by bit numbers of ME" and "Altitude"; of operational status the request R-10.
+"""What codes mean: the paper, "ME fields, by bit numbers of ME" and "Altitude"; of operational status the request R-10, of
+coarse messages the request R-12.
 
 A reading is a number, or a word where the paper has one: unknown, over, stopped, reserved.
 A code wider than its bits is refused with 8, before everything else; so is a body with such a field, as a whole.
@@ -115,6 +116,24 @@ def surface_heading(code):
     return code * TURN // 128
 
 
+def track_angle(code):
+    """Of a coarse message: n/32 of a turn from true north, clockwise."""
+    fits(code, 5)
+    return code * TURN // 32
+
+
+def coarse_speed(code):
+    """Of a coarse message, in knots, lower edge: source 002, 2.2.17.3.5."""
+    fits(code, 6)
+    if code == 0:
+        return UNKNOWN
+    if code == 1:
+        return "from 0"
+    if code == 63:
+        return "1968 and up"
+    return f"from {32 * code - 48}"
+
+
 def movement(code):
     """Movement in 48ths of a knot, lower edge."""
     fits(code, 7)
@@ -173,14 +192,24 @@ def status(message):
     return {"version": said, "supplement A": a, "supplement C": c}
 
 
+def coarse(message):
+    """The altitude and its step, the angle, whatever the track status says, and the speed."""
+    code = message["altitude"]
+    said = {"altitude": altitude(code), "step": step(code)}
+    return said | {"angle": track_angle(message["track angle"]), "speed": coarse_speed(message["speed"])}
+
+
 def body(fields, message, traffic=False):
     """What the fields of a layout mean, by name, in a message of a ground station's traffic service or another one.
 
     Of traffic the height difference is unknown unless ME bit 36, where others have the rate source, is set: R-3.
-    8 for the whole of it where one field is wider than its bits, or TYPE and subtype are not those of the layout.
+    8 for the whole of it where one field is wider than its bits, or TYPE and subtype are not those of the layout. A coarse
+    one has none, and every one is legal.
     """
-    for name, first, last in [("TYPE", 1, 5), *fields]:
+    for name, first, last in [*([] if fields is messages.COARSE else [("TYPE", 1, 5)]), *fields]:
         fits(message[name], last - first + 1)
+    if fields is messages.COARSE:
+        return coarse(message)
     if messages.layout(message["TYPE"], message.get("subtype")) is not fields:
         raise Refused(8)
     if fields is messages.IDENTIFICATION:

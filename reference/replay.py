@@ -1,9 +1,11 @@
-"""Document 02, R-8: the track of one key, worked out again from a log. The plain method: the records in order, and no table."""
+"""Document 02, R-8: the track of one key, worked out again from a log. The plain method: the records in order, and no table.
+R-12: a key of kind C is asked for with its flag and its station.
+"""
 
 import tracks
 from messages import decode
 from positions import latitude_test
-from refusals import Refused
+from refusals import Refused, fits
 
 RECORD, TIME = 22, 8  # bytes: a time, high byte first, and the message behind it
 MOST_RECORDS = 2_900
@@ -27,14 +29,19 @@ def message_of(key, string):
     return message if tracks.key_of(message) == key else None
 
 
-def replay(log, kind, address, site=None):
-    """The track of the key after all records, or None where it is not held; 14, then 8 for an address over 24 bits or a bad site."""
+def replay(log, kind, address, site=None, flag=0, station=0):
+    """The track of the key after all records, or None where it is not held; 14, then 8 for an address over 24 bits or a bad site.
+
+    Of kind C also for a flag above 1 or a station above 15; of others neither is looked at.
+    """
     records = list(records_of(log))
-    if address >= 2**24:
-        raise Refused(8)
+    fits(address, 24)
+    if kind == tracks.C:
+        fits(flag, 1)
+        fits(station, 4)
     if site is not None:
         latitude_test(site[0])
-    key, clock, track = kind << 24 | address, 0, None
+    key, clock, track = tracks.key_for(kind, address, flag, station), 0, None
     for time, string in records:
         if time < clock:
             continue  # late: nothing changes

@@ -8,6 +8,7 @@ bytes, and tables whose values are just out of their ranges. The first differenc
 """
 
 import sys
+from itertools import product
 from random import Random
 
 import messages
@@ -16,33 +17,37 @@ import traffic
 from captures import BLOCK, MOST_RECORDS, block
 from captures import KINDS as LETTERS
 from embedding import AT, BYTES, FUNCTIONS, WORDS, WRITES, array_of, call_text, message_from, message_row, outcome_text, row
-from positions import AIRBORNE, EVEN, ODD
+from positions import AIRBORNE, COARSE, COUNTS, EVEN, ODD
 from positions import encode as counts_of
 from programs import C, ran
 from readings import UNKNOWN, altitude
 from refusals import Refused
 from replay import MOST_RECORDS as MOST_LOGGED
 from replay import RECORD
-from run_captures import damaged, message
+from run_captures import SENDERS, damaged, message
 from tracks import KINDS as KIND_NUMBERS
-from tracks import I, Track
+from tracks import C as OF_COARSE
+from tracks import I, N, Track, key_for, kind_in
 from traffic import GROUND, OTHER, TRANSPONDER
 from vectors import figures
 from vectors.message_vectors import random_acceptable, random_reserved, random_status, sealed_message
 from vectors.position_vectors import random_counts, random_latitude, random_longitude
 from vectors.table_vectors import random_track, with_status
 
-CALLS = 800  # of each function
-RECEIVED = 20  # times as many of receive, so that tracks grow; and twice as many of decode and look_up, for the sorts of message
+CALLS = 1_000  # of each function
+RECEIVED = 20  # times as many of receive, so that tracks grow; and more of decode, me and look_up, for the sorts of message
 LISTED = ["header", "next", "line"]  # what a listing calls
 DOUBLED = 150  # of each of these, on tables that hold keys twice
-OLD_LENGTHS = [("header", 97), ("line", 97), *(("look_up", length) for length in (23, 27, 57))]  # of older headers, refused with 1
-REPLAYS = "replay", "replay_at"
+OLD_LENGTHS = [("header", 97), ("line", 97), *(("look_up", length) for length in (23, 27, 57, 66))]  # of older headers, refused with 1
+REPLAYS = "replay", "replay_at", "replay_coarse"
 LATER = {"receive_stamp": 4_000, "degrees": 1_000, "from_degrees": 3_000, "version": 1}  # so many of these, behind all others
-LATER |= dict.fromkeys(REPLAYS, 1_500)
+LATER |= dict.fromkeys(REPLAYS, 1_500) | {"encode_position_coarse": 1_000, "pair_coarse": 3_000, "single_coarse": 2_000}
+COARSE_MES = 10_000  # so many random MEs under CF 3, each decoded and encoded again
 LAST = 2**64 - 1
 FIRST_READING = 20  # from this entry on fields are readings
-KEYS = [kind << 24 | aa for kind in KIND_NUMBERS for aa in (0, 1, 0xABCDEF, 2**24 - 1)]  # those of run_captures.message
+AAS = 0, 1, 0xABCDEF, 2**24 - 1  # those of run_captures.message; and of their keys most
+KEYS = [key_for(kind, aa) for kind in range(I, N + 1) for aa in AAS]
+KEYS += [key_for(OF_COARSE, aa, *sender) for aa in AAS[2:] for sender in SENDERS]
 
 
 def number(chance):
@@ -70,6 +75,16 @@ def random_bytes(chance):
     return made
 
 
+def with_coarse(chance, track):
+    """The track, in half of the cases as coarse messages leave it, or in part: counts of 12 bits, any ME as velocity."""
+    if chance.randrange(2):
+        return track
+    whole = chance.randrange(3) > 0
+    saved = [one._replace(coarse=1, **dict(zip(("latitude", "longitude"), random_counts(chance, 2, COARSE)))) for one in track.saved]
+    track = track._replace(saved=tuple(saved)) if whole or chance.randrange(2) else track
+    return track._replace(velocity=chance.getrandbits(56), coarse=1) if whole or chance.randrange(2) else track
+
+
 def random_tracks(chance, least=1, most=6):
     """A table of any tracks about its clock, with twins, a site or none, and now and then a value out of its range."""
     places, clock = chance.randint(least, most), chance.choice((0, 130_000, 10**9, LAST - 5))
@@ -80,7 +95,7 @@ def random_tracks(chance, least=1, most=6):
     for place in range(places):
         tables.put(made, tables.key_at(place), 4, chance.choice(KEYS))
         at = tables.body_at(made, place)
-        made[at : at + tables.BODY] = tables.body_of(with_status(chance, random_track(chance, clock)))
+        made[at : at + tables.BODY] = tables.body_of(with_coarse(chance, with_status(chance, random_track(chance, clock))))
         if chance.randrange(6) == 0:
             tables.put(made, at + tables.LATITUDE, 4, chance.choice((2**31, 2**31 + 1, 2**32 - 1)))
     return made
@@ -96,7 +111,7 @@ def full(places):
     """A table whose places are all held: its aircraft are 1, 2, and so on."""
     made = bytearray(tables.length_of(places))
     for place in range(places):
-        tables.put(made, tables.key_at(place), 4, I << 24 | place + 1)
+        tables.put(made, tables.key_at(place), 4, key_for(I, place + 1))
         at = tables.body_at(made, place)
         made[at : at + tables.BODY] = tables.body_of(Track())
     return made
@@ -172,21 +187,40 @@ def told(chance):
     return random_status(chance, chance.choice((TRANSPONDER, OTHER)), 0xABCDEF)
 
 
+def placed_coarsely(chance):
+    """A coarse message of the same place and AA, of one of the stations."""
+    flag, station = chance.choice(SENDERS)
+    return traffic.coarse(0xABCDEF, chance.choice((EVEN, ODD)), (2**29, 2**30), station, flag, speed=edge(chance, 6))
+
+
 def some_log(chance):
     """A log of a few records, at times about a drop, or of positions close behind each other; rarely not of whole ones, or too long."""
     time, log, close = chance.choice((0, 0, 10**6, LAST - 10**6)), b"", chance.randrange(3) == 0
     for _ in range(chance.randrange(24)):
         step = chance.choice((0, 1, 400) if close else (0, 1, 400, 400, 5_000, 10_001, 120_001, 124_999, 125_000, -1))
         time = min(LAST, max(0, time + step))
-        log += time.to_bytes(8, "big") + chance.choice((placed, placed, told) if close else (message, message, edge_message))(chance)
+        sorts = (placed, placed, told, placed_coarsely, placed_coarsely) if close else (message, message, edge_message)
+        log += time.to_bytes(8, "big") + chance.choice(sorts)(chance)
     most = MOST_LOGGED * RECORD
     return log.ljust(chance.choice((*[len(log)] * 40, len(log) + 1, len(log) + 21, most, most + RECORD)), b"\0")
 
 
+def some_aa(chance):
+    """An address, rarely of more than 24 bits."""
+    return chance.choice((*AAS * 5, *[0xABCDEF] * 20, 2**24, number(chance) % 2**32))
+
+
 def of_log(chance):
-    """A kind, rarely none, and an address, rarely of more than 24 bits."""
-    kind = chance.choice((*KIND_NUMBERS * 8, 0, 6, number(chance) % 2**32))
-    return [kind, chance.choice((*(one % 2**24 for one in KEYS), *[0xABCDEF] * 20, 2**24, number(chance) % 2**32))]
+    """A kind, rarely none, or that which is asked for otherwise, and an address."""
+    return [chance.choice((*[*range(I, N + 1)] * 8, 0, OF_COARSE, number(chance) % 2**32)), some_aa(chance)]
+
+
+def of_station(chance):
+    """An address, a flag and a station, rarely above their ranges."""
+    flag, station = chance.choice(SENDERS)
+    wide, rare = number(chance) % 2**32, chance.randrange(30)
+    flags, stations = (2, 256 + flag, wide), (16, 256 + station, wide)  # of 8 bits the second would be one that is taken
+    return [some_aa(chance), flags[rare] if rare < 3 else flag, stations[rare - 3] if 3 <= rare < 6 else station]
 
 
 def edge(chance, bits):
@@ -198,26 +232,36 @@ def edge(chance, bits):
 LAYOUTS = [(0, None), (1, None), (4, None), (5, None), (11, None), (21, None), (19, 1), (19, 2), (19, 3), (19, 4), (31, 0), (31, 1)]
 
 
+def edge_coarse(chance):
+    """A coarse message of one of a few aircraft and stations, its codes mostly at the ends of their ranges."""
+    fields = {name: edge(chance, last - first + 1) for name, first, last in messages.COARSE}
+    fields["flag"], fields["station"] = chance.choice(SENDERS)
+    counts = fields.pop("latitude"), fields.pop("longitude")
+    return traffic.coarse_counts(chance.choice(AAS), fields.pop("F"), counts, **fields)
+
+
 def edge_message(chance):
     """A message of one of a few aircraft, its codes mostly at the ends of their ranges."""
+    if chance.randrange(8) == 0:
+        return edge_coarse(chance)
     type_code, subtype = chance.choice(LAYOUTS)
     fields = {name: edge(chance, last - first + 1) for name, first, last in messages.layout(type_code, subtype)}
     fields |= {} if subtype is None else {"subtype": subtype}
     heads = TRANSPONDER, OTHER, *(GROUND if type_code != 31 else ())
-    return traffic.message(chance.choice(heads), chance.choice(KEYS) % 2**24, type_code, **fields)
+    return traffic.message(chance.choice(heads), chance.choice(AAS), type_code, **fields)
 
 
 def some_message(chance):
     """A message, one in ten of any DF, CF and TYPE, or with the reserved flag, or of TYPE 31; one in ten of another length than 14."""
     length, made = about(chance, 14), chance.choice((message, edge_message))(chance)
     if chance.randrange(20) == 0:
-        made = random_reserved(chance, chance.choice(KEYS) % 2**24)
+        made = random_reserved(chance, chance.choice(AAS))
     if chance.randrange(20) == 0:
         head = chance.choice(((17, 5), *((18, cf) for cf in (0, 1, 2, 5))))
-        made = sealed_message(*head, chance.choice(KEYS) % 2**24, 31, chance.choice((0, chance.randrange(8))) << 48 | chance.getrandbits(48))
+        made = sealed_message(*head, chance.choice(AAS), 31, chance.choice((0, chance.randrange(8))) << 48 | chance.getrandbits(48))
     if chance.randrange(10) == 0:
         head = chance.choice((17, 18, chance.randrange(32))), chance.randrange(8)
-        made = sealed_message(*head, chance.choice(KEYS) % 2**24, chance.randrange(32), chance.getrandbits(51))
+        made = sealed_message(*head, chance.choice(AAS), chance.randrange(32), chance.getrandbits(51))
     return made.ljust(length, b"\0")[:length]
 
 
@@ -233,7 +277,10 @@ FLAG = {AT[f"LAYOUT_{layout}"]: AT[flag] for layout, flag in FLAGS.items()}  # t
 
 def some_fields(chance):
     """The fields of a message, often with one changed, or a wrong length. What the encoder does not read is anything."""
-    entries = row(AT["FIELDS"], message_row(messages.decode(random_acceptable(chance))))
+    made = random_acceptable(chance) if chance.randrange(5) else edge_coarse(chance)
+    entries = row(AT["FIELDS"], message_row(messages.decode(made)))
+    if chance.randrange(8) == 0:
+        entries[AT["DF"]], entries[AT["CA"]] = chance.choice(((18, 3), (18, 3), (17, 3), (18, 2)))  # CF 3 goes with coarse fields alone
     if entries[AT["CA"]] == 5 and entries[AT["LAYOUT"]] in FLAG and chance.randrange(2):
         entries[FLAG[entries[AT["LAYOUT"]]]] = 1  # reserved under DF 18
     if entries[AT["LAYOUT"]] == AT["LAYOUT_STATUS"] and chance.randrange(2):
@@ -256,17 +303,17 @@ def bit(chance):
     return chance.choice((*[0, 1] * 20, 2, number(chance) % 2**32))
 
 
-def count(chance):
-    """A count of 17 bits, rarely a wider one."""
-    return chance.choice((*random_counts(chance, 20), 0, 131_071, 131_072, number(chance) % 2**32))
+def count(chance, size=COUNTS):
+    """A count of 17 bits, or of 12, rarely a wider one."""
+    return chance.choice((*random_counts(chance, 20, size), 0, size - 1, size, number(chance) % 2**32))
 
 
-def pair_counts(chance):
+def pair_counts(chance, size=COUNTS):
     """The counts of two messages, half of the time from one place."""
     if chance.randrange(2):
-        return [count(chance) for _ in range(4)]
+        return [count(chance, size) for _ in range(4)]
     place = random_latitude(chance), random_longitude(chance)
-    return [*counts_of(AIRBORNE, EVEN, *place), *counts_of(AIRBORNE, ODD, *place)]
+    return [*counts_of(AIRBORNE, EVEN, *place, size), *counts_of(AIRBORNE, ODD, *place, size)]
 
 
 def some_figure(chance, whole):
@@ -298,17 +345,24 @@ def numbers_for(name, chance, table):
         return of_log(chance)
     if name == "replay_at":
         return [*of_log(chance), latitude(chance), random_longitude(chance)]
+    if name == "replay_coarse":
+        return of_station(chance)
     if name == "encode_position":
         return [latitude(chance), random_longitude(chance), bit(chance), bit(chance)]
+    if name == "encode_position_coarse":
+        return [latitude(chance), random_longitude(chance), bit(chance)]
     if name == "from_degrees":
         return [some_figure(chance, random_latitude(chance)), some_figure(chance, chance.getrandbits(32) - 2**31)]
     if name == "me":
         return [some_me(chance), key(chance, table)]
-    if name == "pair":
-        return [*pair_counts(chance), bit(chance)]
+    if name in ("pair", "pair_coarse"):
+        return [*pair_counts(chance, COARSE if name == "pair_coarse" else COUNTS), bit(chance)]
     if name == "single":
         place = latitude(chance), random_longitude(chance)
         return [*place, count(chance), count(chance), bit(chance), bit(chance)]
+    if name == "single_coarse":
+        place = latitude(chance), random_longitude(chance)
+        return [*place, count(chance, COARSE), count(chance, COARSE), bit(chance)]
     return []
 
 
@@ -329,7 +383,7 @@ def given_for(name, chance, table):
 def named(chance):
     """The functions, in any order, each with a table; then those of a listing, with tables of many places and few keys; then the later ones."""
     pool = Tables(chance)
-    names = [*(name for name in FUNCTIONS if name not in LATER), "decode", "look_up", *["receive"] * RECEIVED] * CALLS
+    names = [*(name for name in FUNCTIONS if name not in LATER), "decode", "me", *["look_up"] * 3, *["receive"] * RECEIVED] * CALLS
     chance.shuffle(names)
     yield from ((name, pool.choose()) for name in names)
     yield from ((name, random_tracks(chance, 9, 40)) for name in LISTED * DOUBLED)
@@ -346,12 +400,26 @@ def answered(chance, name, table, length):
     return call, outcome
 
 
+def there_and_back(chance):
+    """Any ME under CF 3, decoded, and its fields encoded: the same 14 bytes."""
+    string = traffic.coarse_bits(chance.getrandbits(24), chance.getrandbits(56))
+    decode = call_text("decode", given=string, length=AT["FIELDS"])
+    outcome = outcome_text(decode)
+    yield decode, outcome
+    encode = call_text("encode", given=array_of(outcome.split()[2], WORDS), length=len(string))
+    due = f"= 0 {string.hex()}"
+    assert outcome_text(encode) == due
+    yield encode, due
+
+
 def calls(chance):
     """The calls, each with what the model makes of it."""
     for name, table in named(chance):
         yield answered(chance, name, table, about(chance, FUNCTIONS[name].length))
     for name, length in OLD_LENGTHS:
         yield answered(chance, name, random_tracks(chance), length)
+    for _ in range(COARSE_MES):
+        yield from there_and_back(chance)
 
 
 def difference(asked, given):
@@ -375,6 +443,7 @@ NUMBERS = {
     **{"receive_stamp": {0, 1, 2, 3, 4, 5, 6, 7, 8, 12, 13}},
     **{name: {0, 1, 8, 14} for name in REPLAYS},
     **{"encode_position": {0, 1, 8}, "pair": {0, 1, 8, 9, 10}, "single": {0, 1, 8, 9}},
+    **{"encode_position_coarse": {0, 1, 8}, "pair_coarse": {0, 1, 8, 9, 10}, "single_coarse": {0, 1, 8, 9}},
     **{"degrees": {0, 1, 8}, "from_degrees": {0, 1, 15}},
     **{"decode": {0, 1, 3, 4, 5}, "encode": {0, 1, 8}, "me": {0, 1, 5, 8}},
 }
@@ -391,6 +460,9 @@ KINDS = {
     ("STATUS", "STATUS_VERSION_IS"): {"KNOWN", "NONE"},
     ("STATUS", "STATUS_SUPPLEMENT_A_IS"): {"UNKNOWN", "KNOWN"},
     ("STATUS", "STATUS_SUPPLEMENT_C_IS"): {"UNKNOWN", "KNOWN"},
+    ("COARSE", "COARSE_ALTITUDE_IS"): {"UNKNOWN", "KNOWN"},
+    ("COARSE", "COARSE_STEP_IS"): {"UNKNOWN", "KNOWN"},
+    ("COARSE", "COARSE_SPEED_IS"): STEPPED,
 }
 
 
@@ -427,7 +499,7 @@ def lost_missing(asked):
         if not call.startswith("receive "):
             continue
         string = array_of(call.split()[2], BYTES)
-        if len(string) == 14 and string[4] >> 3 == 0:
+        if len(string) == 14 and string[4] >> 3 == 0 and string[0] != 18 << 3 | 3:
             code = messages.field(string[4:11], 9, 20)
             seen.add((outcome.split()[1], "zero" if code == 0 else "unknown" if altitude(code) == UNKNOWN else "known"))
     return {(number, code) for number in ("0", "12") for code in ("zero", "unknown", "known")} - seen
@@ -467,7 +539,7 @@ def of_traffic(name, words, outcome):
     if name == "encode" and outcome[1] == "8" and sort_of_fields(array_of(words[0], WORDS)):
         return "encode", "8"
     if name == "look_up" and outcome[1] == "0" and len(outcome[2]) == 2 * WORDS * AT["TRACK"]:
-        return "look_up", int(words[-1]) >> 24, array_of(outcome[2], WORDS)[0]
+        return "look_up", kind_in(int(words[-1])), array_of(outcome[2], WORDS)[0]
     return None
 
 
@@ -505,7 +577,8 @@ def steps_missing(asked):
 # What people are shown of a track, and what each reading can be besides known and unknown
 SHOWN = dict.fromkeys("CALLSIGN CATEGORY_SET CATEGORY HEADING HEADING_STATUS AIRSPEED_KIND".split(), set())
 SHOWN |= dict.fromkeys("RATE_SOURCE ON_GROUND SURFACE_HEADING SURFACE_STATUS".split(), set())
-SHOWN |= dict.fromkeys("EAST NORTH AIRSPEED RATE".split(), {"OVER"}) | {"MOVEMENT": {"OVER", "NONE", "STOPPED"}}
+SHOWN |= dict.fromkeys("EAST NORTH AIRSPEED RATE SPEED".split(), {"OVER"}) | {"MOVEMENT": {"OVER", "NONE", "STOPPED"}}
+SHOWN |= dict.fromkeys("ANGLE ANGLE_STATUS".split(), set())
 
 
 def shown_missing(asked):
@@ -516,7 +589,7 @@ def shown_missing(asked):
         entries = array_of(words[2], WORDS) if call.startswith("look_up ") and words[1] == "0" else [0]
         if entries[AT["TRACK_HELD"]]:
             seen |= {(name, entries[AT[f"TRACK_{name}_IS"]]) for name in SHOWN} | {("ground", entries[AT["TRACK_ON_GROUND"]])}
-            traffic = int(call.split()[-1]) >> 24 > 2
+            traffic = kind_in(int(call.split()[-1])) > 2
             seen.add(("rate", traffic, entries[AT["TRACK_RATE_IS"]], entries[AT["TRACK_RATE_SOURCE_IS"]]))
     due = {(name, AT[kind]) for name, kinds in SHOWN.items() for kind in {"KNOWN", "UNKNOWN", *kinds}} | {("ground", 0), ("ground", 1)}
     return (due | {("rate", traffic, AT["KNOWN"], AT["UNKNOWN" if traffic else "KNOWN"]) for traffic in (False, True)}) - seen
@@ -531,9 +604,9 @@ def me_missing(asked):
             entries = array_of(words[2], WORDS)
             seen.add(entries[AT["LAYOUT"]])
             if entries[AT["LAYOUT"]] in (AT["LAYOUT_GROUND"], AT["LAYOUT_AIR"]):
-                traffic = int(call.split()[-1]) >> 24 > 2
+                traffic = kind_in(int(call.split()[-1])) > 2
                 seen.add((traffic, entries[AT["VERTICAL_SOURCE"]], entries[AT["VERTICAL_DIFFERENCE_IS"]]))
-    due = {AT[f"LAYOUT_{name}"] for name in ("IDENTIFICATION", "SURFACE", "AIRBORNE", "GROUND", "AIR", "STATUS")}
+    due = {AT[f"LAYOUT_{name}"] for name in ("IDENTIFICATION", "SURFACE", "AIRBORNE", "GROUND", "AIR", "STATUS", "COARSE")}
     due |= {(traffic, 1, AT[kind]) for traffic in (False, True) for kind in STEPPED}
     return (due | {(True, 0, AT["UNKNOWN"])} | {(False, 0, AT[kind]) for kind in STEPPED}) - seen
 
@@ -556,7 +629,7 @@ def of_status(name, words, outcome):
     if name not in ("look_up", *REPLAYS) or outcome[1] != "0" or not array_of(outcome[2], WORDS)[AT["TRACK_HELD"]]:
         return set()
     entries = array_of(outcome[2], WORDS)
-    kind = int(words[-1]) >> 24 if name == "look_up" else int(words[2])
+    kind = kind_in(int(words[-1])) if name == "look_up" else asked_kind(name, words)
     said = {(name, kind > 2, "integrity", entries[AT["TRACK_VERSION"]], entries[AT["TRACK_INTEGRITY_IS"]])}
     return said | {(name, letter, entries[AT["TRACK_VERSION"]]) for letter in "ABC" if entries[AT[f"TRACK_SUPPLEMENT_{letter}"]]}
 
@@ -572,8 +645,37 @@ def status_missing(asked):
     of_version = {0: (unknown, nuc), 1: (unknown, nic), 2: (unknown, nic), **dict.fromkeys(range(3, 8), (unknown,))}
     due |= {("look_up", False, "integrity", version, sort) for version, sorts in of_version.items() for sort in sorts}
     due |= {("look_up", True, "integrity", 1, sort) for sort in (unknown, nic)}
-    due |= {(name, letter, version) for name in ("look_up", *REPLAYS) for letter, version in (("A", 1), ("A", 2), ("B", 2), ("C", 2))}
+    named = "look_up", "replay", "replay_at"
+    due |= {(name, letter, version) for name in named for letter, version in (("A", 1), ("A", 2), ("B", 2), ("C", 2))}
     return due - seen
+
+
+def of_coarse(name, words, outcome):
+    """What one call tried of coarse messages: received, by the flag; encoded or not, by layout and CF; held, by the station."""
+    if name == "receive":
+        string = array_of(words[1], BYTES)
+        return ("receive", string[4] >> 7, outcome[1]) if len(string) == 14 and string[0] == 18 << 3 | 3 else None
+    if name == "encode" and len(array_of(words[0], WORDS)) == AT["FIELDS"]:
+        entries = array_of(words[0], WORDS)
+        return "encode", entries[AT["LAYOUT"]] == AT["LAYOUT_COARSE"], (entries[AT["DF"]], entries[AT["CA"]]) == (18, 3), outcome[1]
+    if name in ("look_up", "line") and outcome[1] == "0" and kind_in(int(words[2])) == OF_COARSE:
+        return name, int(words[2]) % 32, any(array_of(outcome[2], BYTES))
+    return None
+
+
+def coarse_missing(asked):
+    """What was never tried of it: taken and 6, damaged and late; 8 for coarse fields without CF 3, and for others with it; a line of each."""
+    seen = {of_coarse(call.split()[0], call.split()[1:], outcome.split()) for call, outcome in asked}
+    due = {("receive", flag, number) for flag in (0, 1) for number in ("0", "2", "3", "6")}
+    due |= {("encode", True, True, "0"), ("encode", True, False, "8"), ("encode", False, True, "8"), ("encode", False, False, "0")}
+    due |= {(name, 16 * flag + station, held) for name in ("look_up", "line") for flag, station in SENDERS for held in (False, True)}
+    never = {("receive", flag, number) for flag in (0, 1) for number in ("4", "5", "12")} & seen
+    return due - seen | never
+
+
+def asked_kind(name, words):
+    """The kind that a replay is asked for."""
+    return OF_COARSE if name == "replay_coarse" else int(words[2])
 
 
 def replays_missing(asked):
@@ -582,10 +684,11 @@ def replays_missing(asked):
     for call, outcome in asked:
         (name, *words), (_, answer, *arrays) = call.split(), outcome.split()
         if name in REPLAYS and answer == "0":
-            entries, kind = array_of(arrays[0], WORDS), int(words[2])
+            entries, kind = array_of(arrays[0], WORDS), asked_kind(name, words)
             seen |= {(name, kind, held) for held in ("held", "placed") if entries[AT[{"held": "TRACK_HELD", "placed": "TRACK_POSITION_KNOWN"}[held]]]}
             seen |= {(name, kind, "absent")} if not entries[AT["TRACK_HELD"]] else set()
-    return {(name, kind, what) for name in REPLAYS for kind in KIND_NUMBERS for what in ("held", "placed", "absent")} - seen
+    due = {*product(("replay", "replay_at"), range(I, N + 1)), ("replay_coarse", OF_COARSE)}
+    return {(*one, what) for one in due for what in ("held", "placed", "absent")} - seen
 
 
 def full_missing(asked):
@@ -608,7 +711,7 @@ def doubled_missing(asked):
 
 
 def for_structs(call):
-    """Can structs say a call? The result array has its own length, a state 32 bits, and a kind and an address make a key."""
+    """Can structs say a call? The result array has its own length, a state 32 bits, and what is replayed makes a key."""
     name, *words = call.split()
     function = FUNCTIONS[name]
     lent = len([one for one in (function.table, function.given) if one])
@@ -616,8 +719,10 @@ def for_structs(call):
         return False
     if name == "receive_stamp" and any(int(word) >= 2**32 for word in words[-AT["STAMPS"] :]):
         return False
-    if name.startswith("replay") and not (int(words[lent + 1]) < 2**8 and int(words[lent + 2]) < 2**24):
-        return False  # of a key
+    if name == "replay_coarse" and not all(int(word) < 2**bits for word, bits in zip(words[lent + 1 :], (24, 1, 4), strict=True)):
+        return False
+    if name in ("replay", "replay_at") and not (int(words[lent + 1]) < 2**7 and int(words[lent + 2]) < 2**24):
+        return False
     return not function.result or int(words[lent]) == function.length
 
 
@@ -639,11 +744,12 @@ def main():
             return 1
     untried = [header_faults(), numbers_missing(asked), kinds_missing(asked), lost_missing(asked), traffic_missing(asked)]
     untried += [steps_missing(asked), shown_missing(asked), me_missing(asked), full_missing(asked), doubled_missing(asked)]
-    untried += [replays_missing(asked), status_missing(asked)]
+    untried += [replays_missing(asked), status_missing(asked), coarse_missing(asked)]
     if any(untried):
         print(f"the header has other numbers than the paper, or these were never tried: {untried}")
         return 1
     print(f"{len(asked)} calls of {len(FUNCTIONS)} functions, and {len(said)} with structs: C answers and leaves what the model does")
+    print(f"{COARSE_MES} random MEs under CF 3: each comes back as the same 14 bytes")
     return 0
 
 

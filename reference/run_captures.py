@@ -19,6 +19,7 @@ from traffic import GROUND, NO_TRANSPONDER, OTHER, TRANSPONDER
 from vectors.message_vectors import flipped, random_acceptable, random_no_position, random_reserved, random_status
 
 RANDOM_CAPTURES = 200
+SENDERS = (0, 0), (0, 3), (1, 15)  # flag and station of coarse messages
 
 
 def message(chance):
@@ -26,6 +27,7 @@ def message(chance):
     head, aa = chance.choice((TRANSPONDER, NO_TRANSPONDER, OTHER, *GROUND)), chance.choice((0, 1, 0xABCDEF, 2**24 - 1))
     place = chance.randrange(-(2**30), 2**30), chance.randrange(2**32)
     near = 2**29 + chance.randrange(10**6), 2**30 + chance.randrange(10**6)
+    flag, station = chance.choice(SENDERS)
     return chance.choice((
         lambda: traffic.airborne(head, aa, chance.choice((EVEN, ODD)), near),
         lambda: traffic.airborne(head, aa, chance.choice((EVEN, ODD)), place, chance.choice((9, 18, 20)), chance.getrandbits(12)),
@@ -34,8 +36,10 @@ def message(chance):
         lambda: chance.choice((traffic.velocity(head, aa, 9, 9), random_reserved(chance, aa))),
         lambda: random_no_position(chance, head, aa),
         lambda: random_status(chance, head, aa),  # of a ground station 5
+        lambda: traffic.coarse(aa, chance.choice((EVEN, ODD)), near, station, flag, speed=chance.getrandbits(6)),
+        lambda: chance.choice((traffic.coarse(aa, chance.choice((EVEN, ODD)), place, station, flag), traffic.coarse_bits(aa, chance.getrandbits(56)))),
         lambda: random_acceptable(chance),
-        lambda: flipped(random_acceptable(chance), chance.randrange(1, 113)),
+        lambda: flipped(chance.choice((random_acceptable(chance), traffic.coarse(aa, EVEN, near, station, flag))), chance.randrange(1, 113)),
         lambda: chance.randbytes(14),
     ))()
 

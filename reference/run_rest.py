@@ -25,14 +25,14 @@ from captures import BLOCK, MOST_RECORDS, block, record_at, records_of
 from make_samples import resealed
 from messages import encode
 from parity import remainder, sealed
-from positions import AIRBORNE, EVEN, ODD, SURFACE
+from positions import AIRBORNE, COARSE, COUNTS, EVEN, ODD, SURFACE
 from positions import encode as counts_of
 from programs import ROOT
 from refusals import Refused, answer
 from run_captures import damaged, random_capture
 from table import BODY, KEY, LATITUDE, LONGITUDE, MARKS, POLE, SAVED, TIME, bits, get
 from tracks import Position, Saved, Track
-from traffic import OTHER, TRANSPONDER, airborne
+from traffic import OTHER, TRANSPONDER, airborne, coarse_bits
 from vectors import table_vectors
 from vectors.bench import Bench, filling, fours, track_text
 from vectors.table_vectors import HERE, LAST, NEAR, ONE, THREE, TWO, I, O, three
@@ -63,9 +63,11 @@ def signed(number):
 
 
 def saved_in(body, at):
-    """An encoded position, with its mark or without."""
+    """An encoded position, with its mark or without; of coarse counts 12 bits each, as a struct has to have them."""
     number = get(body, at, 5)
-    return Saved(bits(number, 34, 34), bits(number, 0, 16), bits(number, 17, 33), get(body, at + 5, 8))
+    coarse = bits(number, 35, 35)
+    last = 11 if coarse else 16
+    return Saved(bits(number, 34, 34), bits(number, 0, last), bits(number, 17, 17 + last), get(body, at + 5, 8), coarse)
 
 
 def place_in(string):
@@ -77,17 +79,18 @@ def place_in(string):
     position = Position(bits(marks, 24, 24), latitude, get(body, LONGITUDE, 4), get(body, TIME, 8))
     groups = get(body, 0, 8), *(get(body, at, 7) for at in (8, 15, 22, 29))
     of_marks = (bits(marks, first, last) for first, last in ((0, 11), (12, 23), (25, 29), (30, 30)))
-    return key, Track(*groups, *of_marks, position, tuple(saved_in(body, at) for at in SAVED))
+    return key, Track(*groups, *of_marks, position, tuple(saved_in(body, at) for at in SAVED), bits(marks, 31, 31))
 
 
 def timed_bytes(found):
-    """A position or an encoded one."""
-    return site_bytes(*found[:3]) + eights(found.time)
+    """A position, or an encoded one, which says its size too."""
+    size = bytes([found.coarse]) if isinstance(found, Saved) else b""
+    return bytes([found.known]) + size + fours(found.latitude, found.longitude) + eights(found.time)
 
 
 def track_bytes(track):
     """All values of a track in their order."""
-    halves = fours(track.pressure << 16 | track.height) + bytes([track.typecode, track.bit8])
+    halves = fours(track.pressure << 16 | track.height) + bytes([track.typecode, track.bit8, track.coarse])
     return eights(*track[:5]) + halves + b"".join(map(timed_bytes, (track.position, *track.saved)))
 
 
@@ -239,10 +242,13 @@ def odd_tracks(track):
         for latitude in (POLE, -POLE, *BEYOND):
             position = track.position._replace(known=known, latitude=latitude)
             yield track._replace(position=position), latitude not in BEYOND
-        for half, name, number in product((0, 1), ("latitude", "longitude"), (131_071, 131_072, 2**32 - 1)):
-            saved = [*track.saved]
-            saved[half] = saved[half]._replace(known=known, **{name: number})
-            yield track._replace(saved=tuple(saved)), number < 2**17
+        for half, name, number in product((0, 1), ("latitude", "longitude"), (4_095, 4_096, 131_071, 131_072, 2**32 - 1)):
+            for coarse, others in ((0, {}), (1, {"latitude": 5, "longitude": 6})):
+                saved = [*track.saved]
+                saved[half] = saved[half]._replace(known=known, coarse=coarse, **(others | {name: number}))
+                yield track._replace(saved=tuple(saved)), number < (COARSE if coarse else COUNTS)
+    for me in (0, 1, 19 << 51 | 1 << 48, 2**56 - 1):
+        yield track._replace(velocity=me, coarse=1), True
 
 
 def odd_places(bench):
@@ -379,16 +385,19 @@ POSITIONS = timed(Position, [NEAR, *((latitude, 7) for latitude in (POLE, -POLE,
 SITES = [(known, latitude, 9) for known in (1, 0) for latitude in (HERE[0], POLE, -POLE, *BEYOND)]
 
 
-def counts_by(turn, i):
+def counts_by(turn, i, size=COUNTS):
     """Those of a place, and others at the edge of their range and out of it."""
-    latitude, longitude = counts_of(turn, i, *NEAR)
-    wide = [(131_072, longitude), (latitude, 131_072), (2**32 - 1, 2**32 - 1)]
-    return [(latitude, longitude), (131_071, 131_071), (65_536, 0), *wide]
+    latitude, longitude = counts_of(turn, i, *NEAR, size)
+    wide = [(size, longitude), (latitude, size), (2**32 - 1, 2**32 - 1)]
+    return [(latitude, longitude), (size - 1, size - 1), (size // 2, 0), *wide]
 
 
-def partners(i):
-    """Encoded positions of the other F."""
-    return timed(Saved, counts_by(AIRBORNE, 1 - i), (10_000, 10_001))
+def partners(i, size=COUNTS):
+    """Encoded positions of the other F: of the size, of the other size, and some that say the other."""
+    other = COARSE if size == COUNTS else COUNTS
+    own = [one._replace(coarse=int(size == COARSE)) for one in timed(Saved, counts_by(AIRBORNE, 1 - i, size), (10_000, 10_001))]
+    others = [one._replace(coarse=int(other == COARSE)) for one in timed(Saved, counts_by(AIRBORNE, 1 - i, other)[:2], (10_000,))]
+    return own + others + [own[0]._replace(coarse=int(other == COARSE))]
 
 
 def how(question, position, *arguments):
@@ -403,11 +412,13 @@ def fresh(found, most, time):
     return bool(found.known) and time - found.time <= most
 
 
-def put_airborne(bench, position, partner, i, counts, time=NOW):
-    """Where an airborne message is put."""
-    text, kind = how(tracks.airborne_position, position, partner, i, counts, time)
-    bench.tried.add(("airborne", (fresh(partner, 10_000, time), fresh(position, 120_000, time), kind)))
-    bench.say(b"A" + timed_bytes(position) + timed_bytes(partner) + fours(*counts) + bytes([i]) + eights(time), text)
+def put_airborne(bench, position, partner, i, counts, time=NOW, size=COUNTS):
+    """Where a message from the air is put, of this size."""
+    text, kind = how(tracks.airborne_position, position, partner, i, counts, time, size)
+    alike = fresh(partner, 10_000, time) and tracks.size_of(partner) == size
+    bench.tried.add(("coarse" if size == COARSE else "airborne", (alike, fresh(position, 120_000, time), kind)))
+    given = timed_bytes(position) + timed_bytes(partner) + bytes([size == COARSE])
+    bench.say(b"A" + given + fours(*counts) + bytes([i]) + eights(time), text)
 
 
 def put_on_surface(bench, position, site, i, counts, time=NOW):
@@ -417,16 +428,16 @@ def put_on_surface(bench, position, site, i, counts, time=NOW):
     bench.say(b"G" + timed_bytes(position) + site_bytes(*site) + fours(*counts) + bytes([i]) + eights(time), text)
 
 
-def step_me(bench, track, me, site, time=NOW):
-    """A track after an ME, of which 56 bits are read; one that is not taken leaves it."""
-    string = sealed(bytes([17 << 3, 0, 0, 0]) + (me % 2**56).to_bytes(7, "big"))
+def step_me(bench, track, me, site, time=NOW, coarse=0):
+    """A track after an ME, of which 56 bits are read; one that is not taken leaves it, which no coarse one is."""
+    string = coarse_bits(0, me % 2**56) if coarse else sealed(bytes([17 << 3, 0, 0, 0]) + (me % 2**56).to_bytes(7, "big"))
     try:
         after = tracks.step(track, string, site[1:] if site[0] else None, time)
     except Refused as refusal:
         assert refusal.number == 5
         after = track
         bench.tried.add(("step", "not taken"))
-    bench.say(b"T" + track_bytes(track) + eights(me) + site_bytes(*site) + eights(time), f"track {track_text(after)}")
+    bench.say(b"T" + track_bytes(track) + bytes([coarse]) + eights(me) + site_bytes(*site) + eights(time), f"track {track_text(after)}")
 
 
 def me_of(type_code, i, counts):
@@ -434,9 +445,14 @@ def me_of(type_code, i, counts):
     return type_code << 51 | i << 34 | counts[0] << 17 | counts[1]
 
 
-def hand_made(position, saved):
+def coarse_me(i, counts, altitude=888):
+    """The ME of a coarse message, its first five bits 19."""
+    return 19 << 51 | altitude << 37 | i << 24 | counts[0] << 12 | counts[1]
+
+
+def hand_made(position, saved, coarse=0):
     """A track whose other values are all different."""
-    return Track(1, 2, 3, 4, 5, 6, 7, 8, 1, position, saved)
+    return Track(1, 2, 3, 4, 5, 6, 7, 8, 1, position, saved, coarse)
 
 
 def step_airborne(bench, position, partner, i):
@@ -444,6 +460,13 @@ def step_airborne(bench, position, partner, i):
     track, counts = hand_made(position, saved_of(i, partner)), counts_by(AIRBORNE, i)[0]
     bench.tried.add(("step", ("airborne", how(tracks.airborne_position, position, partner, i, counts, NOW)[1])))
     step_me(bench, track, me_of(11, i, counts), SITES[0])
+
+
+def step_coarse(bench, position, partner, i, site=SITES[0]):
+    """The same of a coarse message; what of its track is out of range leaves the position too."""
+    track, counts = hand_made(position, saved_of(i, partner)), counts_by(AIRBORNE, i, COARSE)[0]
+    bench.tried.add(("step", ("coarse", how(tracks.airborne_position, position, partner, i, counts, NOW, COARSE)[1])))
+    step_me(bench, track, coarse_me(i, counts), site, coarse=1)
 
 
 def step_on_surface(bench, position, site, i):
@@ -470,8 +493,11 @@ def saved_of(i, partner):
 def hand_made_edges(bench):
     """Each value at an edge of its range and out of it, at each age that decides."""
     for i, position in product((EVEN, ODD), POSITIONS):
-        for partner, counts in product(partners(i), counts_by(AIRBORNE, i)):
-            put_airborne(bench, position, partner, i, counts)
+        for size in (COUNTS, COARSE):
+            for partner, counts in product(partners(i, size), counts_by(AIRBORNE, i, size)):
+                put_airborne(bench, position, partner, i, counts, size=size)
+        for partner in partners(i, COARSE):
+            step_coarse(bench, position, partner, i)
         for site, counts in product(SITES, counts_by(SURFACE, i)):
             put_on_surface(bench, position, site, i, counts)
         for partner in partners(i):
@@ -480,8 +506,8 @@ def hand_made_edges(bench):
             step_on_surface(bench, position, site, i)
     for position, site, i, code in product(POSITIONS, SITES, (EVEN, ODD), (0, 888, 2688)):
         step_lost(bench, position, site, i, code)
-    for type_code, beyond in product(range(32), (0, 2**56, 2**63)):
-        step_me(bench, Track(position=POSITIONS[0]), beyond + me_of(type_code, ODD, (5, 6)), SITES[0])
+    for type_code, beyond, coarse in product(range(32), (0, 2**56, 2**63), (0, 1)):
+        step_me(bench, Track(position=POSITIONS[0], coarse=1 - coarse), beyond + me_of(type_code, ODD, (5, 6)), SITES[0], coarse=coarse)
     for subtype, beyond in product(range(8), (0, 2**48 - 1, 2**56, 2**63)):
         step_me(bench, hand_made(POSITIONS[0], saved_of(ODD, Saved())), beyond | 31 << 51 | subtype << 48, SITES[0])
 
@@ -495,8 +521,9 @@ def any_timed(chance, make, edges, age):
     """A position, or an encoded one, any or of the edges."""
     numbers = chance.getrandbits(1), signed(chance.getrandbits(32)), chance.getrandbits(32)
     if make is Saved:
-        numbers = numbers[0], chance.getrandbits(chance.choice((17, 18, 32))), chance.getrandbits(17)
+        numbers = numbers[0], chance.getrandbits(chance.choice((12, 17, 18, 32))), chance.getrandbits(chance.choice((12, 17)))
     other = make(*numbers, any_of(chance, (0, NOW - age, NOW - age - 1, NOW, NOW + 1, LAST), 64))
+    other = other._replace(coarse=chance.getrandbits(1)) if make is Saved else other
     return chance.choice((other, chance.choice(edges)))
 
 
@@ -506,15 +533,16 @@ def hand_made_at_random(bench):
     for _ in range(RANDOM_HANDS):
         i, time = chance.getrandbits(1), any_of(chance, (NOW, NOW, NOW + 1, 0, LAST), 64)
         position = any_timed(chance, Position, POSITIONS, 120_000)
-        partner = any_timed(chance, Saved, partners(i), 10_000)
+        size = chance.choice((COUNTS, COARSE))
+        partner = any_timed(chance, Saved, partners(i, size), 10_000)
         site = chance.choice((chance.choice(SITES), (1, signed(chance.getrandbits(32)), chance.getrandbits(32))))
-        counts = chance.getrandbits(17), chance.getrandbits(chance.choice((17, 17, 32)))
-        put_airborne(bench, position, partner, i, counts, time)
+        counts = chance.randrange(size), chance.choice((chance.randrange(size), chance.randrange(size), chance.getrandbits(32)))
+        put_airborne(bench, position, partner, i, counts, time, size)
         put_on_surface(bench, position, site, i, counts, time)
         groups = time, *(chance.getrandbits(64) for _ in range(4)), chance.getrandbits(16), chance.getrandbits(16)
         latest = chance.getrandbits(8), chance.getrandbits(1)
         me = chance.choice((chance.getrandbits(64), 31 << 51 | chance.randrange(2) << 48 | chance.getrandbits(48)))
-        step_me(bench, Track(*groups, *latest, position, saved_of(i, partner)), me, site, time)
+        step_me(bench, Track(*groups, *latest, position, saved_of(i, partner), chance.getrandbits(1)), me, site, time, chance.getrandbits(1))
 
 
 # The run
@@ -522,7 +550,7 @@ def hand_made_at_random(bench):
 
 def run():
     """All scripts."""
-    bench = table_vectors.run_told(table_vectors.run(Slices()))
+    bench = table_vectors.run_coarse(table_vectors.run_told(table_vectors.run(Slices())))
     for script in (refused_set_ups, odd_places, blocks_and_captures, identifications, hand_made_edges, hand_made_at_random):
         script(bench)
     return bench
@@ -554,8 +582,9 @@ ANSWERS = {
     "A": {"at", "refused 8"},
     "G": {"at", "refused 8"},
     "airborne": READ,
+    "coarse": READ,
     "surface": READ,
-    "step": {*product(("airborne", "surface"), PUT), *product(("lost",), (0, 888, 2688)), "not taken"},
+    "step": {*product(("airborne", "surface", "coarse"), PUT), *product(("lost",), (0, 888, 2688)), "not taken"},
 }
 
 

@@ -29,7 +29,7 @@ def kind(call, outcome):
 def is_status(call, outcome):
     """Was a status received, and accepted?"""
     name, *words = call.split()
-    return name == "receive" and outcome.startswith("0 ") and int(words[1][8:10], 16) >> 3 == 31
+    return name == "receive" and outcome.startswith("0 ") and messages.decode(bytes.fromhex(words[1])).get("TYPE") == 31
 
 
 def main():

@@ -122,6 +122,13 @@ def coding_rows():
     ends = {8: 41, 12: 84, 38: 696, 93: 3312, 108: 4704, 123: 8160}
     for code, edge in ends.items():
         equal(f"movement {code}", readings.movement(code), f"from {edge}")
+    for code, due in published.COARSE_SPEEDS:
+        equal(f"coarse speed {code}", readings.coarse_speed(code), due)
+    edges = [int(readings.coarse_speed(code).removeprefix("from ")) for code in range(1, 63)]
+    equal("32 knots apart, the first two 16", {high - low for low, high in zip(edges[1:], edges[2:])} | {edges[1] - edges[0]}, {16, 32})
+    equal("11.25 degrees", [readings.track_angle(code) * UNIT for code in range(32)], [code * Fraction("11.25") for code in range(32)])
+    refused(8, readings.coarse_speed, 64)
+    refused(8, readings.track_angle, 32)
     equal("west, code 1", readings.speed(1, 1, 1), 0)
     equal("speed 1023 west", readings.speed(1, 1, 1023), "over")
     equal("speed 0 west", readings.speed(1, 1, 0), "unknown")
@@ -233,15 +240,16 @@ def message_rows():
 
 
 def layouts():
-    """Each layout has bits 6 to 56 of ME, each once, in order; each TYPE its layout."""
+    """Each layout has bits 6 to 56 of ME, a coarse one 1 to 56, each once, in order; each TYPE its layout."""
     of_type = {}
     for type_code in range(32):
         for subtype in range(8):
             of_type[type_code, subtype] = messages.layout(type_code, subtype)
-    for fields in [fields for fields in of_type.values() if fields]:
-        ends = [5] + [last for _, _, last in fields]
+    for fields in [messages.COARSE, *(fields for fields in of_type.values() if fields)]:
+        ends = [0 if fields is messages.COARSE else 5] + [last for _, _, last in fields]
         equal("bits in order", [first for _, first, _ in fields], [last + 1 for last in ends[:-1]])
         equal("last bit", ends[-1], 56)
+    true("no TYPE is coarse", messages.COARSE not in of_type.values())
     taken = {type_code for (type_code, _), fields in of_type.items() if fields}
     equal("TYPEs taken", taken, {*range(23), 31})
     equal("TYPE 0, whatever bits 6-8 are", {id(of_type[0, subtype]) for subtype in range(8)}, {id(messages.AIRBORNE)})
@@ -269,8 +277,10 @@ def message_laws():
             due = 1
         elif remainder(string) != 0:
             due = 3
-        elif bits[:5] != "10001" and bits[:8] not in ("10010000", "10010001", "10010010", "10010101"):
+        elif bits[:5] != "10001" and bits[:8] not in ("10010000", "10010001", "10010010", "10010011", "10010101"):
             due = 4
+        elif bits[:8] == "10010011":
+            due = 0
         elif "10110" < bits[32:37] < "11111":
             due = 5
         elif bits[32:37] == "11111" and (bits[37:40] > "001" or bits[:8] in ("10010010", "10010101")):
@@ -288,10 +298,14 @@ def message_laws():
         equal(string.hex(), messages.encode(message), string)
         equal("decode of encode", messages.decode(messages.encode(message)), message)
         equal("the bits", "".join(f"{value:b}" for value in message.values()).count("1"), bits[:88].count("1"))
-        fields = messages.HEAD + messages.layout(message["TYPE"], message.get("subtype"))
+        fields = messages.fields_of(messages.layout_of(message))
         name, first, last = chance.choice(fields)
         refused(8, messages.encode, message | {name: message[name] + (1 << last - first + 1)})
-        refused(8, messages.encode, message | {"DF": 18, "CA or CF": chance.choice((3, 4, 6, 7))})
+        refused(8, messages.encode, message | {"DF": 18, "CA or CF": chance.choice((4, 6, 7))})
+        if messages.is_coarse(message):
+            of_another_sender(message)
+            continue
+        refused(8, messages.encode, message | {"DF": 18, "CA or CF": 3})
         is_status = fields[4:] == messages.STATUS
         reserved = answer(messages.encode, message | {"DF": 18, "CA or CF": 5}) == "refused 8"
         equal("CF 5 encoded, unless the flag is set or it is a status", reserved, flag_in(bits) == "1" or is_status)
@@ -305,6 +319,27 @@ def message_laws():
             equal("TYPE 0 encoded", messages.decode(messages.encode(message | {"TYPE": 0})), message | {"TYPE": 0})
         else:
             refused(8, messages.encode, message | {"TYPE": 0})
+
+
+def of_another_sender(message):
+    """The fields of a coarse message are encoded with DF 18 and CF 3, and with no other."""
+    for df, ca_or_cf in ((17, 3), (17, 5), (18, 0), (18, 1), (18, 2), (18, 5), (19, 3)):
+        refused(8, messages.encode, message | {"DF": df, "CA or CF": ca_or_cf})
+    refused(8, messages.encode, message | {"TYPE": 11})
+    refused(8, messages.encode, {name: value for name, value in message.items() if name != "flag"})
+
+
+def coarse_messages():
+    """R-12: the example field by field; 10,000 random MEs under CF 3, each accepted, and back as the same 14 bytes."""
+    for string, bits in zip((traffic.coarse(ONE, i, HERE) for i in (EVEN, ODD)), published.COARSE_BITS):
+        equal("the bits of the figure", f"{int.from_bytes(string[:11], 'big'):088b}", bits.replace(" ", ""))
+        equal("as it stands there", [*messages.decode(string).values()], [int(field, 2) for field in bits.split()])
+    chance = Random(121)
+    for me in (0, 2**56 - 1, *(1 << place for place in range(56)), *(chance.getrandbits(56) for _ in range(10_000))):
+        string = traffic.coarse_bits(chance.getrandbits(24), me)
+        message = messages.decode(string)
+        equal("the same 14 bytes", messages.encode(message), string)
+        equal("it starts a track of kind C", (tracks.starts(message), tracks.kind_of(message)), (True, tracks.C))
 
 
 # Positions
@@ -689,7 +724,7 @@ def kinds():
     """R-3: the kind by DF, CF and flag; of DF 17 neither CA nor a bit of ME decides."""
     due = {(18, 0, 0): 1, (18, 0, 1): 1, (18, 1, 0): 2, (18, 1, 1): 2, (18, 2, 0): 3, (18, 2, 1): 4, (18, 5, 0): 5}
     due |= {(17, ca, flag): 1 for ca in range(8) for flag in (0, 1)}
-    due |= {(18, cf, flag): "refused 4" for cf in (3, 4, 6, 7) for flag in (0, 1)} | {(18, 5, 1): "refused 5"}
+    due |= {(18, cf, flag): "refused 4" for cf in (4, 6, 7) for flag in (0, 1)} | {(18, 5, 1): "refused 5"}
     for (df, ca_or_cf, flag), kind in due.items():
         for type_code, bit in ((0, 8), (5, 21), (8, 21), (9, 8), (18, 8), (20, 8), (22, 8), (19, 9)):
             for others in (0, sum(message_vectors.FLAGS)):  # the flags of the other layouts
@@ -703,6 +738,22 @@ def kinds():
             plain = due[df, ca_or_cf, 0]
             found = answer(lambda: tracks.key_of(messages.decode(name)))
             equal("an identification has no flag", found, plain if isinstance(plain, str) else str(plain << 24 | ONE))
+
+
+def coarse_keys():
+    """R-12: the key by its parts, and back; their order is the listing's; every number of the range is a key."""
+    parts = [(aa, flag, station) for aa in (0, 1, ONE, 2**24 - 1) for flag in (0, 1) for station in range(16)]
+    keys = [tracks.key_for(tracks.C, *one) for one in parts]
+    equal("in order of address, flag, station, behind all others", sorted([*keys, tracks.key_for(tracks.N, 2**24 - 1)])[1:], keys)
+    equal("the ends of the range", (keys[0], keys[-1], len({*keys})), (2**31, 2**31 + 2**29 - 1, len(parts)))
+    for key, (aa, flag, station) in zip(keys, parts):
+        found = tracks.kind_in(key), tracks.address_in(key), *tracks.sender_in(key)
+        equal("and back", found, (tracks.C, aa, flag, station))
+        me = flag << 55 | station << 49
+        for others in (0, 2**56 - 1 & ~(1 << 55) & ~(15 << 49)):
+            equal("of a message", tracks.key_of(messages.decode(traffic.coarse_bits(aa, me | others))), key)
+    for key in (0, 2**24 - 1, 6 * 2**24, 2**31 - 1, 2**31 + 2**29, 2**32 - 1):
+        equal("no key", tracks.kind_in(key), None)
 
 
 def begun():
@@ -723,8 +774,89 @@ def begun():
         made = heard(new_table(2), (from_air(EVEN, head=one), 1_000), (from_air(ODD, head=other), 1_400))
         found = [track.position.known for _, track in lent_table.walk(made)]
         equal("one address, two kinds: not paired", found, [1] if one == other else [0, 0])
-    letters = [captures.line(key, Track(position=Position(1, *HERE, 0)))[:8] for key in (KEY + (kind << 24) for kind in range(5))]
-    equal("the letters", letters, ["I ABCDEF", "O ABCDEF", "T ABCDEF", "M ABCDEF", "N ABCDEF"])
+    letters = [captures.key_text(tracks.key_for(kind, ONE, 1, 10)) for kind in tracks.KINDS]
+    equal("the letters", letters, ["I ABCDEF", "O ABCDEF", "T ABCDEF", "M ABCDEF", "N ABCDEF", "C ABCDEF 1 10"])
+
+
+def from_station(i, place=HERE, aa=ONE, station=3, flag=0, altitude=888):
+    """A coarse message at 10,000 feet."""
+    return traffic.coarse(aa, i, place, station, flag, altitude)
+
+
+COARSE_KEY = 2**31 + 32 * ONE + 3
+
+
+def coarse_tracks():
+    """R-12: saved and paired as an airborne message, by the same ages; its groups; no site; what else a track holds stays."""
+    for gap, found in ((0, 1), (10_000, 1), (10_001, 0)):
+        for first in (EVEN, ODD):
+            made = heard(new_table(1), (from_station(first), 1_000), (from_station(1 - first), 1_000 + gap))
+            track = lent_table.look_up(made, COARSE_KEY)
+            equal(f"partner age {gap}", track.position, Position(1, *HERE, 1_000 + gap) if found else Position())
+            equal("coarse counts of 45 N 90 E", [saved[:3] + saved[4:] for saved in track.saved], [(1, 2048, 2048, 1), (1, 1536, 1024, 1)])
+    for gap, found in ((120_000, 1), (120_001, 0)):
+        rows = (from_station(EVEN), 1_000), (from_station(ODD), 1_400), (from_station(ODD, NEAR), 1_400 + gap)
+        equal(f"reference age {gap}", lent_table.look_up(heard(new_table(1), *rows), COARSE_KEY).position.time, 1_400 + gap * found)
+    equal("no site", lent_table.look_up(heard(new_table(1, HERE), (from_station(EVEN), 5)), COARSE_KEY).position, Position())
+    chance = Random(122)
+    for me in (0, 2**56 - 1, 19 << 51 | 1 << 48, *(chance.getrandbits(56) for _ in range(200))):
+        after = tracks.step(FULL, traffic.coarse_bits(ONE, me), HERE, 9)
+        pressure = me >> 37 & 4095
+        left = after._replace(saved=FULL.saved, position=FULL.position)
+        equal("altitude and velocity, and no other group", left, FULL._replace(heard=9, velocity=me, coarse=1, pressure=pressure))
+        i, counts = me >> 24 & 1, (me >> 12 & 4095, me & 4095)
+        equal("saved by its F", (after.saved[i], after.saved[1 - i]), (Saved(1, *counts, 9, 1), FULL.saved[1 - i]))
+    fine = traffic.velocity(TRANSPONDER, ONE, 1, 1)
+    equal("TYPE 19 is no coarse message", tracks.step(after, fine, None, 9).coarse, 0)
+
+
+def two_stations():
+    """R-12: an aircraft of two stations, or of two flags, is two tracks and two lines; none is paired with the other."""
+    for one, other in ((dict(station=3), dict(station=4)), (dict(flag=0), dict(flag=1)), (dict(aa=ONE), dict(aa=TWO))):
+        made = heard(new_table(2), (from_station(EVEN, **one), 1_000), (from_station(ODD, **other), 1_400))
+        equal("two tracks, unpaired", [track.position.known for _, track in lent_table.walk(made)], [0, 0])
+    rows = [(1_000 + 400 * i + station, from_station(i, station=station)) for i in (EVEN, ODD) for station in (3, 12)]
+    lines = captures.listing(captures.capture(rows), False).splitlines()
+    due = [f"C ABCDEF 0 {station} {1_400 + station} 536870912 1073741824 10000 25" for station in (3, 12)]
+    equal("two lines", lines, ["clock 1412 tracks 2 bad-blocks 0", *due])
+
+
+def never_paired():
+    """R-12: a partner of the other size changes nothing, whatever its counts and its time are."""
+    chance = Random(123)
+    for _ in range(400):
+        i, time, place = chance.randrange(2), chance.randrange(20_000), chance.choice((Position(), Position(1, *NEAR, 9_000)))
+        counts = position_vectors.random_counts(chance, 2, COARSE)
+        fine, coarse = traffic.airborne_counts(TRANSPONDER, ONE, i, counts), traffic.coarse_counts(ONE, i, counts)
+        for string, size in ((fine, 1), (coarse, 0)):  # the mark of the other size
+            partner = Saved(1, *position_vectors.random_counts(chance, 2, COARSE), chance.randrange(20_000), size)
+            with_one, without = ((one, Saved()) if i == ODD else (Saved(), one) for one in (partner, Saved()))
+            positions_of = [tracks.step(Track(position=place, saved=saved), string, None, time).position for saved in (with_one, without)]
+            equal("as if there were none", *positions_of)
+    lone = Saved(1, 5, 5, 9_000)
+    for size, counts in ((COUNTS, (4096, 0)), (COARSE, (4095, 0))):
+        partner = lone._replace(latitude=2**32 - 1, coarse=int(size == COUNTS))
+        found = tracks.airborne_position(Position(), partner, EVEN, counts, 9_000, size)
+        equal("a partner of the other size is not looked at", found, Position())
+    refused(8, tracks.airborne_position, Position(), lone._replace(coarse=1), EVEN, (4096, 0), 9_000, COARSE)
+    refused(8, tracks.airborne_position, Position(), lone._replace(latitude=4096, coarse=1), EVEN, (0, 0), 9_000, COARSE)
+
+
+def coarse_rows():
+    """R-12: what C is told of kind C: angle, its status and speed by the kind, whatever the first bits are; of others nothing of it."""
+    names = "ANGLE_IS ANGLE ANGLE_STATUS_IS ANGLE_STATUS SPEED_IS SPEED".split()
+    of_nineteen = [f"TRACK_{name}" for name in ("EAST_IS", "NORTH_IS", "HEADING_IS", "AIRSPEED_IS", "RATE_IS", "RATE_SOURCE_IS")]
+    known, unknown, over = (embedding.AT[name] for name in ("KNOWN", "UNKNOWN", "OVER"))
+    for first in (0, 19 << 51 | 1 << 48):  # TYPE 19, subtype 1, if it were a TYPE
+        for status, angle, (speed, due) in product((0, 1), (0, 8, 31), ((0, (unknown, 0)), (1, (known, 0)), (2, (known, 16)), (63, (over, 1968)))):
+            me = first | status << 36 | angle << 31 | speed << 25
+            track = Track(velocity=me, coarse=1)
+            told = embedding.row(72, embedding.track_row(track, tracks.C))
+            equal("of kind C", [told[embedding.AT[f"TRACK_{name}"]] for name in names], [known, angle * 2**27, known, status, *due])
+            equal("and nothing of TYPE 19", [told[embedding.AT[name]] for name in of_nineteen], [unknown] * 6)
+            plain = embedding.row(72, embedding.track_row(track, tracks.T))
+            equal("of another kind", [plain[embedding.AT[f"TRACK_{name}"]] for name in names], [0] * 6)
+            equal("an ME by the kind", embedding.me(me, COARSE_KEY)[:15], [7, 0, 0, 0, 0, me >> 55, me >> 53 & 3, me >> 49 & 15, me >> 37 & 4095, status, angle, speed, 0, 0, 0])
 
 
 def differences():
@@ -750,10 +882,10 @@ def on_the_ground():
         track, last = Track(), None
         for time in range(1, 12):
             string = message_vectors.random_acceptable(chance)
-            type_code = string[4] >> 3
+            type_code = 11 if string[0] == 0x93 else string[4] >> 3  # a coarse message is from the air
             track = tracks.step(track, string, HERE, time)
             last = "surface" if 5 <= type_code <= 8 else "air" if 9 <= type_code <= 22 and type_code != 19 else last
-            told = embedding.shown(track, False)
+            told = embedding.shown(track, tracks.I)
             due = {f"TRACK_ON_GROUND{'_' if name else ''}{name}": value for name, value in sorts[last].items()}
             equal("on the ground", {name: told[name] for name in told if "ON_GROUND" in name}, due)
 
@@ -783,6 +915,16 @@ def bytes_of_tracks():
     for name, bit, width in (("pressure", 0, 12), ("height", 12, 12), ("typecode", 25, 5), ("bit8", 30, 1)):
         marks = lent_table.get(lent_table.body_of(Track(**{name: 2**width - 1})), 36, 4)
         equal(f"{name} in the marks", marks, (2**width - 1) << bit)
+    equal("coarse in the marks", lent_table.get(lent_table.body_of(Track(coarse=1)), 36, 4), 1 << 31)
+    for counts in ((0, 0), (4095, 4095), (4096, 5), (5, 4096), (131_071, 131_071)):
+        body = lent_table.body_of(Track(saved=(Saved(1, *counts, 7, 1), Saved(1, *counts, 8))))
+        equal("bit 35", [lent_table.get(body, at, 5) >> 34 for at in (56, 69)], [3, 1])
+        due = Saved(1, *(count % 4096 for count in counts), 7, 1), Saved(1, *counts, 8)
+        equal("12 bits of a coarse count", lent_table.track_of(body).saved, due)
+    for me in (0, 1, 2**56 - 1, 19 << 51 | 1 << 48, 7 << 51):
+        for mark in (0, 1):
+            read = lent_table.track_of(lent_table.body_of(Track(velocity=me, coarse=mark)))
+            equal("any ME as a coarse velocity", (read.velocity, read.coarse), (me if mark or me >> 51 == 19 else 0, mark))
     equal("a new track's latitude", lent_table.get(lent_table.body_of(Track()), 40, 4), 2**30)
     for length in range(400):
         made = answer(lent_table.places, bytearray(length))
@@ -821,7 +963,7 @@ class Swept:
         self.places = [at if at and time - at[1].heard < 125_000 else None for at in self.places]
         key = tracks.key_of(messages.decode(string))
         mine = [at[0] if at else None for at in self.places]
-        type_code, of_ground = string[4] >> 3, string[0] in (0x92, 0x95)  # DF 18 with CF 2 or 5
+        type_code, of_ground = 11 if string[0] == 0x93 else string[4] >> 3, string[0] in (0x92, 0x95)  # DF 18 with CF 3; 2 or 5
         if key not in mine and (type_code == 0 or of_ground and type_code in (1, 2, 3, 4, 19)):
             raise Refused(12)
         if key not in mine and None not in mine:
@@ -850,6 +992,8 @@ def swept_tables():
                 string = message_vectors.random_no_position(chance, head, aa)
             if chance.randrange(6) == 0:
                 string = message_vectors.random_status(chance, head, aa)
+            if chance.randrange(5) == 0:
+                string = traffic.coarse(aa, chance.randrange(2), table_vectors.moved(chance, HERE), chance.choice((0, 3)), chance.randrange(2))
             if chance.randrange(12) == 0:
                 string = message_vectors.flipped(string, chance.randrange(1, 113))
             now = time - chance.randrange(2) * chance.randrange(2) if time else 0
@@ -858,17 +1002,17 @@ def swept_tables():
             due = answer(swept.receive, string, now)
             equal("refused or not", given if given.startswith("refused") else "None", due)
             sort = "TYPE 0" if string[4] < 8 else "position" if string[4] >> 3 not in (1, 2, 3, 4, 19, 31) else "other"
-            answers.add((string[0] in (0x92, 0x95), sort, due))
+            answers.add((string[0] in (0x92, 0x95), "coarse" if string[0] == 0x93 else sort, due))
             equal("the tracks held", lent_table.walk(made), swept.held())
             mine = int.from_bytes(string[1:4], "big") if not given.startswith("refused") else -1
             for key, track in lent_table.walk(made):
-                if key % 2**24 != mine:
+                if tracks.address_in(key) != mine:
                     equal("a stranger's message does nothing", track, before[key])
             equal("the first key", lent_table.next_key(made, 0), min(dict(swept.held()), default=None))
-    full = {(ground, "position", "refused 6") for ground in (False, True)} | {(False, "other", "refused 6")}
+    full = {(ground, "position", "refused 6") for ground in (False, True)} | {(False, "other", "refused 6"), (False, "coarse", "refused 6")}
     unheld = {(ground, "TYPE 0", "refused 12") for ground in (False, True)} | {(True, "other", "refused 12")}
     equal("6 and 12", {row for row in answers if row[2][-2:] in (" 6", "12")}, full | unheld)
-    accepted = {(ground, sort, "None") for ground in (False, True) for sort in ("TYPE 0", "position", "other")}
+    accepted = {(ground, sort, "None") for ground in (False, True) for sort in ("TYPE 0", "position", "other")} | {(False, "coarse", "None")}
     equal("accepted", accepted - answers, set())
 
 
@@ -912,6 +1056,9 @@ def integrity_rows():
             for kind, version in product((tracks.T, tracks.M, tracks.N), range(8)):
                 found = integrity.integrity(kind, me_of_status(version, subtype, a, c), type_code, b)
                 equal("of traffic as version 1 with A 0", found, ("NIC", by_a[0]))
+            for version in range(8):
+                found = integrity.integrity(tracks.C, me_of_status(version, subtype, a, c), type_code, b)
+                equal("of coarse messages unknown, whatever else is held", found, "unknown")
     for kind, version, type_code in product(tracks.KINDS, range(8), {*range(32)} - {*INTEGRITY}):
         equal("no position message heard", integrity.integrity(kind, me_of_status(version), type_code, 1), "unknown")
     for wide in ((2**56, 11), (0, 32), (2**64 - 1, 255)):
@@ -946,8 +1093,8 @@ def published_rows():
 
 
 def versions():
-    """R-10: none heard is version 0, and so is what is no status; T, M and N are 1; the supplements that a version has."""
-    for kind, due in zip(tracks.KINDS, (0, 0, 1, 1, 1)):
+    """R-10: none heard is version 0, and so is what is no status; T, M, N and C are 1; the supplements that a version has."""
+    for kind, due in zip(tracks.KINDS, (0, 0, 1, 1, 1, 1), strict=True):
         for me in (0, 31 << 51 | 2 << 48 | 7 << 13, 30 << 51 | 2 << 13):
             equal(f"kind {kind}, none heard", integrity.version(kind, me), due)
         for version, subtype, bit in product(range(8), (0, 1), (0, 1)):
@@ -1003,17 +1150,18 @@ def latest_positions():
 
 
 def rows_of_tracks():
-    """R-10: what C is told of a track: 66 entries, the new ones where they stand; of an ME by itself, version, A and C."""
-    equal("entries", embedding.AT["TRACK"], 66)
-    names = "STATUS POSITION_TYPE POSITION_BIT8 VERSION SUPPLEMENT_A SUPPLEMENT_B SUPPLEMENT_C INTEGRITY_IS INTEGRITY".split()
-    equal("where they stand", [embedding.AT[f"TRACK_{name}"] for name in names], [5, 8, 9, 60, 61, 62, 63, 64, 65])
+    """R-10, R-12: what C is told of a track: 72 entries, the new ones where they stand; of an ME by itself, version, A and C."""
+    entries = embedding.AT["TRACK"]
+    equal("entries", entries, 72)
+    names = "STATUS POSITION_TYPE POSITION_BIT8 ANGLE_IS SPEED VERSION SUPPLEMENT_A SUPPLEMENT_B SUPPLEMENT_C INTEGRITY_IS INTEGRITY".split()
+    equal("where they stand", [embedding.AT[f"TRACK_{name}"] for name in names], [5, 8, 9, 60, 65, 66, 67, 68, 69, 70, 71])
     track = Track(status=me_of_status(2, 1, 1, 1), typecode=11, bit8=1)
-    due = {tracks.I: [2, 1, 1, 1, 2, 9], tracks.O: [2, 1, 1, 1, 2, 9], **dict.fromkeys((3, 4, 5), [1, 0, 0, 0, 2, 8])}
+    due = {tracks.I: [2, 1, 1, 1, 2, 9], tracks.O: [2, 1, 1, 1, 2, 9], **dict.fromkeys((3, 4, 5), [1, 0, 0, 0, 2, 8]), tracks.C: [1, 0, 0, 0, 0, 0]}
     for kind, last in due.items():
-        made = embedding.row(66, embedding.track_row(track, kind))
-        equal(f"kind {kind}", [made[5], *made[8:10], *made[60:]], [track.status, 11, 1, *last])
-    equal("NUC 0 is a number", embedding.row(66, embedding.track_row(Track(typecode=18), tracks.I))[60:], [0, 0, 0, 0, 1, 0])
-    equal("unknown", embedding.row(66, embedding.track_row(Track(status=me_of_status(7)), tracks.I))[60:], [7, 0, 0, 0, 0, 0])
+        made = embedding.row(entries, embedding.track_row(track, kind))
+        equal(f"kind {kind}", [made[5], *made[8:10], *made[66:]], [track.status, 11, 1, *last])
+    equal("NUC 0 is a number", embedding.row(entries, embedding.track_row(Track(typecode=18), tracks.I))[66:], [0, 0, 0, 0, 1, 0])
+    equal("unknown", embedding.row(entries, embedding.track_row(Track(status=me_of_status(7)), tracks.I))[66:], [7, 0, 0, 0, 0, 0])
     known, unknown, none = (embedding.AT[name] for name in ("KNOWN", "UNKNOWN", "NONE"))
     for version, subtype in product(range(8), (0, 1)):
         made = embedding.me(me_of_status(version, subtype, 1, 1), KEY)
@@ -1050,6 +1198,10 @@ def listings():
     low = [(time, traffic.airborne(TRANSPONDER, 1, i, south, 11, 16)) for time, i in ((1, ODD), (2, EVEN))]
     lines = captures.listing(captures.capture(low), False).splitlines()
     equal("below zero", lines[1], "I 000001 2 -536870912 3758096384 -1000 25")
+    both = [(time, from_station(i)) for time, i in ((1_000, EVEN), (1_400, ODD))]
+    for whole in (captures.capture(both), make_samples.stations()):
+        lines = captures.listing(whole, False).splitlines()
+        true("the coarse example", "C ABCDEF 0 3 1400 536870912 1073741824 10000 25" in lines)
     for feet in range(-1000, 50176, 25):
         equal("the code of an altitude", readings.altitude(traffic.altitude_code(feet)), feet)
 
@@ -1073,7 +1225,7 @@ def positioned():
 
 
 def random_captures():
-    """Among the records of the random captures are TYPE 0s, status, and CF 2 and 5, that are accepted, and some that earn 12 or 5."""
+    """Among the records of the random captures are TYPE 0s, status, and CF 2, 3 and 5, that are accepted, and some that earn 12 or 5."""
     chance, seen = Random(11), set()
     for whole in [run_captures.random_capture(chance) for _ in range(20)]:
         made = new_table(captures.PLACES)
@@ -1082,11 +1234,11 @@ def random_captures():
             for time, string in records:
                 given = answer(lent_table.receive, made, string, time)
                 given = given if given.startswith("refused") else "accepted"
-                seen |= {given} if string[4] < 8 else set()
-                seen |= {("status", given)} if string[4] >> 3 == 31 else set()
-                seen |= {(string[0] & 7, given)} if string[0] in (0x92, 0x95) and string[4] >= 8 else set()
+                seen |= {given} if string[4] < 8 and string[0] != 0x93 else set()
+                seen |= {("status", given)} if string[4] >> 3 == 31 and string[0] != 0x93 else set()
+                seen |= {(string[0] & 7, given)} if string[0] == 0x93 or string[0] in (0x92, 0x95) and string[4] >= 8 else set()
     due = {"accepted", "refused 12", "refused 2", (5, "refused 5"), ("status", "accepted"), ("status", "refused 5")}
-    due |= {(cf, given) for cf in (2, 5) for given in ("accepted", "refused 12")}
+    due |= {(cf, given) for cf in (2, 5) for given in ("accepted", "refused 12")} | {(3, "accepted")}
     equal("TYPE 0, status and traffic in captures", due - seen, set())
 
 
@@ -1190,7 +1342,7 @@ def true_times():
 
 
 def replay_edges():
-    """R-8: 14, then 8; a track goes at 125,000, by any record in time; a late one changes nothing."""
+    """R-8: 14, then 8; a track goes at 125,000, by any record in time; a late one changes nothing. R-12: flag and station."""
     mine, other = traffic.velocity(TRANSPONDER, 5, 1, 2), traffic.velocity(OTHER, 5, 3, 4)
     log = replays.log_of([(1_000, mine), (1_400, other)])
     equal("an empty log", plain_method.replay(b"", tracks.I, 5), None)
@@ -1200,6 +1352,12 @@ def replay_edges():
     refused(8, plain_method.replay, log, tracks.I, 5, (2**30 + 1, 0))
     equal("2,900 records", plain_method.replay(log.ljust(22 * 2_900, b"\0"), tracks.I, 5).heard, 1_000)
     equal("kinds apart", plain_method.replay(log, tracks.O, 5).heard, 1_400)
+    told = replays.log_of([(1_000, from_station(EVEN, aa=5)), (1_400, from_station(EVEN, aa=5, station=4)), (1_500, from_station(ODD, aa=5, flag=1))])
+    found = [plain_method.replay(told, tracks.C, 5, None, flag, station) for flag, station in ((0, 3), (0, 4), (1, 3), (1, 4))]
+    equal("stations and flags apart", [track and track.heard for track in found], [1_000, 1_400, 1_500, None])
+    for flag, station in ((2, 3), (0, 16), (2**32 - 1, 0), (0, 2**32 - 1)):
+        refused(8, plain_method.replay, told, tracks.C, 5, None, flag, station)
+        refused(14, plain_method.replay, told[:-1], tracks.C, 5, None, flag, station)
     damaged = message_vectors.flipped(mine, 60)
     for time, heard in ((125_999, 1_000), (126_000, None), (2**64 - 1, None)):
         track = plain_method.replay(log + replays.log_of([(time, damaged)]), tracks.I, 5)
@@ -1224,7 +1382,8 @@ def replay_is_the_table():
             except Refused as refusal:
                 full |= {tracks.key_of(messages.decode(string))} if refusal.number == 6 else set()
         for key in run_calls.KEYS:
-            same = plain_method.replay(replays.log_of(records), key >> 24, key % 2**24, site) == lent_table.look_up(table, key)
+            asked = tracks.kind_in(key), tracks.address_in(key), site, *tracks.sender_in(key)
+            same = plain_method.replay(replays.log_of(records), *asked) == lent_table.look_up(table, key)
             true("the table's track", same or key in full)
             differ += not same
     true("and with 6 another", differ)
@@ -1273,6 +1432,7 @@ TESTS = [
     message_rows,
     layouts,
     message_laws,
+    coarse_messages,
     table,
     steps,
     position_rows,
@@ -1282,7 +1442,12 @@ TESTS = [
     track_rules,
     lost_positions,
     kinds,
+    coarse_keys,
     begun,
+    coarse_tracks,
+    two_stations,
+    never_paired,
+    coarse_rows,
     differences,
     on_the_ground,
     integrity_rows,

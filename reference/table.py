@@ -7,7 +7,7 @@ Numbers are low byte first. A call changes the table in place, or raises Refused
 from messages import IDENTIFICATION, OVER_GROUND, STATUS, SURFACE, THROUGH_AIR, decode, layout
 from positions import latitude_test
 from refusals import Refused
-from tracks import KINDS, Position, Saved, Track, is_stale, key_of, starts, step
+from tracks import Position, Saved, Track, is_stale, key_of, kind_in, starts, step
 
 HEAD, KEY, BODY = 16, 4, 82
 HEARD, MARKS, LATITUDE, LONGITUDE, TIME, SAVED = 0, 36, 40, 44, 48, (56, 69)  # in a body; of its values only the latitude has a range
@@ -39,12 +39,21 @@ def group_of(body, at, *layouts):
     return me if layout(bits(me, 51, 55), bits(me, 48, 50)) in layouts else 0
 
 
+def velocity_of(body, coarse):
+    """The ME that gave the velocity: any, if the marks say that it is a coarse message's."""
+    return get(body, 15, 7) if coarse else group_of(body, 15, OVER_GROUND, THROUGH_AIR)
+
+
 def saved_of(body, at):
-    """An encoded position: bits 0-16 and 17-33 its counts, bit 34 whether there is one; then its time."""
+    """An encoded position: bits 0-16 and 17-33 its counts, bit 34 whether there is one, bit 35 whether it is coarse; then its time.
+
+    Of a coarse count the lowest 12 bits count.
+    """
     number = get(body, at, 5)
     if not bits(number, 34, 34):
         return Saved()
-    return Saved(1, bits(number, 0, 16), bits(number, 17, 33), get(body, at + 5, 8))
+    width = 12 if bits(number, 35, 35) else 17
+    return Saved(1, bits(number, 0, width - 1), bits(number, 17, 16 + width), get(body, at + 5, 8), bits(number, 35, 35))
 
 
 def position_of(body):
@@ -57,10 +66,11 @@ def position_of(body):
 def track_of(body):
     """The track of a body that is in range. Bits that no value has are ignored, and so is what has no mark."""
     marks = get(body, MARKS, 4)
+    coarse = bits(marks, 31, 31)
     return Track(
         heard=get(body, HEARD, 8),
         identification=group_of(body, 8, IDENTIFICATION),
-        velocity=group_of(body, 15, OVER_GROUND, THROUGH_AIR),
+        velocity=velocity_of(body, coarse),
         surface=group_of(body, 22, SURFACE),
         status=group_of(body, 29, STATUS),
         pressure=bits(marks, 0, 11),
@@ -69,12 +79,13 @@ def track_of(body):
         bit8=bits(marks, 30, 30),
         position=position_of(body),
         saved=tuple(saved_of(body, at) for at in SAVED),
+        coarse=coarse,
     )
 
 
 def put_saved(body, at, saved):
     """An encoded position and its time."""
-    put(body, at, 5, saved.latitude | saved.longitude << 17 | saved.known << 34)
+    put(body, at, 5, saved.latitude | saved.longitude << 17 | saved.known << 34 | saved.coarse << 35)
     put(body, at + 5, 8, saved.time)
 
 
@@ -86,7 +97,8 @@ def body_of(track):
     put(body, 15, 7, track.velocity)
     put(body, 22, 7, track.surface)
     put(body, 29, 7, track.status)
-    put(body, MARKS, 4, track.pressure | track.height << 12 | track.position.known << 24 | track.typecode << 25 | track.bit8 << 30)
+    latest = track.position.known << 24 | track.typecode << 25 | track.bit8 << 30 | track.coarse << 31
+    put(body, MARKS, 4, track.pressure | track.height << 12 | latest)
     put(body, LATITUDE, 4, track.position.latitude + POLE)
     put(body, LONGITUDE, 4, track.position.longitude)
     put(body, TIME, 8, track.position.time)
@@ -147,7 +159,7 @@ def held_keys(table):
     clock, keys = clock_of(table), []
     for place, at in enumerate(range(body_at(table, 0), len(table), BODY)):
         key, heard = get(table, key_at(place), KEY), get(table, at + HEARD, 8)
-        in_range = key >> 24 in KINDS and get(table, at + LATITUDE, 4) <= 2 * POLE
+        in_range = kind_in(key) is not None and get(table, at + LATITUDE, 4) <= 2 * POLE
         keys.append(key if in_range and not is_stale(heard, clock) else None)
     return keys
 

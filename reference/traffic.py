@@ -1,13 +1,16 @@
 """Messages of aircraft, for runs of the table and for captures."""
 
-from messages import HEAD, encode, flag_name, layout
+from messages import COARSE, HEAD, SENDER, encode, flag_name, layout
+from parity import sealed
 from positions import AIRBORNE, SURFACE
+from positions import COARSE as COARSE_COUNTS
 from positions import encode as counts_of
 from readings import altitude as altitude_of
 
 TRANSPONDER, NO_TRANSPONDER, OTHER = (17, 5), (18, 0), (18, 1)  # DF, and CA or CF: kinds I, I and O
 # of a ground station's traffic service the flag too: kinds T, M and N
 ICAO, MODE_A, ANOTHER = GROUND = (18, 2, 0), (18, 2, 1), (18, 5, 0)
+OF_STATION = 18, 3  # and coarse messages, kind C, whose flag and station stand in them
 
 
 def message(head, aa, type_code, **fields):
@@ -81,3 +84,25 @@ def velocity(head, aa, east, north, rate=0):
     speeds |= {"north-south direction": int(north < 0), "north-south speed": abs(north) + 1}
     rates = {"rate source": 1, "rate sign": int(rate < 0), "rate": abs(rate) // 64 + 1}
     return message(head, aa, 19, subtype=1, NACv=2, **speeds, **rates)
+
+
+# Coarse messages
+
+
+def coarse_counts(aa, i, counts, station=3, flag=0, altitude=888, **fields):
+    """A coarse message of these two counts; the other fields of ME by name, 0 where none is given."""
+    fields |= {"flag": flag, "station": station, "altitude": altitude, "F": i, "latitude": counts[0], "longitude": counts[1]}
+    assert set(fields) <= {name for name, _, _ in COARSE}
+    values = [*OF_STATION, aa, *(fields.get(name, 0) for name, _, _ in COARSE)]
+    return encode(dict(zip([name for name, _, _ in SENDER + COARSE], values)))
+
+
+def coarse(aa, i, place, station=3, flag=0, altitude=888, **fields):
+    """A coarse message from a place, in 2^-32 of a turn."""
+    return coarse_counts(aa, i, counts_of(AIRBORNE, i, *place, COARSE_COUNTS), station, flag, altitude, **fields)
+
+
+def coarse_bits(aa, me):
+    """A coarse message of any 56 bits: every ME is legal."""
+    df, cf = OF_STATION
+    return sealed(((df << 3 | cf) << 80 | aa << 56 | me).to_bytes(11, "big"))

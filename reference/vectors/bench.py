@@ -12,10 +12,10 @@ A record is a letter and its arguments, numbers high byte first; an answer is a 
     N key                    the next key above                KEY, end, refused 7
     W                        walk: clock and site, then a line KEY LOOK-UP for each key, then as N
     B                        parity remainder of the whole table, six hex digits
-    J length kind address known latitude longitude   the first bytes as a log, replayed   as K, refused 8, refused 14
+    J length kind flag station address known latitude longitude   the first bytes as a log, replayed   as K, refused 8, refused 14
 
-Lengths, offsets, seeds, keys, an address, latitude (two's complement) and longitude have 4 bytes, a time 8, a count, a kind and
-"known" 1.
+Lengths, offsets, seeds, keys, an address, latitude (two's complement) and longitude have 4 bytes, a time 8, a count, a kind, a flag,
+a station and "known" 1. Flag and station are asked of kind C, 6, alone.
 MESSAGE is the decoded message encoded again, in hex. TRACK is every value of the track; that of a key which is
 not held is a new track's.
 """
@@ -45,9 +45,9 @@ def filling(length, seed):
 
 
 def track_text(track):
-    """Every value of a track; those of R-10 stand behind the others."""
+    """Every value of a track; those of R-10 and R-12 stand behind the others."""
     groups = track.heard, track.identification, track.velocity, track.surface, track.pressure, track.height
-    status = track.status, track.typecode, track.bit8
+    status = track.status, track.typecode, track.bit8, track.coarse
     return " ".join(str(value) for value in (*groups, *track.position, *track.saved[0], *track.saved[1], *status))
 
 
@@ -153,10 +153,10 @@ class Bench:
         for key in keys:
             self.say(b"K" + fours(key), self.looked(key))
 
-    def replay(self, length, kind, address, site=None, spot=(0, 0)):
-        """The first bytes as a log; where there is no site, a spot that is not looked at."""
-        given = fours(length) + bytes([kind]) + fours(address) + bytes([site is not None]) + fours(*(site or spot))
-        self.say(b"J" + given, found_text(replay, bytes(self.buffer[:length]), kind, address, site))
+    def replay(self, length, kind, address, site=None, spot=(0, 0), sender=(0, 0)):
+        """The first bytes as a log; where there is no site, a spot that is not looked at. A sender is a flag and a station."""
+        given = fours(length) + bytes([kind, *sender]) + fours(address) + bytes([site is not None]) + fours(*(site or spot))
+        self.say(b"J" + given, found_text(replay, bytes(self.buffer[:length]), kind, address, site, *sender))
 
     def following(self, above):
         """The answer of next."""

@@ -1,7 +1,7 @@
 """Cases of integrity_vectors.
 
-A record: a kind, a TYPE, whether bit 8 is set, each of a byte, and a status ME of eight bytes. A line: the version, the
-supplements A, B and C, and the integrity, each of which may be `refused 8`.
+A record: a kind, and of C above its three bits the flag and the station, a TYPE, whether bit 8 is set, each of a byte, and a
+status ME of eight bytes. A line: the version, the supplements A, B and C, and the integrity, each of which may be `refused 8`.
 """
 
 from itertools import product
@@ -10,16 +10,16 @@ from random import Random
 import integrity
 import published
 from refusals import answer
-from tracks import KINDS, I, O
+from tracks import KINDS, C, I, O
 
 NO_POSITION = (0, 1, 4, 19, 23, 30, 31)  # TYPEs, none of a position message
 STATUS = 31 << 51
-A, C = 1 << 12, 1 << 36  # ME bits 44 and 20
+BIT_A, BIT_C = 1 << 12, 1 << 36  # ME bits 44 and 20
 
 
 def status(version, subtype, a, c):
     """The ME of a status; c is bit 20, whatever the subtype."""
-    return STATUS | subtype << 48 | version << 13 | a * A | c * C
+    return STATUS | subtype << 48 | version << 13 | a * BIT_A | c * BIT_C
 
 
 def every_row():
@@ -63,4 +63,5 @@ def cases():
     """Records and their lines."""
     chance = Random(10)
     for kind, type_code, bit8, me in (*every_row(), *other_statuses(chance), *too_wide(chance)):
-        yield bytes([kind, type_code, bit8]) + me.to_bytes(8, "big"), answered(kind, type_code, bit8, me)
+        sender = chance.randrange(32) if kind == C else 0
+        yield bytes([sender << 3 | kind, type_code, bit8]) + me.to_bytes(8, "big"), answered(kind, type_code, bit8, me)

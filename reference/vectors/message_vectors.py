@@ -2,21 +2,22 @@
 
 A record: one byte n, then n bytes. A line: `refused N`; or the fields in the order of their bits,
 then the message encoded again, in hex.
-Where n is 254 a status made by hand follows, its 17 fields of eight bytes each. A line: `refused 8`, or what it is encoded to.
+Where n is 254 a status made by hand follows, its 17 fields of eight bytes each, and where it is 253 a coarse message, its 13
+fields. A line: `refused 8`, or what it is encoded to.
 """
 
 from itertools import product
 from random import Random
 
 import published
-from messages import AIRBORNE, HEAD, IDENTIFICATION, STATUS, SURFACE, decode, encode, layout
+from messages import AIRBORNE, COARSE, HEAD, IDENTIFICATION, SENDER, STATUS, SURFACE, decode, encode, layout
 from parity import GENERATOR, sealed
 from refusals import answer
-from traffic import GROUND, NO_TRANSPONDER, OTHER, TRANSPONDER
+from traffic import GROUND, NO_TRANSPONDER, OF_STATION, OTHER, TRANSPONDER, coarse_bits
 
 STARTING_TYPES = [*range(1, 23)]  # those that may start a track of kind I or O: all that are taken but TYPE 0, and but for status
-BY_HAND = 254  # in the place of a length
-NOT_TAKEN = (3, 3, 4, 4, 6, 7)  # CFs of DF 18, for a draw
+BY_HAND, COARSE_BY_HAND = 254, 253  # in the place of a length
+NOT_TAKEN = (4, 4, 6, 7)  # CFs of DF 18, for a draw
 FLAGS = 1 << 35, 1 << 48, 1 << 47  # ME bits 21, 8 and 9 in the last 51 bits of ME
 
 
@@ -247,6 +248,29 @@ def of_status(chance):
         yield random_status(chance, chance.choice((TRANSPONDER, NO_TRANSPONDER, OTHER)), chance.getrandbits(24))
 
 
+def of_coarse(chance):
+    """CF 3, whose every ME is legal: each first byte, where TYPE and subtype would stand; each bit alone; a bit wrong at each place; 10,000 random ones."""
+    for first in range(256):
+        yield coarse_bits(0xABCDEF, first << 48)
+        yield coarse_bits(chance.getrandbits(24), first << 48 | chance.getrandbits(48))
+    yield from (coarse_bits(1 << place % 24, 1 << place) for place in range(56))
+    good = coarse_bits(0x123456, chance.getrandbits(56))
+    yield from (flipped(good, place) for place in range(1, 113))
+    for _ in range(10000):
+        yield coarse_bits(chance.getrandbits(24), chance.getrandbits(56))
+
+
+def coarse_by_hand():
+    """Coarse messages as fields: under each DF and CF, then each field at its last value and past it."""
+    fields = SENDER + COARSE
+    good = dict.fromkeys((name for name, _, _ in fields), 1)
+    for df, control in ((17, 0), (17, 3), *((18, cf) for cf in range(9)), (16, 3), (19, 3)):
+        yield good | {"DF": df, "CA or CF": control}
+    for name, first, last in fields:
+        for value in (2 ** (last - first + 1) - 1, 2 ** (last - first + 1)):
+            yield good | dict(zip(("DF", "CA or CF"), OF_STATION)) | {name: value}
+
+
 def by_hand():
     """Statuses as fields: each that is taken or not by DF, CF and subtype, then each field at its last value and past it.
 
@@ -278,6 +302,7 @@ def strings():
     yield from no_position(Random(4))
     yield from of_ground_stations(Random(5))
     yield from of_status(Random(6))
+    yield from of_coarse(Random(7))
 
 
 def answered(string):
@@ -292,6 +317,7 @@ def cases():
     """Records and their lines."""
     for string in strings():
         yield bytes([len(string)]) + string, answer(answered, string)
-    for message in by_hand():
-        record = b"".join(value.to_bytes(8, "big") for value in message.values())
-        yield bytes([BY_HAND]) + record, answer(lambda: encode(message).hex().upper())
+    for number, messages in ((BY_HAND, by_hand()), (COARSE_BY_HAND, coarse_by_hand())):
+        for message in messages:
+            record = b"".join(value.to_bytes(8, "big") for value in message.values())
+            yield bytes([number]) + record, answer(lambda: encode(message).hex().upper())

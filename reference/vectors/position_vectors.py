@@ -410,7 +410,7 @@ def coarse_cases():
     for family in EDGES:
         yield from family(chance, COARSE)
     yield from last_longitudes(COARSE)
-    yield from random_cases(chance, COARSE, 700)
+    yield from random_cases(chance, COARSE, 950)
 
 
 def asked():
@@ -440,6 +440,13 @@ def answered(question, i_and_size, first, second, third, fourth):
     if question == figures.BACK:
         return degrees.from_degrees(first << 32 | second, third << 32 | fourth)
     return single(AIRBORNE if question == SINGLE[AIRBORNE] else SURFACE, i, first, second, third, fourth, size=size)
+
+
+def noted(records):
+    """Of these records: how many ask for a coarse pair, or for a coarse message read singly from the air. Request R-12 wants 20,000."""
+    coarse = sum(record[0] in (PAIR, SINGLE[AIRBORNE]) and record[1] >= MARK[COARSE] for record in records)
+    assert coarse >= 20_000
+    return f"{coarse} of them coarse pairs and singles"
 
 
 def cases():

@@ -1,9 +1,8 @@
 """Cases of readings_vectors.
 
 A record: question, a, b, code high byte, code low byte. A line: the reading, or `refused 8`.
-The last question is of a whole body: a is its layout, b is 1 if a ground station's traffic service sent it, else 0, and 15
-fields of eight bytes follow, TYPE first, then the others in the order of their bits, then zeros. A line: the layout and its
-readings, or `refused 8`.
+One question is of a whole body: a is its layout, b is 1 if a ground station's traffic service sent it, else 0, and 15 fields
+of eight bytes follow, in the order of their bits, then zeros. A line: the layout and its readings, or `refused 8`.
 """
 
 from itertools import product
@@ -34,8 +33,14 @@ QUESTIONS = [
     ("movement", 7, 8, lambda a, b, code: readings.movement(code)),
     ("character", 6, 8, lambda a, b, code: readings.character(code)),
 ]
-NUMBER = {name: question for question, (name, _, _, _) in enumerate(QUESTIONS)}
 BODY = len(QUESTIONS)
+# .. and behind the question of a body those of a coarse message
+COARSE_QUESTIONS = [
+    ("track angle", 5, 8, lambda a, b, code: readings.track_angle(code)),
+    ("coarse speed", 6, 8, lambda a, b, code: readings.coarse_speed(code)),
+]
+ASKED = dict(enumerate(QUESTIONS)) | dict(enumerate(COARSE_QUESTIONS, BODY + 1))
+NUMBER = {name: question for question, (name, _, _, _) in ASKED.items()}
 # layout: its name, its fields after TYPE, and the TYPEs with their subtypes that it has
 LAYOUTS = [
     ("identification", messages.IDENTIFICATION, [(code, None) for code in (1, 2, 3, 4)]),
@@ -44,7 +49,7 @@ LAYOUTS = [
     ("ground", messages.OVER_GROUND, [(19, 1), (19, 2)]),
     ("air", messages.THROUGH_AIR, [(19, 3), (19, 4)]),
 ]
-STATUS = len(LAYOUTS)  # a layout more, whose bodies stand behind all others
+STATUS, COARSE = len(LAYOUTS), len(LAYOUTS) + 1  # layouts more, whose bodies stand behind all others
 FIELDS = 15  # that a record carries
 
 
@@ -62,7 +67,8 @@ def asked():
     yield from (("altitude", 0, 0, code) for code, _ in published.ALTITUDE_EXAMPLES)
     yield "speed", 1, 1, 1  # west, code 1: 0
 
-    for name, width, carried, _ in QUESTIONS:
+    yield from (("coarse speed", 0, 0, code) for code, _ in published.COARSE_SPEEDS)
+    for name, width, carried, _ in ASKED.values():
         every = range(256) if carried == 8 else [*range(1 << width), *wide(width)]
         if name == "speed":
             for subtype in (1, 2, 3, 4):
@@ -90,8 +96,8 @@ def asked():
 
 
 def widths(fields):
-    """How many bits each field of a layout has, TYPE the first."""
-    return {"TYPE": 5} | {name: last - first + 1 for name, first, last in fields}
+    """How many bits each field of a layout has, TYPE the first where it has one."""
+    return ({} if fields is messages.COARSE else {"TYPE": 5}) | {name: last - first + 1 for name, first, last in fields}
 
 
 def random_body(chance, fields, type_code, subtype):
@@ -187,14 +193,36 @@ def bodies_of_status():
         yield fitting_body(chance, messages.STATUS, 31, chance.randrange(2)), chance.choice((False, True))
 
 
+def bodies_of_coarse():
+    """Each class of altitude, angle and speed, with either track status; each field at its last value and past it; any."""
+    chance = Random(7)
+
+    def any_body(**chosen):
+        drawn = {name: chance.getrandbits(width) for name, width in widths(messages.COARSE).items()}
+        return drawn | {name.replace("_", " "): value for name, value in chosen.items()}
+
+    yield from ((any_body(altitude=code), True) for code in altitude_codes())
+    yield from ((any_body(track_angle=code, track_status=status), True) for code, status in product(range(32), (0, 1)))
+    yield from ((any_body(speed=code), True) for code in range(64))
+    for traffic in (False, True):
+        good = any_body()
+        for name, width in widths(messages.COARSE).items():
+            yield good | {name: (1 << width) - 1}, traffic
+            yield good | {name: 1 << width}, traffic
+    for _ in range(100):
+        yield any_body(), chance.choice((False, True))
+
+
 def body_reading(number, message, traffic):
     """The layout's name, and its readings with a comma after each but the last."""
-    name, fields, _ = [*LAYOUTS, ("status", messages.STATUS, None)][number]
+    name, fields, _ = [*LAYOUTS, ("status", messages.STATUS, None), ("coarse", messages.COARSE, None)][number]
     meant = readings.body(fields, message, traffic)
     if "text" in meant:
         meant["text"] = int.from_bytes(meant["text"].encode("ascii"), "big")
     if fields is messages.AIRBORNE:
         meant = {"altitude": altitude(message["altitude"]), "GNSS": "GNSS" if meant["GNSS"] else "pressure"}
+    if fields is messages.COARSE:
+        meant = {"altitude": altitude(message["altitude"])} | {part: meant[part] for part in ("angle", "speed")}
     return f"{name} {', '.join(str(value) for value in meant.values())}"
 
 
@@ -203,9 +231,10 @@ def cases():
     for name, a, b, code in asked():
         question = NUMBER[name]
         record = bytes([question, a, b]) + code.to_bytes(2, "big")
-        yield record, answer(QUESTIONS[question][3], a, b, code)
+        yield record, answer(ASKED[question][3], a, b, code)
     others = [(number, message, False) for number, message in (*bodies(), *bodies_without_position())]
     later = [(STATUS, message, traffic) for message, traffic in bodies_of_status()]
+    later += [(COARSE, message, traffic) for message, traffic in bodies_of_coarse()]
     for number, message, traffic in (*others, *bodies_of_traffic(), *later):
         fields = [*message.values(), *[0] * (FIELDS - len(message))]
         record = bytes([BODY, number, traffic, 0, 0]) + b"".join(value.to_bytes(8, "big") for value in fields)

@@ -4,8 +4,23 @@ from random import Random
 
 from positions import EVEN, ODD
 from replay import MOST_RECORDS, RECORD
-from tracks import KINDS, I
-from traffic import ANOTHER, ICAO, MODE_A, NO_TRANSPONDER, OTHER, TRANSPONDER, airborne, identification, no_position, status, surface, velocity
+from tracks import C, I, N
+from traffic import (
+    ANOTHER,
+    ICAO,
+    MODE_A,
+    NO_TRANSPONDER,
+    OTHER,
+    TRANSPONDER,
+    airborne,
+    coarse,
+    coarse_bits,
+    identification,
+    no_position,
+    status,
+    surface,
+    velocity,
+)
 from vectors.message_vectors import flipped, random_reserved, random_status, sealed_message
 
 POKED = 11  # records at a time
@@ -29,8 +44,8 @@ def lend(bench, records, at=0):
 
 
 def every_key(bench, length, *sites, addresses=(ONE,)):
-    """A log replayed for each kind of these addresses, without a site and with each of these."""
-    for kind in KINDS:
+    """A log replayed for each kind, I to N, of these addresses, without a site and with each of these."""
+    for kind in range(I, N + 1):
         for address in addresses:
             for site in (None, *sites):
                 bench.replay(length, kind, address, site)
@@ -50,7 +65,7 @@ def of_each_sort(head, aa, i=EVEN):
 
 def damaged(aa):
     """What is refused with 3, 4 and 5, and whose AA is the aircraft's."""
-    return [flipped(sealed_message(17, 5, aa, 11, 12345), 60), sealed_message(17 + 2, 5, aa, 11, 1), sealed_message(18, 3, aa, 11, 1), sealed_message(17, 5, aa, 30, 0)]
+    return [flipped(sealed_message(17, 5, aa, 11, 12345), 60), sealed_message(17 + 2, 5, aa, 11, 1), sealed_message(18, 4, aa, 11, 1), sealed_message(17, 5, aa, 30, 0)]
 
 
 def whole_logs(bench):
@@ -139,6 +154,43 @@ def status_in_logs(bench):
             sorts = of_each_sort(head, aa, chance.randrange(2))
             records.append((time, chance.choice(sorts) if chance.randrange(3) else random_status(chance, chance.choice(HEADS[:3]), aa)))
         every_key(bench, lend(bench, records), SOUTH, addresses=(ONE, TWO))
+
+
+SENDERS = (0, 3), (0, 4), (1, 3)  # flag and station
+
+
+def every_sender(bench, length, *sites, addresses=(ONE,)):
+    """A log replayed for each station and flag of these addresses."""
+    for address in addresses:
+        for sender in SENDERS:
+            for site in (None, *sites):
+                bench.replay(length, C, address, site, sender=sender)
+
+
+def coarse_in_logs(bench):
+    """R-12: stations and flags apart, and from the other kinds; ages; 14, then 8 for a flag above 1 or a station above 15; then runs."""
+    first, second = coarse(ONE, EVEN, HERE), coarse(ONE, ODD, HERE)
+    for gap in (0, 400, 10_000, 10_001, 124_999, 125_000):
+        length = lend(bench, [(1_000, first), (1_000 + gap, second), (1_000 + gap, coarse(ONE, ODD, HERE, 4)), (1_001 + gap, coarse(ONE, EVEN, HERE, 3, 1))])
+        every_sender(bench, length, SITE)
+        every_key(bench, length)
+    for sender in ((0, 15), (0, 16), (1, 16), (2, 3), (2, 16), (3, 3), (255, 3), (0, 255)):
+        bench.replay(length, C, ONE, sender=sender)
+        bench.replay(length - 1, C, ONE, sender=sender)
+        bench.replay(length, C, 2**24 + ONE, sender=sender)
+        bench.replay(length, I, ONE, sender=sender)  # of other kinds neither is looked at
+    chance = Random(84)
+    for _ in range(40):
+        time, records = chance.choice((0, 0, 10**6, LAST - 400_000)), []
+        for _ in range(chance.randrange(4, 24)):
+            time = max(0, min(LAST, time + chance.choice((0, 1, 400, 400, 5_000, 10_001, 120_001, 124_999, 125_000, -1))))
+            aa, (flag, station), i = chance.choice((ONE, ONE, TWO)), chance.choice(SENDERS), chance.randrange(2)
+            sorts = [coarse(aa, i, HERE, station, flag), coarse(aa, i, HERE, station, flag, speed=chance.getrandbits(6)), coarse_bits(aa, chance.getrandbits(56))]
+            sorts += [flipped(coarse(aa, i, HERE, station, flag), 60), *of_each_sort(chance.choice(HEADS), aa, i)]
+            records.append((time, chance.choice(sorts[:4]) if chance.randrange(4) else chance.choice(sorts)))
+        length = lend(bench, records)
+        every_sender(bench, length, SOUTH, addresses=(ONE, TWO))
+        every_key(bench, length, addresses=(ONE,))
 
 
 SCRIPTS = [whole_logs, late_records, ages, kinds_apart, sites, any_run]

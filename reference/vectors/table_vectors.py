@@ -6,9 +6,9 @@ from math import floor
 from random import Random
 
 import published
-from positions import AIRBORNE, COUNTS, EVEN, FIGURES, ODD, SURFACE, zones
+from positions import AIRBORNE, COARSE, COUNTS, EVEN, FIGURES, ODD, SURFACE, zones
 from table import BODY, HEARD, KEY, LATITUDE, MARKS, POLE, SAVED, TIME, body_of, key_at, length_of
-from tracks import Position, Saved, Track
+from tracks import C, Position, Saved, Track, key_for
 from traffic import (
     ANOTHER,
     GROUND,
@@ -19,6 +19,9 @@ from traffic import (
     TRANSPONDER,
     airborne,
     airborne_counts,
+    coarse,
+    coarse_bits,
+    coarse_counts,
     identification,
     message,
     no_position,
@@ -136,7 +139,7 @@ def holding_ages(bench):
 def nothing_refreshes(bench):
     """A refused message refreshes no track: bad parity, DF, TYPE, length, late."""
     good = airborne(TRANSPONDER, ONE, EVEN, NEAR)
-    bad = [damaged(good), sealed_message(18, 3, ONE, 11, 0), sealed_message(17, 5, ONE, 31, 2 << 48)]
+    bad = [damaged(good), sealed_message(18, 4, ONE, 11, 0), sealed_message(17, 5, ONE, 31, 2 << 48)]
     bad += [sealed_message(17, 5, ONE, 23, 0), sealed_message(17, 5, ONE, 19, 5 << 48), good[:13], good + b"\0"]
     for string, end in product(bad, (125_999, 126_000)):
         bench.set_up(2)
@@ -318,7 +321,7 @@ def published_runs(bench):
 
 def refused_message(bad_length, bad_parity, bad_df, bad_type):
     """A message with some of these faults."""
-    string = sealed_message(*((18, 3) if bad_df else (17, 2)), TWO, 30 if bad_type else 11, 12345)
+    string = sealed_message(*((18, 4) if bad_df else (17, 2)), TWO, 30 if bad_type else 11, 12345)
     if bad_parity:
         string = damaged(string)
     return string[:13] if bad_length else string
@@ -863,7 +866,7 @@ def order_of_twelve(bench):
         bench.receive(damaged(bytes(14)), 125_000)
         if bad_table:
             bench.lend(length_of(1) - 1)
-        string = sealed_message(*((18, 3) if bad_df else (17, 2)), TWO, 0, 888 << 36)
+        string = sealed_message(*((18, 4) if bad_df else (17, 2)), TWO, 0, 888 << 36)
         string = damaged(string) if bad_parity else string
         bench.receive(string[:13] if bad_length else string, 124_999 if late else 125_999)
         bench.lend(length_of(1))
@@ -1234,7 +1237,7 @@ def order_of_status(bench):
         bench.receive(damaged(bytes(14)), 125_000)
         if bad_table:
             bench.lend(length_of(1) - 1)
-        string = sealed_message(18, 3 if bad_cf else 1, TWO, 31, (2 if bad_subtype else 1) << 48 | 0b0101 << 12)
+        string = sealed_message(18, 4 if bad_cf else 1, TWO, 31, (2 if bad_subtype else 1) << 48 | 0b0101 << 12)
         string = damaged(string) if bad_parity else string
         bench.receive(string[:13] if bad_length else string, 124_999 if late else 125_999)
         bench.lend(length_of(1))
@@ -1277,6 +1280,171 @@ def any_status_stepped(bench):
         string = random_status(chance, head, ONE) if told else random_message(chance, head, ONE, spot)
         bench.receive(string, min(LAST, clock + chance.choice((0, 1, 5))))
         bench.whole()
+
+
+# Coarse messages
+
+C_ONE = key_for(C, ONE, 0, 3)  # the key of a coarse message where nothing else is said
+SENDERS = (0, 0), (0, 3), (0, 15), (1, 0), (1, 3), (1, 15)  # flag and station
+
+
+def coarse_pair(bench, aa, place, time, **sender):
+    """An even and an odd coarse message from a place, 400 apart."""
+    bench.receive(coarse(aa, EVEN, place, **sender), time)
+    bench.receive(coarse(aa, ODD, place, **sender), time + 400)
+
+
+def coarse_ages(bench):
+    """The partner at 10,000 and 10,001, the reference at 120,000 and 120,001, the track at 124,999 and 125,000; no site is used."""
+    for first, gap in product(BOTH, (0, 1, 9_999, 10_000, 10_001, 60_000)):
+        bench.set_up_at(1, NEAR)
+        bench.receive(coarse(ONE, first, HERE), 1_000)
+        bench.receive(coarse(ONE, 1 - first, HERE), 1_000 + gap)
+        bench.receive(coarse(ONE, first, NEAR), 20_000 + gap)
+        seen(bench)
+    for gap, site in product((119_999, 120_000, 120_001, 124_999, 125_000), (None, NEAR)):
+        new(bench, 1, site)
+        coarse_pair(bench, ONE, HERE, 1_000)
+        bench.receive(coarse(ONE, EVEN, NEAR), 1_400 + gap)
+        bench.look_up(C_ONE)
+        seen(bench)
+
+
+def stations_apart(bench):
+    """One address of two stations, of two flags, and of each other kind: a track each, none paired with another; all walked in order."""
+    for one, other in product(SENDERS, SENDERS):
+        bench.set_up(2)
+        bench.receive(coarse(ONE, EVEN, HERE, one[1], one[0]), 1_000)
+        bench.receive(coarse(ONE, ODD, HERE, other[1], other[0]), 1_400)
+        seen(bench)
+    bench.set_up(24)
+    for k, (flag, station) in enumerate(reversed(SENDERS)):
+        coarse_pair(bench, ONE, HERE, 1_000 + 500 * k, station=station, flag=flag)
+        coarse_pair(bench, THREE, NEAR, 1_000 + 500 * k, station=station, flag=flag)
+    for head in FIVE:
+        bench.receive(airborne(head, ONE, EVEN, HERE), 9_000)
+    keys = [key_for(C, aa, *sender) for aa in (THREE, ONE) for sender in SENDERS]
+    bench.next(0, I | ONE, N | ONE, END - 1, END, 2**31 - 1, *keys, 2**31 + 2**29 - 1, 2**31 + 2**29, 2**32 - 1)
+    bench.look_up(*keys, *(key + 1 for key in keys), C_ONE & ~(1 << 31))
+    seen(bench)
+
+
+def coarse_bits_alone(bench):
+    """Each bit of ME alone, and all but it, in a track that has every value that a coarse message gives; its first bits as TYPE 19 and others."""
+    for place in range(56):
+        for me in (1 << place, 2**56 - 1 ^ 1 << place):
+            bench.set_up(4)
+            coarse_pair(bench, ONE, HERE, 1_000)
+            bench.receive(coarse_bits(ONE, me), 2_000)
+            bench.receive(coarse_bits(ONE, me ^ 1 << 24), 2_400)
+            seen(bench)
+    for type_code, subtype in product(range(32), (0, 1, 2)):
+        bench.set_up(2)
+        bench.receive(coarse_bits(ONE, type_code << 51 | subtype << 48 | 888 << 30 | 12345), 1_000)
+        seen(bench)
+
+
+def coarse_in_a_full_table(bench):
+    """6 where no place is free, never 12; what is damaged or late, as for others."""
+    for faults in product((False, True), repeat=6):
+        bad_length, bad_table, late, bad_parity, full, held = faults
+        bench.set_up(1)
+        bench.receive(coarse(TWO if held else ONE, EVEN, HERE), 1_000 if full else 0)
+        bench.receive(damaged(bytes(14)), 125_000)
+        if bad_table:
+            bench.lend(length_of(1) - 1)
+        string = damaged(coarse(TWO, ODD, HERE)) if bad_parity else coarse(TWO, ODD, HERE)
+        bench.receive(string[:13] if bad_length else string, 124_999 if late else 125_999)
+        bench.lend(length_of(1))
+        seen(bench)
+
+
+def sizes_apart(bench):
+    """Saved positions of either size, poked: a partner of the other size is none, and of a coarse count 12 bits are read."""
+    for (key, head), coarse_one, wide, i in product(((C_ONE, None), (I | ONE, TRANSPONDER)), (0, 1), (0, 1), BOTH):
+        counts = [4096 * wide + count for count in (5, 77)] if coarse_one or wide else [5, 77]
+        saved = [Saved(1, *counts, 900, coarse_one), Saved(1, *counts, 950, coarse_one)]
+        for position in (Position(), Position(1, *NEAR, 800)):
+            bench.set_up(1)
+            poke_place(bench, 1, 0, key, Track(heard=1_000, position=position, saved=tuple(saved)))
+            bench.look_up(key)
+            string = airborne(head, ONE, i, HERE) if head else coarse(ONE, i, HERE)
+            bench.receive(string, 1_200)
+            seen(bench)
+
+
+def coarse_marks(bench):
+    """Bit 31 of the marks, with any ME as velocity, under each kind; a velocity of TYPE 19 clears it, and other messages leave it."""
+    for mark, me in product((0, 1), (0, 1, 7 << 51 | 5, 19 << 51, 19 << 51 | 1 << 48, 2**56 - 1)):
+        for key, string in ((C_ONE, coarse(ONE, EVEN, NEAR)), *((FIVE[head] | ONE, airborne(head, ONE, EVEN, NEAR)) for head in FIVE)):
+            bench.set_up(1)
+            poke_place(bench, 1, 0, key, Track(heard=1_000, velocity=me, coarse=mark, position=Position(1, *HERE, 900)))
+            bench.look_up(key)
+            bench.receive(string, 1_100)
+            seen(bench)
+    bench.set_up(1)
+    poke_place(bench, 1, 0, I | ONE, Track(heard=1_000, velocity=5, coarse=1))
+    bench.receive(velocity(TRANSPONDER, ONE, 3, 4), 1_100)
+    seen(bench)
+
+
+def edges_of_coarse_keys(bench):
+    """The first and the last key of each range, and their neighbours, which are none, in a table of three places."""
+    keys = [END - 1, END, END + ONE, 2**31 - 1, 2**31, 2**31 + 1, C_ONE, 2**31 + 2**29 - 1, 2**31 + 2**29, 3 * 2**30, 2**32 - 1]
+    for place, key in product(range(3), keys):
+        three(bench)
+        poke_number(bench, key_at(place), 4, key)
+        used(bench)
+        bench.look_up(key)
+        bench.next(key - 1, key)
+
+
+def any_coarse_stepped(bench):
+    """Tracks of any values, coarse or in part, each stepped by a coarse message or another of its kind."""
+    chance = Random(35)
+    for _ in range(350):
+        clock, head = chance.choice((0, 130_000, 10**9, LAST - 5)), chance.choice((None, None, *FIVE))
+        new(bench, 1, chance.choice((None, HERE)))
+        poke_number(bench, 0, 8, clock)
+        track = with_status(chance, random_track(chance, clock))
+        for half in BOTH:
+            if chance.randrange(3):
+                saved = [*track.saved]
+                saved[half] = saved[half]._replace(coarse=1, **dict(zip(("latitude", "longitude"), random_counts(chance, 2, COARSE))))
+                track = track._replace(saved=tuple(saved))
+        track = track._replace(velocity=chance.getrandbits(56), coarse=1) if chance.randrange(3) else track
+        key = FIVE[head] | ONE if head else C_ONE
+        poke_place(bench, 1, 0, key, track)
+        bench.look_up(key)
+        spot = moved(chance, (track.position.latitude, track.position.longitude))
+        i = chance.choice(BOTH)
+        sorts = coarse(ONE, i, spot, speed=chance.getrandbits(6)), coarse_counts(ONE, i, random_counts(chance, 2, COARSE), altitude=chance.getrandbits(12))
+        string = random_message(chance, head, ONE, spot) if head else chance.choice(sorts)
+        bench.receive(string, min(LAST, clock + chance.choice((0, 1, 5))))
+        bench.whole()
+
+
+def coarse_run(bench, seed, places, steps):
+    """Random runs of a few aircraft, of three stations and the other kinds, with faults."""
+    chance = Random(seed)
+    spots = {aa: (random_latitude(chance), random_longitude(chance)) for aa in chance.sample(range(2**24), places)}
+    new(bench, places, chance.choice((None, HERE)))
+    time = chance.choice((0, 10**12, 2**63))
+    for step in range(steps):
+        time += chance.choices(STEPS, WEIGHTS)[0]
+        aa, (flag, station) = chance.choice([*spots]), chance.choice(((0, 3), (0, 3), (0, 4), (1, 3)))
+        spots[aa] = moved(chance, spots[aa])
+        string, fault = coarse(aa, chance.choice(BOTH), spots[aa], station, flag, chance.getrandbits(12)), chance.randrange(12)
+        if fault == 0:
+            string = flipped(string, chance.randrange(1, 113))
+        elif fault == 1:
+            string = coarse_bits(aa, chance.getrandbits(56))
+        elif fault < 5:
+            string = random_message(chance, chance.choice([*FIVE]), aa, spots[aa])
+        bench.receive(string, time)
+        if step % 8 == 7:
+            bench.whole()
+    seen(bench)
 
 
 SCRIPTS = [
@@ -1357,6 +1525,17 @@ TOLD = [
     any_status_stepped,
 ]
 TOLD_RUNS = [(66, 1, 150), (67, 3, 250), (68, 8, 300)]
+OF_STATIONS = [
+    coarse_ages,
+    stations_apart,
+    coarse_bits_alone,
+    coarse_in_a_full_table,
+    sizes_apart,
+    coarse_marks,
+    edges_of_coarse_keys,
+    any_coarse_stepped,
+]
+COARSE_RUNS = [(69, 1, 150), (70, 3, 250), (71, 8, 300)]
 EVERY_HEAD, EVERY_WEIGHT = [*HEADS, *GROUND], (3, 1, 2, 4, 4, 4)
 
 
@@ -1388,10 +1567,21 @@ def run_told(bench):
     return bench
 
 
+def run_coarse(bench):
+    """The scripts of coarse messages, over the same buffer."""
+    for script in OF_STATIONS:
+        script(bench)
+    for seed, places, steps in COARSE_RUNS:
+        coarse_run(bench, seed, places, steps)
+    return bench
+
+
 def cases():
-    """Records and their lines; behind those of the table the logs that are replayed, then status in both."""
+    """Records and their lines; behind those of the table the logs that are replayed, then status in both, then coarse messages in both."""
     bench = run(Bench())
     replays.run(bench)
     run_told(bench)
     replays.status_in_logs(bench)
+    run_coarse(bench)
+    replays.coarse_in_logs(bench)
     return bench.cases

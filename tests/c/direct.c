@@ -61,6 +61,9 @@ static uint64_t without_table(const struct call *call, const uint8_t *given, uin
     case REPLAY_AT:
         return addercoil_replay_at(given, call->given_size, (uint32_t)n[0], (uint32_t)n[1], (int32_t)n[2],
                                    (uint32_t)n[3], words, length);
+    case REPLAY_COARSE:
+        return addercoil_replay_coarse(given, call->given_size, (uint32_t)n[0], (uint32_t)n[1], (uint32_t)n[2], words,
+                                       length);
     case ENCODE_POSITION:
         return addercoil_encode_position((int32_t)n[0], (uint32_t)n[1], (uint32_t)n[2], (uint32_t)n[3], words, length);
     case PAIR:
@@ -69,6 +72,14 @@ static uint64_t without_table(const struct call *call, const uint8_t *given, uin
     case SINGLE:
         return addercoil_single((int32_t)n[0], (uint32_t)n[1], (uint32_t)n[2], (uint32_t)n[3], (uint32_t)n[4],
                                 (uint32_t)n[5], words, length);
+    case ENCODE_POSITION_COARSE:
+        return addercoil_encode_position_coarse((int32_t)n[0], (uint32_t)n[1], (uint32_t)n[2], words, length);
+    case PAIR_COARSE:
+        return addercoil_pair_coarse((uint32_t)n[0], (uint32_t)n[1], (uint32_t)n[2], (uint32_t)n[3], (uint32_t)n[4],
+                                     words, length);
+    case SINGLE_COARSE:
+        return addercoil_single_coarse((int32_t)n[0], (uint32_t)n[1], (uint32_t)n[2], (uint32_t)n[3], (uint32_t)n[4],
+                                       words, length);
     case DEGREES:
         return addercoil_degrees((int32_t)n[0], (uint32_t)n[1], (double *)words, length);
     case FROM_DEGREES:

@@ -75,6 +75,9 @@ static void put_readings(uint64_t *row, const struct addercoil_track *track) {
     put(row, ADDERCOIL_TRACK_MOVEMENT_IS, track->movement);
     put(row, ADDERCOIL_TRACK_SURFACE_HEADING_IS, track->surface_heading);
     put(row, ADDERCOIL_TRACK_SURFACE_STATUS_IS, track->surface_status);
+    put(row, ADDERCOIL_TRACK_ANGLE_IS, track->angle);
+    put(row, ADDERCOIL_TRACK_ANGLE_STATUS_IS, track->angle_status);
+    put(row, ADDERCOIL_TRACK_SPEED_IS, track->speed);
     put(row, ADDERCOIL_TRACK_INTEGRITY_IS, track->integrity);
 }
 
@@ -131,12 +134,20 @@ static uint32_t look_up(struct addercoil_table table, uint32_t key, uint64_t *ro
     return put_track(addercoil_easy_look_up(table, key, &track), &track, row);
 }
 
-/* Of a kind and an address, with a site or without. */
+/* Of a kind and an address, with a site or without; or of an address, a flag and a station. A site changes nothing of
+ * the latter. */
 static uint32_t replay(const struct call *call, const uint8_t *log, uint64_t *row) {
     const uint64_t *n = call->numbers;
     struct addercoil_track track;
     uint32_t key = ADDERCOIL_KEY_OF(n[0], n[1]), number;
     memset(&track, FRESH, sizeof track);
+    if (call->function == REPLAY_COARSE) {
+        key = ADDERCOIL_KEY_COARSE(n[0], n[1], n[2]);
+        number = (n[0] + n[2]) % 2 == 0
+                     ? addercoil_easy_replay(log, call->given_size, key, &track)
+                     : addercoil_easy_replay_at(log, call->given_size, key, spot(0x7FFFFFFF, n[0]), &track);
+        return put_track(number, &track, row);
+    }
     number = call->function == REPLAY ? addercoil_easy_replay(log, call->given_size, key, &track)
                                       : addercoil_easy_replay_at(log, call->given_size, key, spot(n[2], n[3]), &track);
     return put_track(number, &track, row);
@@ -161,6 +172,13 @@ static void put_meant(uint64_t *row, const struct addercoil_message *m) {
         put(row, ADDERCOIL_AIRBORNE_STEP_IS, m->altitude_step);
         put(row, ADDERCOIL_AIRBORNE_GNSS_IS, m->gnss);
         return;
+    case ADDERCOIL_LAYOUT_COARSE:
+        put(row, ADDERCOIL_COARSE_ALTITUDE_IS, m->altitude);
+        put(row, ADDERCOIL_COARSE_STEP_IS, m->altitude_step);
+        put(row, ADDERCOIL_COARSE_ANGLE_IS, m->angle);
+        put(row, ADDERCOIL_COARSE_SPEED_IS, m->speed);
+        row[ADDERCOIL_COARSE_STATUS] = (uint64_t)m->angle_status;
+        return;
     case ADDERCOIL_LAYOUT_STATUS:
         put(row, ADDERCOIL_STATUS_VERSION_IS, m->version);
         put(row, ADDERCOIL_STATUS_SUPPLEMENT_A_IS, m->supplement_a);
@@ -184,19 +202,30 @@ static int others_unknown(const struct addercoil_message *m) {
     uint32_t is = m->layout;
     int named = is == ADDERCOIL_LAYOUT_IDENTIFICATION, airborne = is == ADDERCOIL_LAYOUT_AIRBORNE;
     int surface = is == ADDERCOIL_LAYOUT_SURFACE, ground = is == ADDERCOIL_LAYOUT_GROUND,
-        air = is == ADDERCOIL_LAYOUT_AIR, status = is == ADDERCOIL_LAYOUT_STATUS;
+        air = is == ADDERCOIL_LAYOUT_AIR, status = is == ADDERCOIL_LAYOUT_STATUS,
+        coarse = is == ADDERCOIL_LAYOUT_COARSE;
     return (named || (m->callsign[0] | m->category[0]) == 0) &&
            (surface || ((m->movement.is | m->surface_heading.is) == 0 && !m->surface_status)) &&
-           (airborne || (m->altitude.is | m->altitude_step.is | m->gnss.is) == 0) &&
+           (airborne || coarse || (m->altitude.is | m->altitude_step.is) == 0) && (airborne || m->gnss.is == 0) &&
+           (coarse || ((m->angle.is | m->speed.is) == 0 && !m->angle_status)) &&
            (ground || (m->east.is | m->north.is) == 0) &&
            (air || ((m->heading.is | m->airspeed.is) == 0 && !m->heading_status)) &&
            (ground || air || (m->rate.is | m->difference.is) == 0) &&
            (status || (m->version.is | m->supplement_a.is | m->supplement_c.is) == 0);
 }
 
-/* Whether a key, if there is one, is made of its kind and the address, and comes apart. */
-static int key_is(uint32_t key, uint32_t aa) {
-    return key == 0 || (key == ADDERCOIL_KEY_OF(ADDERCOIL_KEY_KIND(key), aa) && ADDERCOIL_KEY_AA(key) == aa);
+/* Whether a key, if there is one, is made of its kind and the address, and comes apart; so with the flag and the
+ * station of a coarse message. */
+static int key_is(uint32_t key, const struct addercoil_message *m) {
+    uint32_t kind = ADDERCOIL_KEY_KIND(key), flag = ADDERCOIL_KEY_FLAG(key), station = ADDERCOIL_KEY_STATION(key);
+    if (key == 0 || ADDERCOIL_KEY_AA(key) != m->aa) {
+        return key == 0;
+    }
+    if (m->layout != ADDERCOIL_LAYOUT_COARSE) {
+        return key == ADDERCOIL_KEY_OF(kind, m->aa) && flag == 0 && station == 0;
+    }
+    return kind == ADDERCOIL_KIND_C && key == ADDERCOIL_KEY_COARSE(m->aa, flag, station) &&
+           flag == m->fields[ADDERCOIL_COARSE_FLAG] && station == m->fields[ADDERCOIL_COARSE_STATION];
 }
 
 /* The entries of a message's struct: what has no name there is taken from its own entries. */
@@ -214,7 +243,7 @@ static uint32_t put_message(uint32_t number, const struct addercoil_message *m, 
     row[ADDERCOIL_KEY] = m->key;
     row[ADDERCOIL_TYPECODE] = m->type;
     put_meant(row, m);
-    return others_unknown(m) && key_is(m->key, m->aa) ? 0 : NO_NUMBER;
+    return others_unknown(m) && key_is(m->key, m) ? 0 : NO_NUMBER;
 }
 
 static uint32_t put_pair(uint32_t number, uint64_t *row, struct addercoil_spot from) {
@@ -243,9 +272,12 @@ static uint32_t from_degrees(const uint64_t *n, uint64_t *row) {
     return put_pair(addercoil_easy_from_degrees(given, &from), row, from);
 }
 
-static uint32_t encode_position(const uint64_t *n, uint64_t *row) {
+static uint32_t encode_position(const struct call *call, uint64_t *row) {
+    const uint64_t *n = call->numbers;
     struct addercoil_counts made;
-    uint32_t number = addercoil_easy_encode_position(spot(n[0], n[1]), (int)n[2], (int)n[3], &made);
+    uint32_t number = call->function == ENCODE_POSITION
+                          ? addercoil_easy_encode_position(spot(n[0], n[1]), (int)n[2], (int)n[3], &made)
+                          : addercoil_easy_encode_position_coarse(spot(n[0], n[1]), (int)n[2], &made);
     if (number == ADDERCOIL_OK) {
         row[ADDERCOIL_COUNT_LATITUDE] = made.latitude;
         row[ADDERCOIL_COUNT_LONGITUDE] = made.longitude;
@@ -298,11 +330,14 @@ static uint32_t encode(const uint8_t *given, uint8_t *bytes) {
     return addercoil_easy_encode(&message, bytes);
 }
 
-/* A line begins with the letter of the key's kind and the address in hex. */
+/* A line begins with the letter of the key's kind and the address in hex; of kind C with flag and station too. */
 static uint32_t line(struct addercoil_table table, uint32_t key, int all, char *text) {
-    char begins[16];
+    char begins[32];
     uint32_t number = addercoil_easy_line(table, key, all, text);
-    sprintf(begins, "%c %06X ", addercoil_easy_kind_letter(key), (unsigned)ADDERCOIL_KEY_AA(key));
+    int end = sprintf(begins, "%c %06X ", addercoil_easy_kind_letter(key), (unsigned)ADDERCOIL_KEY_AA(key));
+    if (ADDERCOIL_KEY_IS_COARSE(key)) {
+        sprintf(begins + end, "%u %u ", (unsigned)ADDERCOIL_KEY_FLAG(key), (unsigned)ADDERCOIL_KEY_STATION(key));
+    }
     return number != ADDERCOIL_OK || text[0] == '\0' || strncmp(text, begins, strlen(begins)) == 0 ? number : NO_NUMBER;
 }
 
@@ -362,14 +397,22 @@ static uint64_t without_table(const struct call *call, const uint8_t *given, uin
         return addercoil_table_bytes(n[0]);
     case REPLAY:
     case REPLAY_AT:
+    case REPLAY_COARSE:
         return replay(call, given, row);
     case ENCODE_POSITION:
-        return encode_position(n, row);
+    case ENCODE_POSITION_COARSE:
+        return encode_position(call, row);
     case PAIR:
         number = addercoil_easy_pair(counts(n[0], n[1]), counts(n[2], n[3]), (int)n[4], &from);
         return put_pair(number, row, from);
     case SINGLE:
         number = addercoil_easy_single(spot(n[0], n[1]), counts(n[2], n[3]), (int)n[4], (int)n[5], &from);
+        return put_pair(number, row, from);
+    case PAIR_COARSE:
+        number = addercoil_easy_pair_coarse(counts(n[0], n[1]), counts(n[2], n[3]), (int)n[4], &from);
+        return put_pair(number, row, from);
+    case SINGLE_COARSE:
+        number = addercoil_easy_single_coarse(spot(n[0], n[1]), counts(n[2], n[3]), (int)n[4], &from);
         return put_pair(number, row, from);
     case DEGREES:
         return degrees(n, row);

@@ -86,6 +86,11 @@ static void seal(uint8_t *bytes, size_t size) {
     bytes[size - 1] = (uint8_t)r;
 }
 
+/* One of the stations that are heard most. */
+static uint64_t make_station(void) {
+    return ONE_OF(3, 12);
+}
+
 /* 14 bytes: often a message of one of a few aircraft, so that tracks grow; else of anybody, damaged, or noise. */
 static void make_message(uint8_t *message) {
     uint64_t kind = below(16), one = below(23), other = below(23), rare = below(16) == 0 ? below(32) : 11;
@@ -95,7 +100,12 @@ static void make_message(uint8_t *message) {
         return;
     }
     if (kind > 1) {
-        message[0] = (uint8_t)ONE_OF(17 << 3 | 5, 17 << 3, 18 << 3, 18 << 3 | 1, 18 << 3 | 2, 18 << 3 | 2, 18 << 3 | 5);
+        message[0] = (uint8_t)ONE_OF(17 << 3 | 5, 17 << 3, 18 << 3, 18 << 3 | 1, 18 << 3 | 2, 18 << 3 | 2, 18 << 3 | 3,
+                                     18 << 3 | 5);
+    }
+    if (kind > 1 && message[0] == (18 << 3 | 3)) { /* any flag, of a few stations; the rest of ME is any bits */
+        message[4] = (uint8_t)((message[4] & 0xE1) | make_station() << 1);
+    } else if (kind > 1) {
         message[4] = (uint8_t)(type << 3 | (type == 19 ? 1 + below(4) : below(type == 31 && below(8) != 0 ? 2 : 8)));
         if (type == 0 && below(4) == 0) { /* no altitude either */
             message[5] = 0;
@@ -239,6 +249,7 @@ static size_t result_length(enum function function) {
     case LOOK_UP:
     case REPLAY:
     case REPLAY_AT:
+    case REPLAY_COARSE:
         return about(ADDERCOIL_TRACK);
     case HEADER:
     case LINE:
@@ -246,6 +257,9 @@ static size_t result_length(enum function function) {
     case ENCODE_POSITION:
     case PAIR:
     case SINGLE:
+    case ENCODE_POSITION_COARSE:
+    case PAIR_COARSE:
+    case SINGLE_COARSE:
     case DEGREES:
     case FROM_DEGREES:
         return about(ADDERCOIL_SPOT);
@@ -302,6 +316,7 @@ static size_t make_given(enum function function, uint64_t time) {
         return make_fields();
     case REPLAY:
     case REPLAY_AT:
+    case REPLAY_COARSE:
         return make_log(time);
     default:
         return 0;
@@ -342,8 +357,19 @@ static uint64_t make_figure(int i) {
     }
 }
 
+/* The key of one of a few aircraft. */
+static uint32_t make_key(uint64_t kind) {
+    uint64_t aa = below(4) * 0x010101, flag = below(2), station = make_station();
+    return kind == ADDERCOIL_KIND_C ? ADDERCOIL_KEY_COARSE(aa, flag, station) : ADDERCOIL_KEY_OF(kind, aa);
+}
+
+/* A latitude, or a longitude, of a spot. */
+static uint64_t make_spot(int i) {
+    return i == 0 ? below(((uint64_t)1 << 31) + 1) - ((uint64_t)1 << 30) : any() >> 32;
+}
+
 static uint64_t make_number(enum function function, int i, uint64_t time) {
-    uint64_t kind = 1 + below(5), key = kind << 24 | below(4) * 0x010101;
+    uint64_t kind = 1 + below(ADDERCOIL_KIND_C), key = make_key(kind);
     switch (function) {
     case RECEIVE:
         return time;
@@ -358,9 +384,14 @@ static uint64_t make_number(enum function function, int i, uint64_t time) {
             return number();
         }
         if (i < 2) {
-            return i == 0 ? kind : key & 0xFFFFFF;
+            return i == 0 ? kind : ADDERCOIL_KEY_AA(key);
         }
-        return i == 2 ? below(((uint64_t)1 << 31) + 1) - ((uint64_t)1 << 30) : any() >> 32;
+        return make_spot(i - 2);
+    case REPLAY_COARSE:
+        if (below(32) == 0) {
+            return number();
+        }
+        return i == 0 ? ADDERCOIL_KEY_AA(key) : i == 1 ? below(2) : make_station();
     case HEADER:
     case LINE:
         if (i == 1) {
@@ -374,18 +405,22 @@ static uint64_t make_number(enum function function, int i, uint64_t time) {
         return below(8) == 0 ? number() : key;
     case PAIR:
         return below(32) == 0 ? number() : below(i == 4 ? 2 : 131072);
+    case PAIR_COARSE:
+        return below(32) == 0 ? number() : below(i == 4 ? 2 : 4096);
     case FROM_DEGREES:
         return make_figure(i);
     case DEGREES:
     case ENCODE_POSITION:
     case SINGLE:
+    case ENCODE_POSITION_COARSE:
+    case SINGLE_COARSE:
         if (below(32) == 0) {
             return number();
         }
         if (i < 2) {
-            return i == 0 ? below(((uint64_t)1 << 31) + 1) - ((uint64_t)1 << 30) : any() >> 32;
+            return make_spot(i);
         }
-        return below(i < 4 && function == SINGLE ? 131072 : 2);
+        return below(i == 4 || i == 5 ? 2 : function == SINGLE ? 131072 : function == SINGLE_COARSE ? 4096 : 2);
     case TABLE_BYTES:
         return below(2) == 0 ? below(1100) : number();
     default:
@@ -414,7 +449,7 @@ static struct call make_call(void) {
 
 /* ---- Replays: a log gives what the table has, unless 6 was answered to the aircraft ---- */
 
-enum { RUNS = 1000, RUN_RECORDS = 48, RUN_KEYS = 20 + RUN_RECORDS };
+enum { RUNS = 1000, RUN_RECORDS = 48, RUN_KEYS = 20 + 16 + RUN_RECORDS };
 
 /* One run: what was received, and the table after it. */
 struct run {
@@ -432,7 +467,9 @@ struct run {
 };
 
 /* How often what came. */
-static struct { unsigned long answers[16], of_kind[6], held, absent, sited, restarted, lost, full_differs; } came;
+static struct {
+    unsigned long answers[16], of_kind[ADDERCOIL_KIND_C + 1], held, absent, sited, restarted, lost, full_differs;
+} came;
 
 /* Where a key stands in a run. */
 static size_t key_at(struct run *run, uint32_t key) {
@@ -449,7 +486,7 @@ static size_t key_at(struct run *run, uint32_t key) {
 
 /* A table with a site or none, and the keys of the few aircraft whose messages come most. */
 static void begin_run(struct run *run) {
-    uint32_t kind, aa;
+    uint32_t kind, aa, flag;
     run->size = ADDERCOIL_TABLE_BYTES(ONE_OF(1, 2, 3, 8, 16));
     run->records = run->keys = 0;
     run->sited = below(2) == 0;
@@ -460,9 +497,13 @@ static void begin_run(struct run *run) {
     } else {
         addercoil_set_up(run->table, run->size);
     }
-    for (kind = 1; kind <= 5; kind++) {
-        for (aa = 0; aa < 4; aa++) {
-            key_at(run, kind << 24 | aa * 0x010101);
+    for (aa = 0; aa < 4; aa++) {
+        for (kind = ADDERCOIL_KIND_I; kind <= ADDERCOIL_KIND_N; kind++) {
+            key_at(run, ADDERCOIL_KEY_OF(kind, aa * 0x010101));
+        }
+        for (flag = 0; flag < 2; flag++) {
+            key_at(run, ADDERCOIL_KEY_COARSE(aa * 0x010101, flag, 3));
+            key_at(run, ADDERCOIL_KEY_COARSE(aa * 0x010101, flag, 12));
         }
     }
 }
@@ -486,20 +527,28 @@ static void receive_in(struct run *run, uint64_t time) {
     run->full[k] |= answer == ADDERCOIL_REFUSED_FULL;
     if (answer == ADDERCOIL_OK) {
         came.restarted += run->started[k] && track[ADDERCOIL_TRACK_HELD] == 0;
-        came.lost += fields[ADDERCOIL_TYPECODE] == 0; /* of a held track: no position */
+        came.lost += fields[ADDERCOIL_LAYOUT] == ADDERCOIL_LAYOUT_AIRBORNE && fields[ADDERCOIL_TYPECODE] == 0;
         run->started[k] = 1;
     }
+}
+
+/* The track of a key from the log of a run. */
+static uint32_t replay_key(const struct run *run, uint32_t key, uint64_t *track) {
+    uint32_t kind = ADDERCOIL_KEY_KIND(key), aa = ADDERCOIL_KEY_AA(key);
+    size_t length = ADDERCOIL_RECORD * run->records;
+    if (kind == ADDERCOIL_KIND_C) {
+        return addercoil_replay_coarse(run->log, length, aa, ADDERCOIL_KEY_FLAG(key), ADDERCOIL_KEY_STATION(key), track,
+                                       ADDERCOIL_TRACK);
+    }
+    return run->sited
+               ? addercoil_replay_at(run->log, length, kind, aa, run->latitude, run->longitude, track, ADDERCOIL_TRACK)
+               : addercoil_replay(run->log, length, kind, aa, track, ADDERCOIL_TRACK);
 }
 
 /* Whether a key's track is the same both ways, or 6 was answered to it. */
 static int replayed(const struct run *run, size_t k) {
     uint64_t held[ADDERCOIL_TRACK], again[ADDERCOIL_TRACK];
-    uint32_t kind = run->key[k] >> 24, aa = run->key[k] & 0xFFFFFF;
-    size_t length = ADDERCOIL_RECORD * run->records;
-    uint32_t answer = run->sited ? addercoil_replay_at(run->log, length, kind, aa, run->latitude, run->longitude, again,
-                                                       ADDERCOIL_TRACK)
-                                 : addercoil_replay(run->log, length, kind, aa, again, ADDERCOIL_TRACK);
-    if (answer != ADDERCOIL_OK ||
+    if (replay_key(run, run->key[k], again) != ADDERCOIL_OK ||
         addercoil_look_up(run->table, run->size, run->key[k], held, ADDERCOIL_TRACK) != ADDERCOIL_OK) {
         return 0;
     }
@@ -508,7 +557,7 @@ static int replayed(const struct run *run, size_t k) {
         return run->full[k];
     }
     came.held += held[ADDERCOIL_TRACK_HELD] != 0;
-    came.of_kind[kind] += held[ADDERCOIL_TRACK_HELD] != 0;
+    came.of_kind[ADDERCOIL_KEY_KIND(run->key[k])] += held[ADDERCOIL_TRACK_HELD] != 0;
     came.absent += held[ADDERCOIL_TRACK_HELD] == 0;
     came.sited += run->sited && held[ADDERCOIL_TRACK_POSITION_KNOWN] != 0;
     return 1;

@@ -1,20 +1,18 @@
--- Laws of the interface: decoding then encoding gives the same 14 bytes, encoding then decoding the same fields, and every line ends in a zero. Each follows from the law of the crate below.
+-- Laws of the interface: decoding then encoding gives the same 14 bytes, and encoding then decoding the same fields. Each follows from the law of the crate below.
 -- Assumes nothing.
-use Prim.Native.Nat.{ℕ, _≤_}
+use Prim.Native.Nat.{ℕ}
 use mathlib.Core.Path.{_≡_, refl, sym, ap, ap₂, _∙_}
 use mathlib.Core.Bool.{Bool, true, false, cond, not, _||_}
-use mathlib.Core.List.{List, []}
-use mathlib.Core.Option.{Option, some, none}
+use mathlib.Core.List.{List}
 use native.Mathlib.Omega.{arith}
 use borrow.Author.Tests.{eq-eqb}
 use lib.Dec.{eqb}
-use lib.ListN.{length, getD, List·getD-eq-default}
+use lib.ListN.{length}
 use Rattle.refusals.specs.declared.Refusal.{Refusal}
 use Rattle.refusals.specs.declared.Refusal.the-variants.{Length, Late, Parity, Format, TypeCode, Full, Places, Field, Latitude, Zones, Block, NoTrack, Overrun, Log, Degrees}
 use Rattle.refusals.specs.Numbers.{numberOf}
 use Rattle.refusals.specs.Said.{gives}
 use Rattle.entries.specs.Arrays.{filled}
-use Rattle.entries.proofs.Filling.{filled-at}
 use Rattle.fields.specs.Bytes.{Bytes}
 use Rattle.fields.proofs.Bools.{by-test}
 use Rattle.layouts.specs.Bodies.{bodyLayout, bodyFields}
@@ -26,12 +24,6 @@ use Rattle.messages.specs.Message.{decoded, keyOf, messageFits}
 use Rattle.encoder.specs.Encoded.{encodedBytes}
 use Rattle.messages.proofs.BothWays as messages
 use Rattle.encoder.proofs.BothWays as encoder
-use Rattle.track.specs.declared.Track.{Track}
-use Rattle.text.specs.declared.Row.{Row}
-use Rattle.text.specs.Lines.{rowText, lineRoom}
-use Rattle.text.proofs.Fits.{header-most, row-most}
-use Rattle.table_bytes.specs.Layout.{clockOf}
-use Rattle.report.specs.Listing.{rowFor, rowsIn, lineText, lineFor, headerFor}
 use Rattle.rows.specs.From.{messageFrom}
 use Rattle.rows.specs.Rows.{messageFour, messageRow}
 use Rattle.rows.specs.Same.{Same}
@@ -40,7 +32,6 @@ use Rattle.rows.proofs.Cutting.{filled-all}
 use Rattle.rows.proofs.Laid.{row-length}
 use Rattle.rows.proofs.ReadBack.{from-same}
 use Rattle.entries.specs.Sent.{Sent, sent, into}
-use Rattle.addercoil.specs.Lines.{lineBuffer}
 use Rattle.addercoil.specs.Messages.{messageSaid, encodedNumber, encodedAs, encodedFrom}
 use Rattle.addercoil.proofs.Encoding.{encode-right}
 
@@ -107,19 +98,3 @@ module _ (fields out other : List ℕ) (h : length other ≡ 28) where
       by-test Back (not (eqb (length fields) 28) || not (eqb (length out) 14)) (sent 1 out) (encodedAs out (messageFrom fields))
       (λ e n. absurd (some-number Length n))
       (λ e. back (messageFrom fields) refl)
-
--- ---- the last byte of a line's buffer is 0
-
-ends : (text : List ℕ) → length text ≤ lineRoom → getD (filled lineBuffer text) lineRoom 0 ≡ 0
-ends text h = filled-at lineBuffer text lineRoom (omega arith) ∙ List·getD-eq-default text 0 h
-
-pub header-ends : (all : Bool) (s : List ℕ) (bad : ℕ) → getD (filled lineBuffer (headerFor all s bad)) lineRoom 0 ≡ 0
-unfolding headerFor
-header-ends all s bad = ends (headerFor all s bad) (omega (arith, header-most (clockOf s) (length (rowsIn all s)) bad))
-
-row-ends : (v : Option Row) → getD (filled lineBuffer (lineText v)) lineRoom 0 ≡ 0
-row-ends none = ends [] (omega arith)
-row-ends (some r) = ends (rowText r) (omega (arith, row-most r))
-
-pub line-ends : (all : Bool) (key : ℕ) (v : Option Track) → getD (filled lineBuffer (lineFor all key v)) lineRoom 0 ≡ 0
-line-ends all key v = row-ends (rowFor all key v)

@@ -1,9 +1,9 @@
 pub mod Encoding
+pub mod Fed
 pub mod Figured
 pub mod Framed
 pub mod Laws
 pub mod Placed
-pub mod Reported
 pub mod Stamping
 pub mod Unique
 pub mod Ways

@@ -22,7 +22,7 @@ use Rattle.stamps.specs.Heard.{heard}
 use Rattle.stamps.specs.Stamps.{stamped}
 use Rattle.stamps.specs.Times.{notAccepted, isAccepted}
 use Rattle.stamps.proofs.Accepted.{not-accepted-leaves}
-use Rattle.addercoil.specs.Lines.{Both, both}
+use Rattle.addercoil.specs.Blocks.{Both, both}
 use Rattle.entries.specs.Sent.{Sent, sent}
 use Rattle.addercoil.specs.Stamps.{stateIn, stateRow, noState, notedSent, notedAfter, receivedStamp}
 use Rattle.entries.specs.Means.{bit}

@@ -3,7 +3,7 @@
 use mathlib.Core.Path.{sym, _∙_}
 use Rattle.refusals.specs.Answers.{OneAnswer, OneOutcome}
 use Rattle.addercoil.specs.Figures.{Plotted, plotted}
-use Rattle.addercoil.specs.Lines.{Both, both}
+use Rattle.addercoil.specs.Blocks.{Both, both}
 use Rattle.entries.specs.Sent.{Sent, sent}
 use Rattle.addercoil.proofs.version.addercoil_version.Kinds as version-kinds
 use Rattle.addercoil.proofs.version.addercoil_version.Reads as version
@@ -21,24 +21,24 @@ use Rattle.addercoil.proofs.tables.addercoil_site.Kinds as site-kinds
 use Rattle.addercoil.proofs.tables.addercoil_site.Reads as site
 use Rattle.addercoil.proofs.tables.addercoil_next.Kinds as next-kinds
 use Rattle.addercoil.proofs.tables.addercoil_next.Reads as next
-use Rattle.addercoil.proofs.lines.addercoil_header.Kinds as header-kinds
-use Rattle.addercoil.proofs.lines.addercoil_header.Reads as header
-use Rattle.addercoil.proofs.lines.addercoil_line.Kinds as line-kinds
-use Rattle.addercoil.proofs.lines.addercoil_line.Reads as line
-use Rattle.addercoil.proofs.lines.addercoil_feed_block.Kinds as feed-block-kinds
-use Rattle.addercoil.proofs.lines.addercoil_feed_block.Reads as feed-block
+use Rattle.addercoil.proofs.blocks.addercoil_feed_block.Kinds as feed-block-kinds
+use Rattle.addercoil.proofs.blocks.addercoil_feed_block.Reads as feed-block
 use Rattle.addercoil.proofs.spots.addercoil_encode_position.Kinds as encode-position-kinds
 use Rattle.addercoil.proofs.spots.addercoil_encode_position.Reads as encode-position
+use Rattle.addercoil.proofs.spots.addercoil_encode_position_coarse.Kinds as encode-position-coarse-kinds
+use Rattle.addercoil.proofs.spots.addercoil_encode_position_coarse.Reads as encode-position-coarse
 use Rattle.addercoil.proofs.spots.addercoil_pair.Kinds as pair-kinds
 use Rattle.addercoil.proofs.spots.addercoil_pair.Reads as pair
+use Rattle.addercoil.proofs.spots.addercoil_pair_coarse.Kinds as pair-coarse-kinds
+use Rattle.addercoil.proofs.spots.addercoil_pair_coarse.Reads as pair-coarse
 use Rattle.addercoil.proofs.spots.addercoil_single.Kinds as single-kinds
 use Rattle.addercoil.proofs.spots.addercoil_single.Reads as single
+use Rattle.addercoil.proofs.spots.addercoil_single_coarse.Kinds as single-coarse-kinds
+use Rattle.addercoil.proofs.spots.addercoil_single_coarse.Reads as single-coarse
 use Rattle.addercoil.proofs.figures.addercoil_degrees.Kinds as degrees-kinds
 use Rattle.addercoil.proofs.figures.addercoil_degrees.Reads as degrees
 use Rattle.addercoil.proofs.figures.addercoil_from_degrees.Kinds as from-degrees-kinds
 use Rattle.addercoil.proofs.figures.addercoil_from_degrees.Reads as from-degrees
-use Rattle.addercoil.proofs.numbers.addercoil_look_up.Kinds as look-up-kinds
-use Rattle.addercoil.proofs.numbers.addercoil_look_up.Reads as look-up
 use Rattle.addercoil.proofs.numbers.addercoil_decode.Kinds as decode-kinds
 use Rattle.addercoil.proofs.numbers.addercoil_decode.Reads as decode
 use Rattle.addercoil.proofs.me.addercoil_me.Kinds as me-kinds
@@ -72,20 +72,23 @@ site-once κs args x y left left′ p q = p ∙ sym q
 pub next-once : OneOutcome 2 next-kinds.ps next-kinds.r Sent (λ κs x left. sent x (left .1 .1 .0 .now)) next.Post
 next-once κs args x y left left′ p q = p ∙ sym q
 
-pub header-once : OneOutcome 2 header-kinds.ps header-kinds.r Sent (λ κs x left. sent x (left .1 .1 .1 .0 .now)) header.Post
-header-once κs args x y left left′ p q = p ∙ sym q
-
-pub line-once : OneOutcome 2 line-kinds.ps line-kinds.r Sent (λ κs x left. sent x (left .1 .1 .1 .0 .now)) line.Post
-line-once κs args x y left left′ p q = p ∙ sym q
-
 pub encode-position-once : OneOutcome 1 encode-position-kinds.ps encode-position-kinds.r Sent (λ κs x left. sent x (left .1 .1 .1 .1 .0 .now)) encode-position.Post
 encode-position-once κs args x y left left′ p q = p ∙ sym q
+
+pub encode-position-coarse-once : OneOutcome 1 encode-position-coarse-kinds.ps encode-position-coarse-kinds.r Sent (λ κs x left. sent x (left .1 .1 .1 .0 .now)) encode-position-coarse.Post
+encode-position-coarse-once κs args x y left left′ p q = p ∙ sym q
 
 pub pair-once : OneOutcome 1 pair-kinds.ps pair-kinds.r Sent (λ κs x left. sent x (left .1 .1 .1 .1 .1 .0 .now)) pair.Post
 pair-once κs args x y left left′ p q = p ∙ sym q
 
+pub pair-coarse-once : OneOutcome 1 pair-coarse-kinds.ps pair-coarse-kinds.r Sent (λ κs x left. sent x (left .1 .1 .1 .1 .1 .0 .now)) pair-coarse.Post
+pair-coarse-once κs args x y left left′ p q = p ∙ sym q
+
 pub single-once : OneOutcome 1 single-kinds.ps single-kinds.r Sent (λ κs x left. sent x (left .1 .1 .1 .1 .1 .1 .0 .now)) single.Post
 single-once κs args x y left left′ p q = p ∙ sym q
+
+pub single-coarse-once : OneOutcome 1 single-coarse-kinds.ps single-coarse-kinds.r Sent (λ κs x left. sent x (left .1 .1 .1 .1 .1 .0 .now)) single-coarse.Post
+single-coarse-once κs args x y left left′ p q = p ∙ sym q
 
 pub degrees-once : OneOutcome 1 degrees-kinds.ps degrees-kinds.r Plotted (λ κs x left. plotted x (left .1 .1 .0 .now)) degrees.Post
 degrees-once κs args x y left left′ p q = p ∙ sym q
@@ -95,9 +98,6 @@ from-degrees-once κs args x y left left′ p q = p ∙ sym q
 
 pub feed-block-once : OneOutcome 3 feed-block-kinds.ps feed-block-kinds.r Both (λ κs x left. both (sent x (left .1 .1 .1 .0 .now)) (left .0 .now)) feed-block.Post
 feed-block-once κs args x y left left′ p q = p ∙ sym q
-
-pub look-up-once : OneOutcome 2 look-up-kinds.ps look-up-kinds.r Sent (λ κs x left. sent x (left .1 .1 .0 .now)) look-up.Post
-look-up-once κs args x y left left′ p q = p ∙ sym q
 
 pub decode-once : OneOutcome 2 decode-kinds.ps decode-kinds.r Sent (λ κs x left. sent x (left .1 .0 .now)) decode.Post
 decode-once κs args x y left left′ p q = p ∙ sym q

@@ -1,5 +1,5 @@
+pub mod Blocks
 pub mod Figures
-pub mod Lines
 pub mod Me
 pub mod Messages
 pub mod Spots

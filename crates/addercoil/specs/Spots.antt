@@ -1,4 +1,4 @@
--- Positions for another language: a spot as latitude and longitude, a turn and a format as 0 or 1.
+-- Positions for another language: a spot as latitude and longitude, a turn and a format as 0 or 1; of fine counts or of coarse ones.
 use Prim.Native.Nat.{ℕ}
 use mathlib.Core.Bool.{cond, _||_}
 use mathlib.Core.List.{List, [], _∷_}
@@ -7,6 +7,7 @@ use lib.IntN.{ℤ}
 use Rattle.refusals.specs.Numbers.{numberOf}
 use Rattle.refusals.specs.Said.{Said, number, gives}
 use Rattle.entries.specs.Twos.{twos}
+use Rattle.positions.specs.declared.Size.{Size}
 use Rattle.positions.specs.declared.Spot.{Spot}
 use Rattle.positions.specs.declared.Turn.{Turn}
 use Rattle.positions.specs.declared.Turn.the-variants.{Airborne, Surface}
@@ -17,7 +18,7 @@ use Rattle.positions.specs.declared.Encoded.{Encoded}
 use Rattle.positions.specs.declared.Encoded.the-variants as encode
 use Rattle.positions.specs.declared.Found.{Found}
 use Rattle.positions.specs.declared.Found.the-variants as found
-use Rattle.positions.specs.Positions.{encoded, paired, singly}
+use Rattle.positions.specs.Positions.{countSize, encoded, paired, singly}
 
 -- 0 airborne, 1 surface
 abbrev pub turnOf : ℕ → Turn
@@ -44,17 +45,17 @@ spotSaid (found.At s) = spotValues s
 spotSaid (found.Refused r) = number (numberOf r)
 
 -- 8 for a turn or a format that is neither 0 nor 1, or for the latitude
-unfoldable pub encodeSaid : ℤ → ℕ → ℕ → ℕ → Said (List ℕ)
-encodeSaid latitude longitude surface odd =
+unfoldable pub encodeSaid : Size → ℤ → ℕ → ℕ → ℕ → Said (List ℕ)
+encodeSaid size latitude longitude surface odd =
     cond (ltb 1 surface || ltb 1 odd) (number 8)
-    (countsSaid (encoded 131072 (record { latitude = latitude; longitude = longitude }) (turnOf surface) (formatOf odd)))
+    (countsSaid (encoded (countSize size) (record { latitude = latitude; longitude = longitude }) (turnOf surface) (formatOf odd)))
 
 -- 8 for a format that is neither 0 nor 1, or for a count; then 9, then 10
-unfoldable pub pairSaid : Counts → Counts → ℕ → Said (List ℕ)
-pairSaid even odd later = cond (ltb 1 later) (number 8) (spotSaid (paired 131072 even odd (formatOf later)))
+unfoldable pub pairSaid : Size → Counts → Counts → ℕ → Said (List ℕ)
+pairSaid size even odd later = cond (ltb 1 later) (number 8) (spotSaid (paired (countSize size) even odd (formatOf later)))
 
 -- 8 for a turn or a format that is neither 0 nor 1, for a count or for the latitude; then 9
-unfoldable pub singleSaid : ℤ → ℕ → Counts → ℕ → ℕ → Said (List ℕ)
-singleSaid latitude longitude counts surface odd =
+unfoldable pub singleSaid : Size → ℤ → ℕ → Counts → ℕ → ℕ → Said (List ℕ)
+singleSaid size latitude longitude counts surface odd =
     cond (ltb 1 surface || ltb 1 odd) (number 8)
-    (spotSaid (singly 131072 (record { latitude = latitude; longitude = longitude }) counts (turnOf surface) (formatOf odd)))
+    (spotSaid (singly (countSize size) (record { latitude = latitude; longitude = longitude }) counts (turnOf surface) (formatOf odd)))

@@ -11,7 +11,7 @@ use Rattle.stamps.specs.declared.Stamps.{Stamps}
 use Rattle.stamps.specs.declared.Noted.{Noted}
 use Rattle.stamps.specs.Heard.{heard}
 use Rattle.stamps.specs.Stamps.{stamped}
-use Rattle.addercoil.specs.Lines.{Both, both}
+use Rattle.addercoil.specs.Blocks.{Both, both}
 use Rattle.entries.specs.Sent.{Sent, sent}
 use Rattle.entries.specs.Means.{bit}
 use Rattle.addercoil.specs.Tables.{heardNumber}

@@ -14,7 +14,7 @@ pub extern "C" fn addercoil_me(me: u64, key: u32, fields: &mut [u64]) -> u32
     if (0x100_0000_0000_0000 <= me) | !keys::is_key(key) {
         return 8;
     }
-    let layout = layouts::layout_of(me);
+    let layout = layouts::layout_by(keys::coarse_in(key), me);
     if !layouts::is_layout(layout) {
         return 5;
     }

@@ -1,4 +1,4 @@
-// A track and a message as rows of numbers, and a message back from its row.
+// A message as a row of numbers, and back from its row.
 use encoder::Encoded;
 use messages::Accepted;
 use messages::Decoded;
@@ -7,30 +7,14 @@ ghost use mathlib.Core.Path.{_≡_};
 ghost use lib.ListN.{length};
 ghost use Rattle.messages.specs.Message.{decoded};
 ghost use Rattle.messages.specs.Accepted.{frameSays, decodedBy};
-ghost use Rattle.table.specs.Table.{lookedUp};
 ghost use Rattle.entries.specs.Sent.{sent, given, into};
-ghost use Rattle.rows.specs.Held.{lookedSaid};
 ghost use Rattle.addercoil.specs.Messages.{messageSaid, encodedNumber, encodedAs, encodedFrom};
-
-// The track of a key, zeros if it is not held, into 66 entries. Or 1, then 7.
-#[no_mangle]
-pub extern "C" fn addercoil_look_up(table: &[u8], key: u32, out: &mut [u64]) -> u32
-    ensures { λ r. ⌜ sent r (now (out .exit)) ≡ into 66 (now (out .entry)) (lookedSaid key (lookedUp (now (table .entry)) key)) ⌝ }
-{
-    if out.len() != 66 {
-        return 1;
-    }
-    let looked = table::look_up(table, key);
-    let answer = looked.answer;
-    let track = looked.track;
-    rows::give_held(out, key, track, answer)
-}
 
 fn give_frame(out: &mut [u64], f: Frame) -> u32
     requires { ⌜ length (now out) ≡ 28 ⌝ }
     ensures { λ r. ⌜ sent r (now (out .exit)) ≡ given (now (out .entry)) (messageSaid (frameSays f)) ⌝ }
 {
-    let layout = layouts::layout_of(f.me);
+    let layout = layouts::layout_by(messages::frame_coarse(f), f.me);
     if !layouts::is_layout(layout) {
         return 5;
     }

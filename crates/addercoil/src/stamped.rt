@@ -5,7 +5,7 @@ use stamps::Noted;
 use stamps::Stamps;
 ghost use mathlib.Core.Path.{_≡_};
 ghost use lib.ListN.{length};
-ghost use Rattle.addercoil.specs.Lines.{both};
+ghost use Rattle.addercoil.specs.Blocks.{both};
 ghost use Rattle.entries.specs.Sent.{sent};
 ghost use Rattle.addercoil.specs.Stamps.{notedSent, receivedStamp};
 

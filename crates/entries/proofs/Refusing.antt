@@ -4,8 +4,8 @@ use Prim.Native.Nat.{_<_}
 use mathlib.Core.Path.{_≡_, refl}
 use native.Mathlib.Omega.{arith}
 use Rattle.characters.specs.Said.{categorySetSaid, textSaid}
-use Rattle.readings.specs.Said.{Given, altitudeSaid, speedSaid, rateSaid, differenceSaid, headingSaid, movementSaid}
-use Rattle.entries.specs.Means.{altitudeReading, stepReading, speedReading, rateReading, differenceReading, headingReading, movementReading, setReading, textReading, versionReading, supplementReading}
+use Rattle.readings.specs.Said.{Given, altitudeSaid, speedSaid, rateSaid, differenceSaid, headingSaid, movementSaid, coarseSpeedSaid}
+use Rattle.entries.specs.Means.{altitudeReading, stepReading, speedReading, rateReading, differenceReading, headingReading, movementReading, coarseSpeedReading, setReading, textReading, versionReading, supplementReading}
 use Rattle.readings.specs.declared.altitude.Altitude.{Altitude}
 use Rattle.readings.specs.declared.altitude.Altitude.the-variants as altitude
 use Rattle.readings.specs.declared.amounts.Speed.{Speed}
@@ -14,6 +14,8 @@ use Rattle.readings.specs.declared.amounts.Rate.{Rate}
 use Rattle.readings.specs.declared.amounts.Rate.the-variants as rate
 use Rattle.readings.specs.declared.amounts.Difference.{Difference}
 use Rattle.readings.specs.declared.amounts.Difference.the-variants as difference
+use Rattle.readings.specs.declared.coarse.CoarseSpeed.{CoarseSpeed}
+use Rattle.readings.specs.declared.coarse.CoarseSpeed.the-variants as coarseSpeed
 use Rattle.readings.specs.declared.headings.Heading.{Heading}
 use Rattle.readings.specs.declared.headings.Heading.the-variants as heading
 use Rattle.readings.specs.declared.movement.Movement.{Movement}
@@ -67,6 +69,12 @@ movement-given (movement.LowerEdge n) g = omega arith
 movement-given (movement.AndUp n) g = omega arith
 movement-given movement.Reserved g = omega arith
 movement-given (movement.Refused r) g = absurd g
+
+pub coarse-speed-given : (x : CoarseSpeed) → Given (coarseSpeedSaid x) → coarseSpeedReading x .what < 5
+coarse-speed-given coarseSpeed.Unknown g = omega arith
+coarse-speed-given (coarseSpeed.LowerEdge n) g = omega arith
+coarse-speed-given (coarseSpeed.AndUp n) g = omega arith
+coarse-speed-given (coarseSpeed.Refused r) g = absurd g
 
 pub set-given : (x : CategorySet) → Given (categorySetSaid x) → setReading x .what < 5
 set-given set.A g = omega arith

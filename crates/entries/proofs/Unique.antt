@@ -20,6 +20,8 @@ use Rattle.entries.proofs.heading_reading.Kinds as heading-reading-kind
 use Rattle.entries.proofs.heading_reading.Reads as heading-reading
 use Rattle.entries.proofs.movement_reading.Kinds as movement-reading-kinds
 use Rattle.entries.proofs.movement_reading.Reads as movement-reading
+use Rattle.entries.proofs.coarse_speed_reading.Kinds as coarse-speed-reading-kinds
+use Rattle.entries.proofs.coarse_speed_reading.Reads as coarse-speed-reading
 use Rattle.entries.proofs.set_reading.Kinds as set-reading-kinds
 use Rattle.entries.proofs.set_reading.Reads as set-reading
 use Rattle.entries.proofs.text_reading.Kinds as text-reading-kinds
@@ -68,6 +70,9 @@ heading-reading-once κs args x y left left′ p q = p ∙ sym q
 
 pub movement-reading-once : OneAnswer 0 movement-reading-kinds.ps movement-reading-kinds.r movement-reading.Post
 movement-reading-once κs args x y left left′ p q = p ∙ sym q
+
+pub coarse-speed-reading-once : OneAnswer 0 coarse-speed-reading-kinds.ps coarse-speed-reading-kinds.r coarse-speed-reading.Post
+coarse-speed-reading-once κs args x y left left′ p q = p ∙ sym q
 
 pub set-reading-once : OneAnswer 0 set-reading-kinds.ps set-reading-kinds.r set-reading.Post
 set-reading-once κs args x y left left′ p q = p ∙ sym q

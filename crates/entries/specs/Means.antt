@@ -10,6 +10,8 @@ use Rattle.readings.specs.declared.amounts.Rate.{Rate}
 use Rattle.readings.specs.declared.amounts.Rate.the-variants as rate
 use Rattle.readings.specs.declared.amounts.Difference.{Difference}
 use Rattle.readings.specs.declared.amounts.Difference.the-variants as difference
+use Rattle.readings.specs.declared.coarse.CoarseSpeed.{CoarseSpeed}
+use Rattle.readings.specs.declared.coarse.CoarseSpeed.the-variants as coarseSpeed
 use Rattle.readings.specs.declared.headings.Heading.{Heading}
 use Rattle.readings.specs.declared.headings.Heading.the-variants as heading
 use Rattle.readings.specs.declared.movement.Movement.{Movement}
@@ -76,6 +78,13 @@ movementReading (movement.LowerEdge n) = reading 1 n
 movementReading (movement.AndUp n) = reading 2 n
 movementReading movement.Reserved = reading 3 0
 movementReading (movement.Refused r) = reading 5 0
+
+-- knots, the lower edge
+abbrev pub coarseSpeedReading : CoarseSpeed → Reading
+coarseSpeedReading coarseSpeed.Unknown = reading 0 0
+coarseSpeedReading (coarseSpeed.LowerEdge n) = reading 1 n
+coarseSpeedReading (coarseSpeed.AndUp n) = reading 2 n
+coarseSpeedReading (coarseSpeed.Refused r) = reading 5 0
 
 -- the letter, in ASCII
 abbrev pub setReading : CategorySet → Reading

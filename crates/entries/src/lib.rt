@@ -9,6 +9,7 @@ pub use arrays::twos_of;
 use characters::CategorySet;
 use characters::Text;
 use readings::Altitude;
+use readings::CoarseSpeed;
 use readings::Difference;
 use readings::Heading;
 use readings::Movement;
@@ -17,7 +18,7 @@ use readings::Speed;
 use readings::Supplement;
 use readings::Version;
 ghost use mathlib.Core.Path.{_≡_};
-ghost use Rattle.entries.specs.Means.{reading, altitudeReading, stepReading, speedReading, rateReading, differenceReading, headingReading, movementReading, setReading, textReading, versionReading, supplementReading};
+ghost use Rattle.entries.specs.Means.{reading, altitudeReading, stepReading, speedReading, rateReading, differenceReading, headingReading, movementReading, coarseSpeedReading, setReading, textReading, versionReading, supplementReading};
 ghost use Rattle.entries.specs.Means.{bit as bitOf};
 
 pub struct Reading {
@@ -126,6 +127,20 @@ pub fn movement_reading(a: Movement) -> Reading
         },
         Movement::Reserved => only(3),
         Movement::Refused(_) => only(5),
+    }
+}
+
+pub fn coarse_speed_reading(a: CoarseSpeed) -> Reading
+    ensures { λ r. ⌜ r ≡ coarseSpeedReading a ⌝ }
+{
+    match a {
+        CoarseSpeed::Unknown => only(0),
+        CoarseSpeed::LowerEdge(n) => known(n as u64),
+        CoarseSpeed::AndUp(n) => Reading {
+            what: 2,
+            value: n as u64,
+        },
+        CoarseSpeed::Refused(_) => only(5),
     }
 }
 

@@ -12,6 +12,7 @@ use Rattle.refusals.specs.Said.{number, gives}
 use Rattle.fields.specs.Packing.{wider}
 use Rattle.fields.proofs.Bools.{through}
 use Rattle.keys.specs.declared.Kind.{Kind}
+use Rattle.keys.specs.Keys.{isCoarse}
 use Rattle.integrity.specs.declared.Integrity.{Integrity}
 use Rattle.integrity.specs.declared.Integrity.the-variants.{Unknown, Nuc, Nic}
 use Rattle.integrity.specs.declared.standard.Bits.{Bits}
@@ -45,7 +46,7 @@ module _ (x : ℕ → Integrity) (y : ℕ → Level) (e : (n : ℕ) → integrit
   unfolding inTable
   table-says rows type s = lowest-says (withThese type s rows) (ofType type rows)
 
-by-says : (v type : ℕ) (s : Bits) → integritySaid (integrityBy Unknown Nuc Nic v type s) ≡ gives (integrityMeans v type s)
+by-says : (v type : ℕ) (s : Bits) → integritySaid (integrityBy Unknown Nuc Nic v type s) ≡ gives (integrityBy unknown nuc nic v type s)
 by-says v type s =
     through integritySaid gives (eqb v 0) (table-says Nuc nuc (λ n. refl) nucRows type s)
     (through integritySaid gives (eqb v 1) (table-says Nic nic (λ n. refl) nicRows1 type s)
@@ -53,9 +54,11 @@ by-says v type s =
     refl))
 
 pub integrity-says : (kind : Kind) (status type : ℕ) (bit8 : Bool) → integritySaid (integrityOf kind status type bit8)
-    ≡ cond (wider 5 type || wider 56 status) (number 8) (gives (integrityMeans (versionIn kind status) type (bitsIn kind status bit8)))
+    ≡ cond (wider 5 type || wider 56 status) (number 8) (gives (integrityMeans kind status type bit8))
 unfolding integrityOf
-integrity-says kind status type bit8 = through integritySaid (λ s. s) (wider 5 type || wider 56 status) refl (by-says (versionIn kind status) type (bitsIn kind status bit8))
+integrity-says kind status type bit8 =
+    through integritySaid (λ s. s) (wider 5 type || wider 56 status) refl
+    (through integritySaid gives (isCoarse kind) refl (by-says (versionIn kind status) type (bitsIn kind status bit8)))
 
 -- ---- and so does whatever meets a contract
 
@@ -72,5 +75,5 @@ supplements-of-promised κs args x left p = ap supplementsSaid p ∙ supplements
 pub integrity-of-promised : (κs : Lfts 0) (args : Dens κs integrity-of-kinds.ps) (x : resT integrity-of-kinds.r κs .Denot)
     (left : AtExit (endedOf 0 integrity-of-kinds.ps integrity-of-kinds.r) κs) → integrity-of.Post κs args x left
     → integritySaid x ≡ cond (wider 5 (args .1 .1 .0) || wider 56 (args .1 .0)) (number 8)
-    (gives (integrityMeans (versionIn (args .0) (args .1 .0)) (args .1 .1 .0) (bitsIn (args .0) (args .1 .0) (args .1 .1 .1 .0))))
+    (gives (integrityMeans (args .0) (args .1 .0) (args .1 .1 .0) (args .1 .1 .1 .0)))
 integrity-of-promised κs args x left p = ap integritySaid p ∙ integrity-says (args .0) (args .1 .0) (args .1 .1 .0) (args .1 .1 .1 .0)

@@ -12,14 +12,14 @@ use Rattle.fields.specs.Packing.{me}
 use Rattle.fields.proofs.Bools.{and-false}
 use Rattle.fields.proofs.Tables.{at}
 use Rattle.keys.specs.declared.Kind.{Kind}
-use Rattle.keys.specs.Keys.{isTraffic}
+use Rattle.keys.specs.Keys.{isTraffic, isCoarse}
 use Rattle.layouts.specs.Bodies.{layoutOf}
 use Rattle.layouts.specs.Layouts.{isPosition}
 use Rattle.readings.specs.Status.{hasA, hasC}
 use Rattle.integrity.specs.declared.Integrity.the-variants.{Unknown, Nuc, Nic}
 use Rattle.integrity.specs.declared.standard.Bits.{Bits}
 use Rattle.integrity.specs.Code.{nucs, nic1, nic2}
-use Rattle.integrity.specs.Integrity.{integrityBy}
+use Rattle.integrity.specs.Integrity.{integrityBy, integrityIn}
 use Rattle.integrity.specs.Said.{isNumber}
 use Rattle.integrity.specs.Standard.{isStatus, statusVersion, versionIn, noBits, statusBits, bitsIn}
 use Rattle.integrity.specs.Tables.{Row, nucRows, nicRows1, nicRows2, withThese, ofType, lowest, inTable}
@@ -27,7 +27,7 @@ use Rattle.integrity.proofs.Rows.{twice, with-all, left, rest, at-all, 
 
 -- ---- the version and the supplements
 
--- T, M and N are version 1 with supplements 0, whatever the ME and bit 8 are
+-- T, M, N and C are version 1 with supplements 0, whatever the ME and bit 8 are
 pub traffic-version : (kind : Kind) → isTraffic kind ≡ true → (status : ℕ) (bit8 : Bool) → (versionIn kind status ≡ 1) × (bitsIn kind status bit8 ≡ noBits)
 unfolding versionIn bitsIn
 traffic-version kind e status bit8 = (rw e, rw e)
@@ -60,6 +60,10 @@ no-c-in-the-air status bit8 e = rw e (and-false (hasC (statusVersion status)))
 -- a version above 2 is unknown
 pub above-two : (v type : ℕ) (s : Bits) → 2 < v → integrityBy Unknown Nuc Nic v type s ≡ Unknown
 above-two v type s h = rw (ne-eqb v 0 (λ e. omega arith), ne-eqb v 1 (λ e. omega arith), ne-eqb v 2 (λ e. omega arith))
+
+-- and so is C, whatever else is held
+pub coarse-unknown : (kind : Kind) → isCoarse kind ≡ true → (status type : ℕ) (bit8 : Bool) → integrityIn Unknown Nuc Nic kind status type bit8 ≡ Unknown
+coarse-unknown kind e status type bit8 = rw e
 
 nuc-where : (p : Bool) (n : ℕ) → isNumber (cond p (Nuc n) Unknown) ≡ p
 nuc-where true n = refl

@@ -5,6 +5,7 @@ use lib.Dec.{eqb}
 use Rattle.refusals.specs.declared.Refusal.the-variants.{Field}
 use Rattle.fields.specs.Packing.{wider}
 use Rattle.keys.specs.declared.Kind.{Kind}
+use Rattle.keys.specs.Keys.{isCoarse}
 use Rattle.integrity.specs.declared.Integrity.{Integrity}
 use Rattle.integrity.specs.declared.Integrity.the-variants as integrity
 use Rattle.integrity.specs.declared.standard.Bits.{Bits}
@@ -19,8 +20,14 @@ integrityBy unknown nuc nic version type s =
     (cond (eqb version 2) (inTable nic nicRows2 type s unknown)
     unknown))
 
+-- by the version and the supplements of the kind; a coarse message has no TYPE, so that of C it is unknown whatever else is held
+abbrev pub integrityIn : {X : Type 0} → (unknown : X) (nuc nic : ℕ → X) → Kind → ℕ → ℕ → Bool → X
+integrityIn unknown nuc nic kind status type bit8 =
+    cond (isCoarse kind) unknown
+    (integrityBy unknown nuc nic (versionIn kind status) type (bitsIn kind status bit8))
+
 -- a TYPE wider than its 5 bits is refused, and an ME wider than its 56
 unfoldable pub integrityOf : Kind → ℕ → ℕ → Bool → Integrity
 integrityOf kind status type bit8 =
     cond (wider 5 type || wider 56 status) (integrity.Refused Field)
-    (integrityBy integrity.Unknown integrity.Nuc integrity.Nic (versionIn kind status) type (bitsIn kind status bit8))
+    (integrityIn integrity.Unknown integrity.Nuc integrity.Nic kind status type bit8)

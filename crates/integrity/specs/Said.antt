@@ -3,6 +3,7 @@ use Prim.Native.Nat.{ℕ}
 use mathlib.Core.Bool.{Bool, true, false}
 use Rattle.refusals.specs.Numbers.{numberOf}
 use Rattle.refusals.specs.Said.{Said, number, gives}
+use Rattle.keys.specs.declared.Kind.{Kind}
 use Rattle.integrity.specs.declared.Integrity.{Integrity}
 use Rattle.integrity.specs.declared.Integrity.the-variants as integrity
 use Rattle.integrity.specs.declared.standard.Bits.{Bits}
@@ -10,7 +11,7 @@ use Rattle.integrity.specs.declared.standard.Supplements.{Supplements}
 use Rattle.integrity.specs.declared.standard.Supplements.the-variants as supplements
 use Rattle.integrity.specs.declared.standard.Version.{Version}
 use Rattle.integrity.specs.declared.standard.Version.the-variants as version
-use Rattle.integrity.specs.Integrity.{integrityBy}
+use Rattle.integrity.specs.Integrity.{integrityIn}
 
 -- what a TYPE can say
 pub data Level : Type 0 where
@@ -38,6 +39,6 @@ isNumber (integrity.Nuc n) = true
 isNumber (integrity.Nic n) = true
 isNumber (integrity.Refused r) = false
 
--- what is due by the version and the supplements
-abbrev pub integrityMeans : ℕ → ℕ → Bits → Level
-integrityMeans version type s = integrityBy unknown nuc nic version type s
+-- what is due by the kind, the status, TYPE and bit 8
+abbrev pub integrityMeans : Kind → ℕ → ℕ → Bool → Level
+integrityMeans kind status type bit8 = integrityIn unknown nuc nic kind status type bit8

@@ -25,13 +25,14 @@ isStatus layout.Surface = false
 isStatus layout.Airborne = false
 isStatus layout.Ground = false
 isStatus layout.Air = false
+isStatus layout.Coarse = false
 isStatus layout.NotTaken = false
 
 -- what the status says; without one the version is 0
 unfoldable pub statusVersion : ℕ → ℕ
 statusVersion status = cond (isStatus (layoutOf status)) (statusOf status .version) 0
 
--- T, M and N are version 1
+-- T, M, N and C are version 1
 unfoldable pub versionIn : Kind → ℕ → ℕ
 versionIn kind status = cond (isTraffic kind) 1 (statusVersion status)
 
@@ -48,7 +49,7 @@ statusBits status bit8 =
       c = hasC v && eqb (bitC (statusOf status .subtype) (statusOf status .bit20)) 1;
     }
 
--- T, M and N have supplements 0
+-- T, M, N and C have supplements 0
 unfoldable pub bitsIn : Kind → ℕ → Bool → Bits
 bitsIn kind status bit8 = cond (isTraffic kind) noBits (statusBits status bit8)
 

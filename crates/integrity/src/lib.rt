@@ -14,7 +14,7 @@ ghost use Prim.Native.Nat.{_<_};
 ghost use Rattle.integrity.specs.Integrity.{integrityBy, integrityOf};
 
 pub enum Integrity {
-    // of a version above 2, or no position message was heard
+    // of a version above 2, of C, or no position message was heard
     Unknown,
     Nuc(u8),
     Nic(u8),
@@ -46,6 +46,9 @@ pub fn integrity_of(kind: Kind, status: u64, typecode: u8, bit8: bool) -> Integr
 {
     if (32 <= typecode) | (0x100_0000_0000_0000 <= status) {
         return Integrity::Refused(Refusal::Field);
+    }
+    if keys::is_coarse(kind) {
+        return Integrity::Unknown;
     }
     integrity_by(
         standard::version_in(kind, status),

@@ -33,6 +33,7 @@ fn is_status(layout: Layout) -> bool
         Layout::Airborne => false,
         Layout::Ground => false,
         Layout::Air => false,
+        Layout::Coarse => false,
         Layout::NotTaken => false,
     }
 }

@@ -1,9 +1,10 @@
 // Runs `integrity` on each question of standard input and writes the answers, a line each: the version, the supplements A, B and C, and the integrity.
-// A question is a byte with the number of a kind, one with TYPE, one that is 1 where bit 8 is set, and a status ME of eight bytes.
+// A question is a byte with a kind in its low three bits, 1 to 6, and above them of C the flag and the station; one with TYPE, one that is 1 where bit 8 is set, and a status ME of eight bytes.
 use integrity::Bits;
 use integrity::Integrity;
 use integrity::Supplements;
 use integrity::Version;
+use keys::Kind;
 use libc::STDIN_FILENO;
 use libc::STDOUT_FILENO;
 use refusals::Refusal;
@@ -66,8 +67,15 @@ fn say_integrity(i: Integrity) {
     }
 }
 
+fn kind_of(number: u8) -> Kind {
+    if number % 8 == 6 {
+        return Kind::C(number / 128, number / 8 % 16);
+    }
+    keys::kind_at((number % 8) as u32)
+}
+
 fn answer(number: u8, typecode: u8, bit8: bool, status: u64) {
-    let kind = keys::kind_at(number as u32);
+    let kind = kind_of(number);
     say_version(integrity::version_of(kind, status));
     write(b", ");
     say_supplements(integrity::supplements_of(kind, status, bit8));

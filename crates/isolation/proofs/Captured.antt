@@ -18,7 +18,7 @@ use Rattle.capture.specs.Block.{countOf, startOf, good, timeOf, messageOf}
 use Rattle.capture.proofs.Rules.{good-keeps}
 use Rattle.capture.proofs.Records.{good-at, message-at}
 use Rattle.whereabouts.specs.declared.Site.{Site}
-use Rattle.replay.specs.Replay.{isLog, recordAt, replayed}
+use Rattle.replay.specs.Replay.{isLog, recordAt, isWide, replayed}
 use Rattle.rules.specs.declared.answers.SetUp.the-variants.{Done}
 use Rattle.rules.specs.Form.{East}
 use Rattle.rules.specs.Rules as rules
@@ -113,10 +113,10 @@ blocks-left c h (suc k) =
 -- ---- a capture
 
 -- a replay of its log is what the table holds after the capture was fed to it from a set-up. The calls are those that the log is of
-pub capture-replayed : (c : List ℕ) → Bytes c → (kind : Kind) (address : ℕ) (site : Site) → address < 2 ^ 24 → East site → (s : List ℕ) → rules.setUp bytes s site .answer ≡ Done
+pub capture-replayed : (c : List ℕ) → Bytes c → (kind : Kind) (address : ℕ) (site : Site) → address < 2 ^ 24 → isWide kind ≡ false → East site → (s : List ℕ) → rules.setUp bytes s site .answer ≡ Done
     → isLog (length (captureLog c)) ≡ true → (cs : List Call) → logOf cs ≡ captureLog c → NeverFull received (keyFor kind address) (rules.setUp bytes s site .table) cs
     → replayed (captureLog c) kind address site ≡ lookedUp (fed (rules.setUp bytes s site .table) c .table) (keyFor kind address)
-capture-replayed c h kind address site few east s done whole cs logged never =
+capture-replayed c h kind address site few narrow east s done whole cs logged never =
     let t : List ℕ = rules.setUp bytes s site .table in
     let x = blocks-left c h (blocksIn c) in
     let records : length (captureLog c) / 22 ≤ 2900 = leb-true (length (captureLog c) / 22) 2900 (and-right (eqb (length (captureLog c) % 22) 0) _ whole) in
@@ -125,5 +125,5 @@ capture-replayed c h kind address site few east s done whole cs logged never =
     let fed-leaves : left received t cs ≡ fed t c .table =
     same-log received t cs (x .0) (logged ∙ sym (x .1 .0)) ∙ sym (x .1 .1 t) ∙ ap (λ (x : After Fed). x .table) (feed-on t c size refl refl) in
     ap (λ (l : List ℕ). replayed l kind address site) (sym logged)
-    ∙ replays bytes bytes-lawful kind address site few east s done cs most never
+    ∙ replays bytes bytes-lawful kind address site few narrow east s done cs most never
     ∙ ap (λ (x : List ℕ). lookedUp x (keyFor kind address)) fed-leaves

@@ -18,9 +18,9 @@ use Rattle.memory.specs.Offsets.{tableSize, wholePlaces}
 use Rattle.messages.specs.declared.Decoded.{Decoded}
 use Rattle.messages.specs.declared.Decoded.the-variants as decode
 use Rattle.messages.specs.Message.{opened, kindOf}
-use Rattle.whereabouts.specs.Located.{noSite, surfacePosition}
+use Rattle.whereabouts.specs.Located.{noSite, readSingly, isPartner, airbornePosition, surfacePosition}
 use Rattle.track.specs.declared.Track.{Track}
-use Rattle.track.specs.Track.{groupTrack, surfaceTrack}
+use Rattle.track.specs.Track.{groupTrack, savedTrack, surfaceTrack}
 use Rattle.track.specs.Meaning.{meantGroups, meantPosition, meantSaved, meant}
 use Rattle.memory.specs.Bytes.{numberAt, lowBytes, put}
 use Rattle.place.specs.Place.{savedFrom, groupsIn, lowered, positionIn, writtenIn, trackOf, abovePole, marksOf, savedNumber, savedBytes, messageBytes, spotBytes, bodyOf}
@@ -37,7 +37,8 @@ use Rattle.slice_table.specs.Slice.{Slice, sliceOf, slice}
 use Rattle.isolation.specs.Runs.{Call, own, Alike, Alike.end, Alike.its, Alike.others, Rule, call, NeverFull, Seen, seen, Isolation}
 use Rattle.isolation.specs.Wrong.{numberIn, overwriting, refreshing, kindless}
 
--- ---- eight messages: three of I ABCDEF, the second of TYPE 0 and the third a status, of I 123456, two of O ABCDEF, the second a status, of T ABCDEF, and one whose parity is wrong
+-- ---- ten messages: three of I ABCDEF, the second of TYPE 0 and the third a status, of I 123456, two of O ABCDEF, the second a status, of T ABCDEF, two coarse ones of ABCDEF,
+-- from the stations 3 and 5, and one whose parity is wrong
 
 abbrev mine : List ℕ
 mine = 0x8D ∷ 0xAB ∷ 0xCD ∷ 0xEF ∷ 0x20 ∷ 0x2C ∷ 0xC3 ∷ 0x71 ∷ 0xC3 ∷ 0x2C ∷ 0xE0 ∷ 0x42 ∷ 0xEA ∷ 0x5C ∷ []
@@ -60,11 +61,24 @@ state = 0x8D ∷ 0xAB ∷ 0xCD ∷ 0xEF ∷ 0xF9 ∷ 0x54 ∷ 0xB9 ∷ 0x12 ∷ 
 abbrev twin-state : List ℕ
 twin-state = 0x91 ∷ 0xAB ∷ 0xCD ∷ 0xEF ∷ 0xF8 ∷ 0x00 ∷ 0x65 ∷ 0x01 ∷ 0x00 ∷ 0x37 ∷ 0x28 ∷ 0x9B ∷ 0x04 ∷ 0x13 ∷ []
 
+abbrev from-3 : List ℕ
+from-3 = 0x93 ∷ 0xAB ∷ 0xCD ∷ 0xEF ∷ 0x06 ∷ 0x6F ∷ 0x14 ∷ 0x18 ∷ 0x80 ∷ 0x08 ∷ 0x00 ∷ 0xD3 ∷ 0x61 ∷ 0x6B ∷ []
+
+abbrev from-5 : List ℕ
+from-5 = 0x93 ∷ 0xAB ∷ 0xCD ∷ 0xEF ∷ 0x0A ∷ 0x6F ∷ 0x14 ∷ 0x18 ∷ 0x80 ∷ 0x08 ∷ 0x00 ∷ 0xBE ∷ 0x91 ∷ 0x30 ∷ []
+
 abbrev noise : List ℕ
 noise = 0 ∷ 0 ∷ 0 ∷ 0 ∷ 0 ∷ 0 ∷ 0 ∷ 0 ∷ 0 ∷ 0 ∷ 1 ∷ 0 ∷ 0 ∷ 0 ∷ []
 
 abbrev pub key : ℕ
 key = 0x1ABCDEF
+
+-- the keys of C ABCDEF from the two stations
+abbrev key-3 : ℕ
+key-3 = 0x9579BDE3
+
+abbrev key-5 : ℕ
+key-5 = 0x9579BDE5
 
 abbrev all-bytes : List ℕ → Bool
 all-bytes [] = true
@@ -105,6 +119,12 @@ status-first = at state refl refl 1000 (omega arith)
 abbrev other-status : Call
 other-status = at twin-state refl refl 2000 (omega arith)
 
+abbrev station-3 : Call
+station-3 = at from-3 refl refl 1000 (omega arith)
+
+abbrev station-5 : Call
+station-5 = at from-5 refl refl 2000 (omega arith)
+
 abbrev refused-first : Call
 refused-first = at noise refl refl 1000 (omega arith)
 
@@ -130,9 +150,14 @@ lastOf (x ∷ y ∷ r) = lastOf (y ∷ r)
 
 pub own-calls : (own key first ≡ true) × (own key second ≡ true) × (own key stranger-first ≡ false) × (own key stranger ≡ false) × (own key other-kind ≡ false)
     × (own key refused-first ≡ false) × (own key refused ≡ false) × (own key no-position ≡ true) × (own key of-traffic ≡ false)
-    × (own key status-first ≡ true) × (own key other-status ≡ false)
+    × (own key status-first ≡ true) × (own key other-status ≡ false) × (own key station-5 ≡ false)
 unfolding own remainder remainderFrom reduce opened kindOf
-own-calls = (refl, refl, refl, refl, refl, refl, refl, refl, refl, refl, refl)
+own-calls = (refl, refl, refl, refl, refl, refl, refl, refl, refl, refl, refl, refl)
+
+-- of a station a message of its own, and of the other none
+pub own-stations : (own key-3 station-3 ≡ true) × (own key-3 station-5 ≡ false) × (own key-3 refused ≡ false)
+unfolding own remainder remainderFrom reduce opened kindOf
+own-stations = (refl, refl, refl)
 
 own-first : own key first ≡ true
 own-first = own-calls .0
@@ -157,6 +182,10 @@ module _ {S : Type 0} (F : Form S) (empty : ℕ → S) where
   abbrev end-of : Rule S → ℕ → List Call → ℕ
   end-of rule n cs = heardIn (lastOf (seen F rule key (ready n) cs))
 
+  -- the same of a key
+  abbrev end-for : ℕ → List Call → ℕ
+  end-for k cs = heardIn (lastOf (seen F (received F) k (ready 2) cs))
+
   abbrev status-of : ℕ → List Call → ℕ
   status-of n cs = statusIn (lastOf (seen F (received F) key (ready n) cs))
 
@@ -179,6 +208,9 @@ module _ {S : Type 0} (F : Form S) (empty : ℕ → S) where
     pub twin-of-traffic : (number-after 2 first of-traffic ≡ 0) × (end-of (received F) 2 (first ∷ of-traffic ∷ []) ≡ 1001)
     pub twin-states : (numberIn (call (received F) (ready 2) status-first .answer) ≡ 0) × (number-after 2 status-first other-status ≡ 0)
         × (status-of 2 (status-first ∷ other-status ∷ []) ≡ 0xF954B912344AB5) × (status-of 2 (status-first ∷ refused ∷ []) ≡ 0xF954B912344AB5)
+    pub two-stations : (numberIn (call (received F) (ready 2) station-3 .answer) ≡ 0) × (number-after 2 station-3 station-5 ≡ 0)
+        × (end-for key-3 (station-3 ∷ station-5 ∷ []) ≡ 1001) × (end-for key-5 (station-3 ∷ station-5 ∷ []) ≡ 2001) × (end-for key-3 (station-3 ∷ refused ∷ []) ≡ 1001)
+    pub coarse-twin : (number-after 2 first station-5 ≡ 0) × (end-of (received F) 2 (first ∷ station-5 ∷ []) ≡ 1001)
     pub by-overwriting : (number-to-first (overwriting F) 1 ≡ 0) × (end-of (overwriting F) 1 (first ∷ stranger ∷ []) ≡ 0) × (end-of (overwriting F) 1 (first ∷ refused ∷ []) ≡ 1001)
     pub by-refreshing : (number-to-first (refreshing F) 2 ≡ 0) × (end-of (refreshing F) 2 (first ∷ stranger ∷ []) ≡ 2001) × (end-of (refreshing F) 2 (first ∷ refused ∷ []) ≡ 1001)
     pub by-kindless : (number-to-first (kindless F) 2 ≡ 0) × (end-of (kindless F) 2 (first ∷ other-kind ∷ []) ≡ 2001) × (end-of (kindless F) 2 (first ∷ refused ∷ []) ≡ 1001)
@@ -250,6 +282,31 @@ module _ {S : Type 0} (F : Form S) (empty : ℕ → S) where
       x .twin-states .3,
     )
 
+    -- one aircraft that two stations report is two tracks, and the one does nothing to the other
+    pub stations-isolated : Alike key-3 (station-3 ∷ station-5 ∷ []) (station-3 ∷ refused ∷ [])
+        × NeverFull (received F) key-3 (ready 2) (station-3 ∷ station-5 ∷ []) × (number-after 2 station-3 station-5 ≡ 0)
+        × (end-for key-3 (station-3 ∷ station-5 ∷ []) ≡ 1001) × (end-for key-5 (station-3 ∷ station-5 ∷ []) ≡ 2001) × (end-for key-3 (station-3 ∷ refused ∷ []) ≡ 1001)
+    stations-isolated = (
+      its station-3 (own-stations .0) (others station-5 refused (own-stations .1) (own-stations .2) refl end),
+      ((λ _ e. absurd (not-six (x .two-stations .0) (λ z. omega arith) e)), ((λ p _. absurd (true≢false (sym p ∙ own-stations .1))), tt)),
+      x .two-stations .1,
+      x .two-stations .2,
+      x .two-stations .3,
+      x .two-stations .4,
+    )
+
+    -- .. and a coarse message of its AA does nothing to an aircraft that sends for itself
+    pub coarse-isolated : Alike key (first ∷ station-5 ∷ []) (first ∷ refused ∷ [])
+        × NeverFull (received F) key (ready 2) (first ∷ station-5 ∷ []) × (number-after 2 first station-5 ≡ 0)
+        × (end-of (received F) 2 (first ∷ station-5 ∷ []) ≡ 1001) × (end-of (received F) 2 (first ∷ refused ∷ []) ≡ 1001)
+    coarse-isolated = (
+      alike station-5 (own-calls .11) refl,
+      never-full (received F) 2 (x .done-2) (x .held-in-both .0) station-5 (own-calls .11),
+      x .coarse-twin .0,
+      x .coarse-twin .1,
+      x .held-in-both .2,
+    )
+
     -- why 'table full' is excepted: of two newcomers to one place the second is refused
     pub proviso-needed : ((s : S) (xs ys : List Call) → setUp F s noSite .answer ≡ Done → Alike key xs ys
         → seen F (received F) key (setUp F s noSite .table) xs ≡ seen F (received F) key (setUp F s noSite .table) ys) → ⊥
@@ -278,7 +335,7 @@ abbrev pub empty-bytes : ℕ → List ℕ
 empty-bytes n = replicate (tableSize n) 0
 
 pub in-bytes : Computed bytes empty-bytes
-unfolding remainder remainderFrom reduce opened kindOf own isHeld holds setUp placeOf freePlace delivered received viewAt wholePlaces siteFrom keyAt bodyAt moved stored emptied numberAt lowBytes put savedFrom groupsIn lowered positionIn writtenIn meantGroups meantPosition meantSaved meant trackOf abovePole marksOf savedNumber savedBytes messageBytes spotBytes bodyOf ranges.inRange groupTrack surfaceTrack surfacePosition
+unfolding remainder remainderFrom reduce opened kindOf own isHeld holds setUp placeOf freePlace delivered received viewAt wholePlaces siteFrom keyAt bodyAt moved stored emptied numberAt lowBytes put savedFrom groupsIn lowered positionIn writtenIn meantGroups meantPosition meantSaved meant trackOf abovePole marksOf savedNumber savedBytes messageBytes spotBytes bodyOf ranges.inRange groupTrack savedTrack surfaceTrack airbornePosition isPartner readSingly surfacePosition
 in-bytes =
     record {
       done-1 = refl;
@@ -288,6 +345,8 @@ in-bytes =
       silent-one = (refl, refl, refl, refl);
       twin-of-traffic = (refl, refl);
       twin-states = (refl, refl, refl, refl);
+      two-stations = (refl, refl, refl, refl, refl);
+      coarse-twin = (refl, refl);
       by-overwriting = (refl, refl, refl);
       by-refreshing = (refl, refl, refl);
       by-kindless = (refl, refl, refl);
@@ -297,7 +356,7 @@ abbrev pub empty-slice : ℕ → Slice
 empty-slice n = sliceOf (headOf 0 noSite) (replicate n slots.noPlace)
 
 pub in-slice : Computed slice empty-slice
-unfolding remainder remainderFrom reduce opened kindOf own isHeld holds setUp placeOf freePlace delivered received viewAt meantGroups meantPosition meantSaved meant slots.inRange slots.trackFits slots.groupsFit slots.countsFit placesFit siteOf groupTrack surfaceTrack surfacePosition
+unfolding remainder remainderFrom reduce opened kindOf own isHeld holds setUp placeOf freePlace delivered received viewAt meantGroups meantPosition meantSaved meant slots.inRange slots.trackFits slots.groupsFit slots.countsFit placesFit siteOf groupTrack savedTrack surfaceTrack airbornePosition isPartner readSingly surfacePosition
 in-slice =
     record {
       done-1 = refl;
@@ -307,6 +366,8 @@ in-slice =
       silent-one = (refl, refl, refl, refl);
       twin-of-traffic = (refl, refl);
       twin-states = (refl, refl, refl, refl);
+      two-stations = (refl, refl, refl, refl, refl);
+      coarse-twin = (refl, refl);
       by-overwriting = (refl, refl, refl);
       by-refreshing = (refl, refl, refl);
       by-kindless = (refl, refl, refl);

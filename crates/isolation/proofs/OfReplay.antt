@@ -1,6 +1,7 @@
 -- A replay is the table, of the code: whatever meets the contracts of `set_up`, `set_up_at`, `receive` and `look_up`, call by call, and whatever meets that of `replay` on the log of these calls answer alike.
 -- Assumes nothing.
 use Prim.Native.Nat.{ℕ, _^_, _≤_, _<_}
+use mathlib.Core.Bool.{false}
 use mathlib.Core.Path.{_≡_, ap, ap₂, sym, _∙_, subst}
 use mathlib.Core.Option.{Option}
 use mathlib.Core.List.{List}
@@ -14,7 +15,7 @@ use Rattle.positions.specs.declared.Spot.{Spot}
 use Rattle.messages.specs.declared.Decoded.{Decoded}
 use Rattle.whereabouts.specs.declared.Site.{Site}
 use Rattle.track.specs.declared.held.Looked.{Looked}
-use Rattle.replay.specs.Replay.{replayed}
+use Rattle.replay.specs.Replay.{isWide, replayed}
 use Rattle.replay.proofs.replay.Kinds as replay-kinds
 use Rattle.replay.proofs.replay.Reads as replay
 use Rattle.rules.specs.declared.answers.SetUp.{SetUp}
@@ -63,14 +64,14 @@ look-up-is : {s : List ℕ} {key : ℕ} {x : Looked} → LookUpMet s key x → x
 look-up-is b = b .meets ∙ ap₂ lookedUp (b .lent) (b .its-key)
 
 -- from a set-up on, as long as 6 was answered to none of the key's messages
-pub code-replayed : (kind : Kind) (address : ℕ) (site : Option Spot) → address < 2 ^ 24 → East (given site) → (s : List ℕ) (a : After SetUp) → Begun site s a → a .answer ≡ Done
+pub code-replayed : (kind : Kind) (address : ℕ) (site : Option Spot) → address < 2 ^ 24 → isWide kind ≡ false → East (given site) → (s : List ℕ) (a : After SetUp) → Begun site s a → a .answer ≡ Done
     → {cs : List Call} {rs : List (After Decoded)} → Ran (a .table) cs rs → length cs ≤ 2900 → NotFull (keyFor kind address) cs rs
     → {x y : Looked} → ReplayMet (logOf cs) kind address (given site) x → LookUpMet (leftBy (a .table) rs) (keyFor kind address) y → x ≡ y
-code-replayed kind address site few east s a u done {cs} {rs} ran most never p q =
+code-replayed kind address site few narrow east s a u done {cs} {rs} ran most never p q =
     let d : a ≡ rules.setUp bytes s (given site) = begun-is site s a u in
     let t : List ℕ = rules.setUp bytes s (given site) .table in
     let played : Played received t cs rs = subst (λ (z : After SetUp). Played received (z .table) cs rs) d (ran-played ran) in
     replay-is p
-    ∙ replays bytes bytes-lawful kind address (given site) few east s (sym (ap (λ (z : After SetUp). z .answer) d) ∙ done) cs most (played-never bytes received (keyFor kind address) t cs rs played never)
+    ∙ replays bytes bytes-lawful kind address (given site) few narrow east s (sym (ap (λ (z : After SetUp). z .answer) d) ∙ done) cs most (played-never bytes received (keyFor kind address) t cs rs played never)
     ∙ ap (λ (z : List ℕ). lookedUp z (keyFor kind address)) (sym (played-left bytes received (keyFor kind address) t cs rs played) ∙ sym (ap (λ (z : After SetUp). leftBy (z .table) rs) d))
     ∙ sym (look-up-is q)

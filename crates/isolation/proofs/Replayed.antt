@@ -95,11 +95,11 @@ log-whole cs h =
     ap isLog (log-length cs) ∙ both (eq-eqb (22 * length cs % 22) 0 (omega arith)) (le-leb (22 * length cs / 22) 2900 (omega arith))
 
 pub replays : {S : Type 0} (F : Form S) → Lawful F → Replays F
-replays {S} F L kind address site few east s done cs most never =
+replays {S} F L kind address site few narrow east s done cs most never =
     let key : ℕ = keyFor kind address in
     let fresh = set-up-table F L s site east done in
     let end : S = left (received F) (setUp F s site .table) cs in
-    let in-range : leb (2 ^ 24) address || false ≡ false = rw (lt-leb (2 ^ 24) address few) in
+    let in-range : leb (2 ^ 24) address || false || false ≡ false = rw (lt-leb (2 ^ 24) address few) in
     let records : length cs ≡ length (logOf cs) / 22 = omega (arith, log-length cs) in
     let alone : ownOf F end key ≡ ownAt (sited site) key unheard (logOf cs) (length (logOf cs) / 22) =
     final-alone F L key cs (setUp F s site .table) (fresh .table) never
@@ -107,5 +107,5 @@ replays {S} F L kind address site few east s done cs most never =
     ∙ sym (log-heard (sited site) key cs unheard)
     ∙ ap (ownAt (sited site) key unheard (logOf cs)) records in
     sym
-    (all-heard (logOf cs) kind address site (sym (log-whole cs most)) refl (sym (done-site F s site done)) in-range
+    (all-heard (logOf cs) kind address site (sym (log-whole cs most)) refl (sym narrow) (sym (done-site F s site done)) in-range
     (looked-up F end key (table-left F L key cs (setUp F s site .table) (fresh .table) .size) ∙ ap (λ (o : Own). lookedAs (o .track)) alone))

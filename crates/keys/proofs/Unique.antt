@@ -20,6 +20,14 @@ use Rattle.keys.proofs.address_in.Kinds as address-in-kinds
 use Rattle.keys.proofs.address_in.Reads as address-in
 use Rattle.keys.proofs.is_key.Kinds as is-key-kinds
 use Rattle.keys.proofs.is_key.Reads as is-key
+use Rattle.keys.proofs.is_coarse.Kinds as is-coarse-kinds
+use Rattle.keys.proofs.is_coarse.Reads as is-coarse
+use Rattle.keys.proofs.coarse_in.Kinds as coarse-in-kinds
+use Rattle.keys.proofs.coarse_in.Reads as coarse-in
+use Rattle.keys.proofs.flag_in.Kinds as flag-in-kinds
+use Rattle.keys.proofs.flag_in.Reads as flag-in
+use Rattle.keys.proofs.station_in.Kinds as station-in-kinds
+use Rattle.keys.proofs.station_in.Reads as station-in
 
 pub kind-at-once : OneAnswer 0 kind-at-kinds.ps kind-at-kinds.r kind-at.Post
 kind-at-once κs args x y left left′ p q = p ∙ sym q
@@ -47,3 +55,15 @@ address-in-once κs args x y left left′ p q = p ∙ sym q
 
 pub is-key-once : OneAnswer 0 is-key-kinds.ps is-key-kinds.r is-key.Post
 is-key-once κs args x y left left′ p q = p ∙ sym q
+
+pub is-coarse-once : OneAnswer 0 is-coarse-kinds.ps is-coarse-kinds.r is-coarse.Post
+is-coarse-once κs args x y left left′ p q = p ∙ sym q
+
+pub coarse-in-once : OneAnswer 0 coarse-in-kinds.ps coarse-in-kinds.r coarse-in.Post
+coarse-in-once κs args x y left left′ p q = p ∙ sym q
+
+pub flag-in-once : OneAnswer 0 flag-in-kinds.ps flag-in-kinds.r flag-in.Post
+flag-in-once κs args x y left left′ p q = p ∙ sym q
+
+pub station-in-once : OneAnswer 0 station-in-kinds.ps station-in-kinds.r station-in.Post
+station-in-once κs args x y left left′ p q = p ∙ sym q

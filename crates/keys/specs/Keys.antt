@@ -1,23 +1,25 @@
--- A track's key, as document 01 has it: AA with its kind, I or O, and in 02's R-3 also T, M or N. In one number the kind stands above the 24 bits of the address.
+-- A track's key, as document 01 has it: AA with its kind, I or O, in 02's R-3 also T, M or N, and in its R-12 C with a flag and a station.
+-- In one number the kind stands above the 24 bits of the address, and of C, whose keys are above all others, the flag and the station below them.
 use Prim.Native.Nat.{ℕ, _+_, _-_, _*_, _/_, _%_, _^_}
-use mathlib.Core.Bool.{Bool, true, false, _&&_}
+use mathlib.Core.Bool.{Bool, true, false, cond, _&&_, _||_}
 use mathlib.Core.List.{List, [], _∷_}
 use lib.Dec.{leb, ltb}
 use lib.ListN.{length, getD}
 use Rattle.keys.specs.declared.Kind.{Kind}
-use Rattle.keys.specs.declared.Kind.the-variants.{I, O, T, M, N}
+use Rattle.keys.specs.declared.Kind.the-variants.{I, O, T, M, N, C}
 
--- the kinds in the order of their keys
+-- the kinds in the order of their keys, but for C, which is behind them
 abbrev pub kinds : List Kind
 kinds = I ∷ O ∷ T ∷ M ∷ N ∷ []
 
--- each with its number, the top byte of its keys: its place in the list, counted from 1
+-- each with its number, the top byte of its keys: its place in the list, counted from 1; of C, which has 32 of them, the first
 abbrev pub numberOf : Kind → ℕ
 numberOf I = 1
 numberOf O = 2
 numberOf T = 3
 numberOf M = 4
 numberOf N = 5
+numberOf (C flag station) = 128
 
 -- .. and its letter, in ASCII
 abbrev pub letterOf : Kind → ℕ
@@ -26,6 +28,7 @@ letterOf O = 79
 letterOf T = 84
 letterOf M = 77
 letterOf N = 78
+letterOf (C flag station) = 67
 
 -- whether a ground station's traffic service sends it
 abbrev pub isTraffic : Kind → Bool
@@ -34,6 +37,16 @@ isTraffic O = false
 isTraffic T = true
 isTraffic M = true
 isTraffic N = true
+isTraffic (C flag station) = true
+
+-- whether its messages are the coarse ones
+abbrev pub isCoarse : Kind → Bool
+isCoarse I = false
+isCoarse O = false
+isCoarse T = false
+isCoarse M = false
+isCoarse N = false
+isCoarse (C flag station) = true
 
 -- the kind with a number; one below the first counts with the first, one above the last with the last
 abbrev pub kindAt : ℕ → Kind
@@ -47,21 +60,54 @@ isKind number = leb 1 number && leb number (length kinds)
 abbrev pub low24 : ℕ → ℕ
 low24 address = address % 2 ^ 24
 
+-- what counts of a kind: of a flag its lowest bit, and of a station the low 4
+abbrev pub lowKind : Kind → Kind
+lowKind I = I
+lowKind O = O
+lowKind T = T
+lowKind M = M
+lowKind N = N
+lowKind (C flag station) = C (flag % 2) (station % 16)
+
+-- where the keys of C begin
+abbrev pub firstCoarse : ℕ
+firstCoarse = 2 ^ 31
+
+-- the key of a number and an address
+abbrev pub numbered : ℕ → ℕ → ℕ
+numbered number address = number * 2 ^ 24 + low24 address
+
 -- the key of a kind and an address
 abbrev pub keyFor : Kind → ℕ → ℕ
-keyFor kind address = numberOf kind * 2 ^ 24 + low24 address
+keyFor I address = numbered (numberOf I) address
+keyFor O address = numbered (numberOf O) address
+keyFor T address = numbered (numberOf T) address
+keyFor M address = numbered (numberOf M) address
+keyFor N address = numbered (numberOf N) address
+keyFor (C flag station) address = firstCoarse + 32 * low24 address + 16 * (flag % 2) + station % 16
 
 -- above every key
 abbrev pub endOfKeys : ℕ
-endOfKeys = (length kinds + 1) * 2 ^ 24
+endOfKeys = firstCoarse + 2 ^ 29
 
 -- whether a number is a key
 abbrev pub isKey : ℕ → Bool
-isKey key = leb (2 ^ 24) key && ltb key endOfKeys
+isKey key = leb (2 ^ 24) key && ltb key ((length kinds + 1) * 2 ^ 24) || leb firstCoarse key && ltb key endOfKeys
+
+-- whether a key is one of C
+abbrev pub coarseIn : ℕ → Bool
+coarseIn key = leb firstCoarse key
+
+-- .. and then its flag and its station
+abbrev pub flagIn : ℕ → ℕ
+flagIn key = key / 16 % 2
+
+abbrev pub stationIn : ℕ → ℕ
+stationIn key = key % 16
 
 -- a key's kind
 abbrev pub kindIn : ℕ → Kind
-kindIn key = kindAt (key / 2 ^ 24)
+kindIn key = cond (coarseIn key) (C (flagIn key) (stationIn key)) (kindAt (key / 2 ^ 24))
 
 -- a key's letter
 abbrev pub letterIn : ℕ → ℕ
@@ -73,4 +119,4 @@ trafficIn key = isTraffic (kindIn key)
 
 -- a key's address
 abbrev pub addressIn : ℕ → ℕ
-addressIn key = low24 key
+addressIn key = low24 (cond (coarseIn key) (key / 32) key)

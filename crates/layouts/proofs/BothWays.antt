@@ -15,10 +15,11 @@ use Rattle.fields.specs.Packing.{total, pack, unpack, Fit, fits, me}
 use Rattle.fields.proofs.Bools.{and-left, and-right, both, by-test}
 use Rattle.fields.proofs.Fits.{fits-fit, unpack-fits}
 use Rattle.fields.proofs.Packing.{pack-unpack, pack-lt}
+use Rattle.layouts.specs.Coarse.{coarseWidths}
 use Rattle.layouts.specs.Layouts.{isIdentification, isSurface, isAirborne, identificationWidths, surfaceWidths, airborneWidths}
 use Rattle.layouts.specs.Status.{isStatus, statusWidths}
 use Rattle.layouts.specs.Velocity.{isGround, isAir, velocityWidths}
-use Rattle.layouts.specs.Bodies.{layoutAt, typeIn, layoutOf, flagBy, flagIn, layoutWidths, takenAs, taken, bodyLayout, bodyType, flagOf, bodyFields, bodyWidths, typeAgrees, bodyMe, bodyFits, written}
+use Rattle.layouts.specs.Bodies.{layoutAt, typeIn, layoutOf, layoutBy, typeBy, flagBy, flagIn, stationIn, layoutWidths, takenAs, takenBy, bodyLayout, bodyCoarse, bodyType, flagOf, stationOf, bodyFields, bodyWidths, typeAgrees, bodyMe, bodyFits, written}
 use Rattle.layouts.specs.declared.bodies.Body.{Body}
 use Rattle.layouts.specs.declared.bodies.Body.the-variants as body
 use Rattle.layouts.specs.declared.bodies.Layout.{Layout}
@@ -26,7 +27,7 @@ use Rattle.layouts.specs.declared.bodies.Layout.the-variants as layout
 use Rattle.layouts.specs.declared.bodies.Taken.{Taken}
 use Rattle.layouts.specs.declared.bodies.Taken.the-variants as read
 use Rattle.layouts.specs.declared.bodies.Written.the-variants as write
-use Rattle.layouts.proofs.Layouts.{unpacked, back, identification, surface, airborne, ground, air, status}
+use Rattle.layouts.proofs.Layouts.{unpacked, back, identification, surface, airborne, ground, air, status, coarse}
 
 -- ---- a body that fits
 
@@ -43,12 +44,32 @@ all-56 (body.Airborne b) = refl
 all-56 (body.Ground b) = refl
 all-56 (body.Air b) = refl
 all-56 (body.Status b) = refl
+all-56 (body.Coarse b) = refl
 
 -- has 56 bits
 pub me-lt : (b : Body) → bodyFits b ≡ true → bodyMe b < 2 ^ 56
 me-lt b e = subst (λ (k : ℕ). bodyMe b < 2 ^ k) (all-56 b) (pack-lt (bodyWidths b) (bodyFields b) (fitting b e))
 
 -- ---- a TYPE has one layout
+
+-- what each layout that a TYPE can have has, where it is chosen: the layout of an ME by its TYPE has it
+by-type : (P : Layout → Type 0) (t s : ℕ)
+    → (isIdentification t ≡ true → P layout.Identification)
+    → (isSurface t ≡ true → P layout.Surface)
+    → (isAirborne t ≡ true → P layout.Airborne)
+    → (isGround t s ≡ true → P layout.Ground)
+    → (isAir t s ≡ true → P layout.Air)
+    → (isStatus t s ≡ true → P layout.Status)
+    → P layout.NotTaken
+    → P (layoutAt t s)
+by-type P t s i u a g r o n =
+    by-test P (isIdentification t) _ _ i
+    (λ _. by-test P (isSurface t) _ _ u
+    (λ _. by-test P (isAirborne t) _ _ a
+    (λ _. by-test P (isGround t s) _ _ g
+    (λ _. by-test P (isAir t s) _ _ r
+    (λ _. by-test P (isStatus t s) _ _ o
+    (λ _. n))))))
 
 and-false : (a : Bool) → a && false ≡ false
 and-false true = refl
@@ -79,7 +100,7 @@ nineteen n a b e = eqb-true n 19 (and-left (eqb n 19) a (and-left (eqb n 19 && a
 
 -- ---- what is written is read back
 
-pub read-back : (b : Body) → bodyFits b ≡ true → taken (bodyMe b) ≡ read.Body b
+pub read-back : (b : Body) → bodyFits b ≡ true → takenBy (bodyCoarse b) (bodyMe b) ≡ read.Body b
 read-back (body.Identification b) e =
     let n : ℕ = bodyMe (body.Identification b) in
     let f = fitting (body.Identification b) e in
@@ -124,6 +145,7 @@ read-back (body.Status b) e =
     ap (λ (l : List ℕ). takenAs (layoutAt (getD l 0 0) (getD l 1 0)) n) (unpacked status b f)
     ∙ ap (λ (t : ℕ). takenAs (layoutAt t (b .subtype)) n) h
     ∙ simp (ap (λ (t : ℕ). isStatus t (b .subtype)) (sym h) ∙ q) (ap (λ x. read.Body (body.Status x)) (back status b f))
+read-back (body.Coarse b) e = ap (λ x. read.Body (body.Coarse x)) (back coarse b (fitting (body.Coarse b) e))
 
 -- ---- the layout and the fields, by the bits
 
@@ -139,37 +161,50 @@ cut-as layout.Airborne n = (refl, refl)
 cut-as layout.Ground n = (refl, refl)
 cut-as layout.Air n = (refl, refl)
 cut-as layout.Status n = (refl, refl)
+cut-as layout.Coarse n = (refl, refl)
 cut-as layout.NotTaken n = tt
 
 -- a body has the layout of its bits, and its fields are the bits by the layout's widths
-pub fields-read : (n : ℕ) (b : Body) → taken n ≡ read.Body b → (bodyLayout b ≡ layoutOf n) × (bodyFields b ≡ unpack (layoutWidths (layoutOf n)) n)
-fields-read n b e = subst (Cut (layoutOf n) n) e (cut-as (layoutOf n) n)
+pub fields-read : (coarse : Bool) (n : ℕ) (b : Body) → takenBy coarse n ≡ read.Body b → (bodyLayout b ≡ layoutBy coarse n) × (bodyFields b ≡ unpack (layoutWidths (layoutBy coarse n)) n)
+fields-read coarse n b e = subst (Cut (layoutBy coarse n) n) e (cut-as (layoutBy coarse n) n)
 
--- ---- TYPE and the flag, by the bits
+-- ---- whether it is coarse, TYPE, the flag and the station, by the bits
 
--- of what the bits n were read as, by a TYPE and a flag
-abbrev Marked : ℕ → ℕ → Taken → Type 0
-Marked type flag (read.Body b) = (bodyType b ≡ type) × (flagOf b ≡ flag)
-Marked type flag (read.Refused r) = Unit
+-- of what bits were read as
+abbrev Marked : Bool → ℕ → ℕ → ℕ → Taken → Type 0
+Marked coarse type flag station (read.Body b) = (bodyCoarse b ≡ coarse) × (bodyType b ≡ type) × (flagOf b ≡ flag) × (stationOf b ≡ station)
+Marked coarse type flag station (read.Refused r) = Unit
 
-marked-as : (l : Layout) (n : ℕ) → Marked (typeIn n) (flagBy l (me 21 21 n) (me 8 8 n) (me 9 9 n)) (takenAs l n)
-marked-as layout.Identification n = (refl, refl)
-marked-as layout.Surface n = (refl, refl)
-marked-as layout.Airborne n = (refl, refl)
-marked-as layout.Ground n = (refl, refl)
-marked-as layout.Air n = (refl, refl)
-marked-as layout.Status n = (refl, refl)
-marked-as layout.NotTaken n = tt
-
-marked : (n : ℕ) (b : Body) → taken n ≡ read.Body b → (bodyType b ≡ typeIn n) × (flagOf b ≡ flagIn n)
-marked n b e = subst (Marked (typeIn n) (flagIn n)) e (marked-as (layoutOf n) n)
+marked-as : (coarse : Bool) (n : ℕ) → Marked coarse (typeBy coarse n) (flagIn coarse n) (stationIn coarse n) (takenBy coarse n)
+marked-as true n = (refl, refl, refl, refl)
+marked-as false n =
+    let As : Layout → Type 0 = λ l. Marked false (typeIn n) (flagBy l (me 1 1 n) (me 21 21 n) (me 8 8 n) (me 9 9 n)) 0 (takenAs l n) in
+    by-type As (typeIn n) (me 6 8 n)
+    (λ _. (refl, refl, refl, refl))
+    (λ _. (refl, refl, refl, refl))
+    (λ _. (refl, refl, refl, refl))
+    (λ _. (refl, refl, refl, refl))
+    (λ _. (refl, refl, refl, refl))
+    (λ _. (refl, refl, refl, refl))
+    tt
 
 -- a layout's own fields are what the bits say of every layout
-pub type-read : (n : ℕ) (b : Body) → taken n ≡ read.Body b → bodyType b ≡ typeIn n
-type-read n b e = marked n b e .0
+module _ (coarse : Bool) (n : ℕ) (b : Body) (e : takenBy coarse n ≡ read.Body b) where
+  marked : Marked coarse (typeBy coarse n) (flagIn coarse n) (stationIn coarse n) (read.Body b)
+  marked = subst (Marked coarse (typeBy coarse n) (flagIn coarse n) (stationIn coarse n)) e (marked-as coarse n)
 
-pub flag-read : (n : ℕ) (b : Body) → taken n ≡ read.Body b → flagOf b ≡ flagIn n
-flag-read n b e = marked n b e .1
+  -- no TYPE makes a coarse body
+  pub coarse-read : bodyCoarse b ≡ coarse
+  coarse-read = marked .0
+
+  pub type-read : bodyType b ≡ typeBy coarse n
+  type-read = marked .1
+
+  pub flag-read : flagOf b ≡ flagIn coarse n
+  flag-read = marked .2
+
+  pub station-read : stationOf b ≡ stationIn coarse n
+  station-read = marked .3
 
 -- ---- what is read is written back
 
@@ -182,21 +217,20 @@ module _ (n : ℕ) (h : n < 2 ^ 56) where
   whole : (ws : List ℕ) → total ws ≡ 56 → pack ws (unpack ws n) ≡ n
   whole ws e = pack-unpack ws n ∙ mod-eq-of-lt (subst (λ (k : ℕ). n < 2 ^ k) (sym e) h)
 
-  good : Good n (taken n)
-  good =
-      let t : ℕ = me 1 5 n in
-      let s : ℕ = me 6 8 n in
-      let As : Layout → Type 0 = λ l. Good n (takenAs l n) in
-      by-test As (isIdentification t) _ _ (λ q. (both (unpack-fits identificationWidths n) q, whole identificationWidths refl))
-      (λ _. by-test As (isSurface t) _ _ (λ q. (both (unpack-fits surfaceWidths n) q, whole surfaceWidths refl))
-      (λ _. by-test As (isAirborne t) _ _ (λ q. (both (unpack-fits airborneWidths n) q, whole airborneWidths refl))
-      (λ _. by-test As (isGround t s) _ _ (λ q. (both (unpack-fits velocityWidths n) q, whole velocityWidths refl))
-      (λ _. by-test As (isAir t s) _ _ (λ q. (both (unpack-fits velocityWidths n) q, whole velocityWidths refl))
-      (λ _. by-test As (isStatus t s) _ _ (λ q. (both (unpack-fits statusWidths n) q, whole statusWidths refl))
-      (λ _. tt))))))
+  good : (coarse : Bool) → Good n (takenBy coarse n)
+  good true = (both (unpack-fits coarseWidths n) refl, whole coarseWidths refl)
+  good false =
+      by-type (λ l. Good n (takenAs l n)) (typeIn n) (me 6 8 n)
+      (λ q. (both (unpack-fits identificationWidths n) q, whole identificationWidths refl))
+      (λ q. (both (unpack-fits surfaceWidths n) q, whole surfaceWidths refl))
+      (λ q. (both (unpack-fits airborneWidths n) q, whole airborneWidths refl))
+      (λ q. (both (unpack-fits velocityWidths n) q, whole velocityWidths refl))
+      (λ q. (both (unpack-fits velocityWidths n) q, whole velocityWidths refl))
+      (λ q. (both (unpack-fits statusWidths n) q, whole statusWidths refl))
+      tt
 
-pub read-good : (n : ℕ) (b : Body) → n < 2 ^ 56 → taken n ≡ read.Body b → (bodyFits b ≡ true) × (bodyMe b ≡ n)
-read-good n b h e = subst (λ (x : Taken). Good n x) e (good n h)
+pub read-good : (coarse : Bool) (n : ℕ) (b : Body) → n < 2 ^ 56 → takenBy coarse n ≡ read.Body b → (bodyFits b ≡ true) × (bodyMe b ≡ n)
+read-good coarse n b h e = subst (λ (x : Taken). Good n x) e (good n h coarse)
 
 -- ---- and so of the two public functions
 
@@ -209,14 +243,14 @@ pub if-refused : (t : Bool) (m : ℕ) (r : Refusal) → cond t (write.Me m) (wri
 if-refused true m r e = let z : _≡_ {A = ℕ} 0 1 = cc in let f : ⊥ = omega arith in absurd f
 if-refused false m r e = (refl, cc)
 
-pub written-read : (n : ℕ) (b : Body) → written b ≡ write.Me n → taken n ≡ read.Body b
+pub written-read : (n : ℕ) (b : Body) → written b ≡ write.Me n → takenBy (bodyCoarse b) n ≡ read.Body b
 written-read n b e =
     let g = if-written (bodyFits b) (bodyMe b) n e in
-    ap taken (sym (g .1)) ∙ read-back b (g .0)
+    ap (takenBy (bodyCoarse b)) (sym (g .1)) ∙ read-back b (g .0)
 
-pub read-written : (n : ℕ) (b : Body) → n < 2 ^ 56 → taken n ≡ read.Body b → written b ≡ write.Me n
-read-written n b h e = let g = read-good n b h e in rw (g .0) (ap write.Me (g .1))
+pub read-written : (coarse : Bool) (n : ℕ) (b : Body) → n < 2 ^ 56 → takenBy coarse n ≡ read.Body b → written b ≡ write.Me n
+read-written coarse n b h e = let g = read-good coarse n b h e in rw (g .0) (ap write.Me (g .1))
 
 -- so no bit is dropped: MEs that say the same are the same
-pub every-bit : (m n : ℕ) (b : Body) → m < 2 ^ 56 → n < 2 ^ 56 → taken m ≡ read.Body b → taken n ≡ read.Body b → m ≡ n
-every-bit m n b hm hn em en = sym (read-good m b hm em .1) ∙ read-good n b hn en .1
+pub every-bit : (coarse coarse′ : Bool) (m n : ℕ) (b : Body) → m < 2 ^ 56 → n < 2 ^ 56 → takenBy coarse m ≡ read.Body b → takenBy coarse′ n ≡ read.Body b → m ≡ n
+every-bit coarse coarse′ m n b hm hn em en = sym (read-good coarse m b hm em .1) ∙ read-good coarse′ n b hn en .1

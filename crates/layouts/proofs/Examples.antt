@@ -1,8 +1,9 @@
--- Published MEs with their fields, and what is not taken: T and F, the two speeds, latitude and longitude are unlike, so none could be swapped. Each is computed.
+-- Published MEs with their fields, a coarse one, and what is not taken: T and F, the two speeds, latitude and longitude are unlike, so none could be swapped. Each is computed.
 -- Assumes nothing.
+use mathlib.Core.Bool.{true}
 use mathlib.Core.Path.{_≡_, refl}
 use Rattle.refusals.specs.declared.Refusal.the-variants.{TypeCode}
-use Rattle.layouts.specs.Bodies.{taken}
+use Rattle.layouts.specs.Bodies.{taken, takenBy}
 use Rattle.layouts.specs.declared.bodies.Body.the-variants as body
 use Rattle.layouts.specs.declared.bodies.Taken.the-variants as read
 
@@ -85,6 +86,22 @@ pub status : taken 0xF954B912344AB5
       bits55 = 1;
     }))
 status = refl
+
+-- a coarse message whose first five bits are 19, and the next three 4: by its TYPE it would be a velocity through air
+pub coarse : takenBy true 0x9CB46ACDABC567
+    ≡ read.Body (body.Coarse (record {
+      flag = 1;
+      surveillance = 0;
+      station = 14;
+      altitude = 1443;
+      status = 0;
+      angle = 21;
+      speed = 38;
+      f = 1;
+      latitude = record { 0 = 2748 };
+      longitude = record { 0 = 1383 };
+    }))
+coarse = refl
 
 -- TYPE 23, TYPE 19 with subtypes 0 and 5, and TYPE 31 with subtypes 2 and 7
 pub not-taken : (taken 0xB8000000000000 ≡ read.Refused TypeCode)

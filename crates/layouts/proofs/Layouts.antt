@@ -6,9 +6,11 @@ use mathlib.Core.List.{List}
 use lib.ListN.{getD}
 use Rattle.fields.specs.Packing.{pack, unpack, Fit}
 use Rattle.fields.proofs.Packing.{unpack-pack}
+use Rattle.layouts.specs.Coarse.{coarseFields, coarseWidths}
 use Rattle.layouts.specs.Layouts.{identificationFields, surfaceFields, airborneFields, identificationWidths, surfaceWidths, airborneWidths}
 use Rattle.layouts.specs.Status.{statusFields, statusWidths}
 use Rattle.layouts.specs.Velocity.{groundFields, airFields, velocityWidths}
+use Rattle.layouts.specs.declared.coarse.Coarse.{Coarse}
 use Rattle.layouts.specs.declared.identification.Identification.{Identification}
 use Rattle.layouts.specs.declared.surface.Surface.{Surface}
 use Rattle.layouts.specs.declared.airborne.Airborne.{Airborne}
@@ -142,6 +144,25 @@ status = record {
     bit53 = getD l 11 0;
     bit54 = getD l 12 0;
     bits55 = getD l 13 0;
+  };
+  again = λ b. refl;
+}
+
+abbrev pub coarse : Layout Coarse
+coarse = record {
+  widths = coarseWidths;
+  fields = coarseFields;
+  from = λ l. record {
+    flag = getD l 0 0;
+    surveillance = getD l 1 0;
+    station = getD l 2 0;
+    altitude = getD l 3 0;
+    status = getD l 4 0;
+    angle = getD l 5 0;
+    speed = getD l 6 0;
+    f = getD l 7 0;
+    latitude = record { 0 = getD l 8 0 };
+    longitude = record { 0 = getD l 9 0 };
   };
   again = λ b. refl;
 }

@@ -1,4 +1,4 @@
--- What the contracts of `body_of` and `me_of` promise in document 01's terms: whatever meets the one says 5, or the layout and the values of all fields, and whatever meets the other 8, or the 56 bits.
+-- What the contracts of `body_by` and `me_of` promise in document 01's terms: whatever meets the one says 5, or the layout and the values of all fields, and whatever meets the other 8, or the 56 bits.
 -- By the layouts, and by the test.
 -- Assumes nothing.
 use Prim.Native.Nat.{ℕ}
@@ -10,13 +10,13 @@ use borrow.Fn.Kinds.{Dens, resT, endedOf}
 use Rattle.refusals.specs.declared.Refusal.the-variants.{Field}
 use Rattle.refusals.specs.Said.{number, gives}
 use Rattle.fields.specs.Packing.{unpack}
-use Rattle.layouts.specs.Bodies.{layoutOf, isTaken, layoutWidths, takenAs, bodyMe, bodyFits}
+use Rattle.layouts.specs.Bodies.{layoutBy, isTaken, layoutWidths, takenAs, bodyMe, bodyFits}
 use Rattle.layouts.specs.Said.{values, takenSaid, writtenSaid, meTable, bodyTable}
 use Rattle.layouts.specs.declared.bodies.Layout.{Layout}
 use Rattle.layouts.specs.declared.bodies.Layout.the-variants as layout
 use Rattle.layouts.specs.declared.bodies.Written.the-variants as write
-use Rattle.layouts.proofs.bodies.body_of.Kinds as body-of-kinds
-use Rattle.layouts.proofs.bodies.body_of.Reads as body-of
+use Rattle.layouts.proofs.bodies.body_by.Kinds as body-by-kinds
+use Rattle.layouts.proofs.bodies.body_by.Reads as body-by
 use Rattle.layouts.proofs.bodies.me_of.Kinds as me-of-kinds
 use Rattle.layouts.proofs.bodies.me_of.Reads as me-of
 
@@ -28,11 +28,12 @@ layout-says layout.Airborne n = refl
 layout-says layout.Ground n = refl
 layout-says layout.Air n = refl
 layout-says layout.Status n = refl
+layout-says layout.Coarse n = refl
 layout-says layout.NotTaken n = refl
 
-pub body-of-promised : (κs : Lfts 0) (args : Dens κs body-of-kinds.ps) (x : resT body-of-kinds.r κs .Denot)
-    (left : AtExit (endedOf 0 body-of-kinds.ps body-of-kinds.r) κs) → body-of.Post κs args x left → takenSaid x ≡ meTable (args .0)
-body-of-promised κs args x left p = ap takenSaid p ∙ layout-says (layoutOf (args .0)) (args .0)
+pub body-by-promised : (κs : Lfts 0) (args : Dens κs body-by-kinds.ps) (x : resT body-by-kinds.r κs .Denot)
+    (left : AtExit (endedOf 0 body-by-kinds.ps body-by-kinds.r) κs) → body-by.Post κs args x left → takenSaid x ≡ meTable (args .0) (args .1 .0)
+body-by-promised κs args x left p = ap takenSaid p ∙ layout-says (layoutBy (args .0) (args .1 .0)) (args .1 .0)
 
 bits-said : (t : Bool) (n : ℕ) → writtenSaid (cond t (write.Me n) (write.Refused Field)) ≡ cond (not t) (number 8) (gives n)
 bits-said true n = refl

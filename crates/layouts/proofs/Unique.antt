@@ -6,26 +6,38 @@ use Rattle.layouts.proofs.airborne.airborne_of.Kinds as airborne-of-kin
 use Rattle.layouts.proofs.airborne.airborne_of.Reads as airborne-of
 use Rattle.layouts.proofs.bodies.body_as.Kinds as body-as-kinds
 use Rattle.layouts.proofs.bodies.body_as.Reads as body-as
-use Rattle.layouts.proofs.bodies.body_of.Kinds as body-of-kinds
-use Rattle.layouts.proofs.bodies.body_of.Reads as body-of
+use Rattle.layouts.proofs.bodies.body_by.Kinds as body-by-kinds
+use Rattle.layouts.proofs.bodies.body_by.Reads as body-by
+use Rattle.layouts.proofs.bodies.is_coarse.Kinds as is-coarse-kinds
+use Rattle.layouts.proofs.bodies.is_coarse.Reads as is-coarse
 use Rattle.layouts.proofs.bodies.is_layout.Kinds as is-layout-kinds
 use Rattle.layouts.proofs.bodies.is_layout.Reads as is-layout
 use Rattle.layouts.proofs.bodies.is_taken.Kinds as is-taken-kinds
 use Rattle.layouts.proofs.bodies.is_taken.Reads as is-taken
+use Rattle.layouts.proofs.bodies.layout_by.Kinds as layout-by-kinds
+use Rattle.layouts.proofs.bodies.layout_by.Reads as layout-by
 use Rattle.layouts.proofs.bodies.layout_of.Kinds as layout-of-kinds
 use Rattle.layouts.proofs.bodies.layout_of.Reads as layout-of
 use Rattle.layouts.proofs.bodies.me_of.Kinds as me-of-kinds
 use Rattle.layouts.proofs.bodies.me_of.Reads as me-of
 use Rattle.layouts.proofs.bodies.type_of.Kinds as type-of-kinds
 use Rattle.layouts.proofs.bodies.type_of.Reads as type-of
-use Rattle.layouts.proofs.bodies.type_in.Kinds as type-in-kinds
-use Rattle.layouts.proofs.bodies.type_in.Reads as type-in
+use Rattle.layouts.proofs.bodies.type_by.Kinds as type-by-kinds
+use Rattle.layouts.proofs.bodies.type_by.Reads as type-by
 use Rattle.layouts.proofs.bodies.is_position.Kinds as is-position-kinds
 use Rattle.layouts.proofs.bodies.is_position.Reads as is-position
 use Rattle.layouts.proofs.bodies.flag_in.Kinds as flag-in-kinds
 use Rattle.layouts.proofs.bodies.flag_in.Reads as flag-in
 use Rattle.layouts.proofs.bodies.flag_of.Kinds as flag-of-kinds
 use Rattle.layouts.proofs.bodies.flag_of.Reads as flag-of
+use Rattle.layouts.proofs.bodies.station_in.Kinds as station-in-kinds
+use Rattle.layouts.proofs.bodies.station_in.Reads as station-in
+use Rattle.layouts.proofs.bodies.station_of.Kinds as station-of-kinds
+use Rattle.layouts.proofs.bodies.station_of.Reads as station-of
+use Rattle.layouts.proofs.coarse.coarse_of.Kinds as coarse-of-kinds
+use Rattle.layouts.proofs.coarse.coarse_of.Reads as coarse-of
+use Rattle.layouts.proofs.coarse.coarse_fits.Kinds as coarse-fits-kinds
+use Rattle.layouts.proofs.coarse.coarse_fits.Reads as coarse-fits
 use Rattle.layouts.proofs.surface.surface_of.Kinds as surface-of-kinds
 use Rattle.layouts.proofs.surface.surface_of.Reads as surface-of
 use Rattle.layouts.proofs.airborne.airborne_fits.Kinds as airborne-fits-kinds
@@ -43,8 +55,8 @@ use Rattle.layouts.proofs.velocity.ground_fits.Reads as ground-fits
 use Rattle.layouts.proofs.velocity.air_fits.Kinds as air-fits-kinds
 use Rattle.layouts.proofs.velocity.air_fits.Reads as air-fits
 
-pub body-of-once : OneAnswer 0 body-of-kinds.ps body-of-kinds.r body-of.Post
-body-of-once κs args x y left left′ p q = p ∙ sym q
+pub body-by-once : OneAnswer 0 body-by-kinds.ps body-by-kinds.r body-by.Post
+body-by-once κs args x y left left′ p q = p ∙ sym q
 
 pub me-of-once : OneAnswer 0 me-of-kinds.ps me-of-kinds.r me-of.Post
 me-of-once κs args x y left left′ p q = p ∙ sym q
@@ -58,8 +70,8 @@ is-taken-once κs args x y left left′ p q = p ∙ sym q
 pub type-of-once : OneAnswer 0 type-of-kinds.ps type-of-kinds.r type-of.Post
 type-of-once κs args x y left left′ p q = p ∙ sym q
 
-pub type-in-once : OneAnswer 0 type-in-kinds.ps type-in-kinds.r type-in.Post
-type-in-once κs args x y left left′ p q = p ∙ sym q
+pub type-by-once : OneAnswer 0 type-by-kinds.ps type-by-kinds.r type-by.Post
+type-by-once κs args x y left left′ p q = p ∙ sym q
 
 pub is-position-once : OneAnswer 0 is-position-kinds.ps is-position-kinds.r is-position.Post
 is-position-once κs args x y left left′ p q = p ∙ sym q
@@ -102,3 +114,21 @@ body-as-once κs args x y left left′ p q = p ∙ sym q
 
 pub is-layout-once : OneAnswer 0 is-layout-kinds.ps is-layout-kinds.r is-layout.Post
 is-layout-once κs args x y left left′ p q = p ∙ sym q
+
+pub layout-by-once : OneAnswer 0 layout-by-kinds.ps layout-by-kinds.r layout-by.Post
+layout-by-once κs args x y left left′ p q = p ∙ sym q
+
+pub station-in-once : OneAnswer 0 station-in-kinds.ps station-in-kinds.r station-in.Post
+station-in-once κs args x y left left′ p q = p ∙ sym q
+
+pub station-of-once : OneAnswer 0 station-of-kinds.ps station-of-kinds.r station-of.Post
+station-of-once κs args x y left left′ p q = p ∙ sym q
+
+pub is-coarse-once : OneAnswer 0 is-coarse-kinds.ps is-coarse-kinds.r is-coarse.Post
+is-coarse-once κs args x y left left′ p q = p ∙ sym q
+
+pub coarse-of-once : OneAnswer 0 coarse-of-kinds.ps coarse-of-kinds.r coarse-of.Post
+coarse-of-once κs args x y left left′ p q = p ∙ sym q
+
+pub coarse-fits-once : OneAnswer 0 coarse-fits-kinds.ps coarse-fits-kinds.r coarse-fits.Post
+coarse-fits-once κs args x y left left′ p q = p ∙ sym q

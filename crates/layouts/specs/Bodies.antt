@@ -1,4 +1,4 @@
--- ME as a whole: its layout by TYPE and subtype, or the refusal.
+-- ME as a whole: its layout, by TYPE and subtype or that of a coarse message, or the refusal.
 use Prim.Native.Nat.{ℕ}
 use mathlib.Core.List.{List, []}
 use mathlib.Core.Bool.{Bool, true, false, cond, _&&_}
@@ -12,6 +12,7 @@ use Rattle.layouts.specs.declared.bodies.Taken.{Taken}
 use Rattle.layouts.specs.declared.bodies.Taken.the-variants as read
 use Rattle.layouts.specs.declared.bodies.Written.{Written}
 use Rattle.layouts.specs.declared.bodies.Written.the-variants as write
+use Rattle.layouts.specs.Coarse.{coarseOf, coarseFields, coarseWidths}
 use Rattle.layouts.specs.Layouts.{isIdentification, isSurface, isAirborne, identificationOf, surfaceOf, airborneOf, identificationFields, surfaceFields, airborneFields, identificationWidths, surfaceWidths, airborneWidths}
 use Rattle.layouts.specs.Status.{isStatus, statusOf, statusFields, statusWidths}
 use Rattle.layouts.specs.Velocity.{isGround, isAir, groundOf, airOf, groundFields, airFields, velocityWidths}
@@ -34,6 +35,14 @@ typeIn n = me 1 5 n
 abbrev pub layoutOf : ℕ → Layout
 layoutOf n = layoutAt (typeIn n) (me 6 8 n)
 
+-- that of a coarse message, whatever its bits; of any other by TYPE and subtype
+abbrev pub layoutBy : Bool → ℕ → Layout
+layoutBy coarse n = cond coarse layout.Coarse (layoutOf n)
+
+-- a coarse message has no TYPE, which counts as 0
+abbrev pub typeBy : Bool → ℕ → ℕ
+typeBy coarse n = cond coarse 0 (typeIn n)
+
 abbrev pub isTaken : Layout → Bool
 isTaken layout.Identification = true
 isTaken layout.Surface = true
@@ -41,6 +50,7 @@ isTaken layout.Airborne = true
 isTaken layout.Ground = true
 isTaken layout.Air = true
 isTaken layout.Status = true
+isTaken layout.Coarse = true
 isTaken layout.NotTaken = false
 
 -- what the bits say in a layout
@@ -51,24 +61,34 @@ takenAs layout.Airborne n = read.Body (body.Airborne (airborneOf n))
 takenAs layout.Ground n = read.Body (body.Ground (groundOf n))
 takenAs layout.Air n = read.Body (body.Air (airOf n))
 takenAs layout.Status n = read.Body (body.Status (statusOf n))
+takenAs layout.Coarse n = read.Body (body.Coarse (coarseOf n))
 takenAs layout.NotTaken n = read.Refused TypeCode
 
+abbrev pub takenBy : Bool → ℕ → Taken
+takenBy coarse n = takenAs (layoutBy coarse n) n
+
+-- by TYPE and subtype
 abbrev pub taken : ℕ → Taken
-taken n = takenAs (layoutOf n) n
+taken n = takenBy false n
 
--- the flag that tells the address of a traffic service's message, as source 002 has it: a bit of its own on the surface, in the air and of a velocity. Identification and status have none, which counts as 0
-abbrev pub flagBy : Layout → ℕ → ℕ → ℕ → ℕ
-flagBy layout.Identification surface air velocity = 0
-flagBy layout.Surface surface air velocity = surface
-flagBy layout.Airborne surface air velocity = air
-flagBy layout.Ground surface air velocity = velocity
-flagBy layout.Air surface air velocity = velocity
-flagBy layout.Status surface air velocity = 0
-flagBy layout.NotTaken surface air velocity = 0
+-- the flag that tells the address of a traffic service's message, as source 002 has it: a bit of its own of a coarse message, on the surface, in the air and of a velocity. Identification and status have none, which counts as 0
+abbrev pub flagBy : Layout → ℕ → ℕ → ℕ → ℕ → ℕ
+flagBy layout.Identification coarse surface air velocity = 0
+flagBy layout.Surface coarse surface air velocity = surface
+flagBy layout.Airborne coarse surface air velocity = air
+flagBy layout.Ground coarse surface air velocity = velocity
+flagBy layout.Air coarse surface air velocity = velocity
+flagBy layout.Status coarse surface air velocity = 0
+flagBy layout.Coarse coarse surface air velocity = coarse
+flagBy layout.NotTaken coarse surface air velocity = 0
 
--- bit 21 on the surface, 8 in the air, 9 of a velocity
-abbrev pub flagIn : ℕ → ℕ
-flagIn n = flagBy (layoutOf n) (me 21 21 n) (me 8 8 n) (me 9 9 n)
+-- bit 1 of a coarse message, 21 on the surface, 8 in the air, 9 of a velocity
+abbrev pub flagIn : Bool → ℕ → ℕ
+flagIn coarse n = flagBy (layoutBy coarse n) (me 1 1 n) (me 21 21 n) (me 8 8 n) (me 9 9 n)
+
+-- the station, bits 4-7 of a coarse message; no other has one, which counts as 0
+abbrev pub stationIn : Bool → ℕ → ℕ
+stationIn coarse n = cond coarse (me 4 7 n) 0
 
 -- how many bits each field of a layout has, in the order of their bits
 abbrev pub layoutWidths : Layout → List ℕ
@@ -78,9 +98,10 @@ layoutWidths layout.Airborne = airborneWidths
 layoutWidths layout.Ground = velocityWidths
 layoutWidths layout.Air = velocityWidths
 layoutWidths layout.Status = statusWidths
+layoutWidths layout.Coarse = coarseWidths
 layoutWidths layout.NotTaken = []
 
--- a body's layout, its TYPE, its flag, its fields in the order of their bits, how many bits each has, and whether TYPE and subtype are those of the layout
+-- a body's layout, whether it is the coarse one, its TYPE, its flag, its station, its fields in the order of their bits, how many bits each has, and whether TYPE and subtype are those of the layout
 abbrev pub bodyLayout : Body → Layout
 bodyLayout (body.Identification b) = layout.Identification
 bodyLayout (body.Surface b) = layout.Surface
@@ -88,6 +109,16 @@ bodyLayout (body.Airborne b) = layout.Airborne
 bodyLayout (body.Ground b) = layout.Ground
 bodyLayout (body.Air b) = layout.Air
 bodyLayout (body.Status b) = layout.Status
+bodyLayout (body.Coarse b) = layout.Coarse
+
+abbrev pub bodyCoarse : Body → Bool
+bodyCoarse (body.Identification b) = false
+bodyCoarse (body.Surface b) = false
+bodyCoarse (body.Airborne b) = false
+bodyCoarse (body.Ground b) = false
+bodyCoarse (body.Air b) = false
+bodyCoarse (body.Status b) = false
+bodyCoarse (body.Coarse b) = true
 
 abbrev pub bodyType : Body → ℕ
 bodyType (body.Identification b) = b .typecode
@@ -96,6 +127,7 @@ bodyType (body.Airborne b) = b .typecode
 bodyType (body.Ground b) = b .typecode
 bodyType (body.Air b) = b .typecode
 bodyType (body.Status b) = b .typecode
+bodyType (body.Coarse b) = 0
 
 -- the flag by the names of its fields
 abbrev pub flagOf : Body → ℕ
@@ -105,6 +137,16 @@ flagOf (body.Airborne b) = b .bit8
 flagOf (body.Ground b) = b .bit9
 flagOf (body.Air b) = b .bit9
 flagOf (body.Status b) = 0
+flagOf (body.Coarse b) = b .flag
+
+abbrev pub stationOf : Body → ℕ
+stationOf (body.Identification b) = 0
+stationOf (body.Surface b) = 0
+stationOf (body.Airborne b) = 0
+stationOf (body.Ground b) = 0
+stationOf (body.Air b) = 0
+stationOf (body.Status b) = 0
+stationOf (body.Coarse b) = b .station
 
 abbrev pub bodyFields : Body → List ℕ
 bodyFields (body.Identification b) = identificationFields b
@@ -113,6 +155,7 @@ bodyFields (body.Airborne b) = airborneFields b
 bodyFields (body.Ground b) = groundFields b
 bodyFields (body.Air b) = airFields b
 bodyFields (body.Status b) = statusFields b
+bodyFields (body.Coarse b) = coarseFields b
 
 abbrev pub bodyWidths : Body → List ℕ
 bodyWidths b = layoutWidths (bodyLayout b)
@@ -124,6 +167,7 @@ typeAgrees (body.Airborne b) = isAirborne (b .typecode)
 typeAgrees (body.Ground b) = isGround (b .typecode) (b .subtype)
 typeAgrees (body.Air b) = isAir (b .typecode) (b .subtype)
 typeAgrees (body.Status b) = isStatus (b .typecode) (b .subtype)
+typeAgrees (body.Coarse b) = true
 
 -- the 56 bits that hold the fields
 abbrev pub bodyMe : Body → ℕ

@@ -1,4 +1,5 @@
 pub mod Bodies
+pub mod Coarse
 pub mod Layouts
 pub mod Said
 pub mod Status

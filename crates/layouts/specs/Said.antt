@@ -2,11 +2,11 @@
 -- and only the layout tells them apart.
 use Prim.Native.Nat.{ℕ}
 use mathlib.Core.List.{List}
-use mathlib.Core.Bool.{cond, not}
+use mathlib.Core.Bool.{Bool, cond, not}
 use Rattle.refusals.specs.Numbers.{numberOf}
 use Rattle.refusals.specs.Said.{Said, number, gives}
 use Rattle.fields.specs.Packing.{unpack}
-use Rattle.layouts.specs.Bodies.{layoutOf, isTaken, layoutWidths, bodyLayout, bodyFields, bodyMe, bodyFits}
+use Rattle.layouts.specs.Bodies.{layoutBy, isTaken, layoutWidths, bodyLayout, bodyFields, bodyMe, bodyFits}
 use Rattle.layouts.specs.declared.bodies.Body.{Body}
 use Rattle.layouts.specs.declared.bodies.Layout.{Layout}
 use Rattle.layouts.specs.declared.bodies.Taken.{Taken}
@@ -33,9 +33,9 @@ writtenSaid (write.Refused r) = number (numberOf r)
 
 -- ---- what is due
 
--- 5: TYPE or subtype not taken; else the fields of the 56 bits by the layout's widths
-abbrev pub meTable : ℕ → Said Values
-meTable n = cond (not (isTaken (layoutOf n))) (number 5) (gives (values (layoutOf n) (unpack (layoutWidths (layoutOf n)) n)))
+-- 5: TYPE or subtype not taken, which no coarse message earns; else the fields of the 56 bits by the layout's widths
+abbrev pub meTable : Bool → ℕ → Said Values
+meTable coarse n = cond (not (isTaken (layoutBy coarse n))) (number 5) (gives (values (layoutBy coarse n) (unpack (layoutWidths (layoutBy coarse n)) n)))
 
 -- 8: a field wider than its bits, or a TYPE or subtype of another layout
 abbrev pub bodyTable : Body → Said ℕ

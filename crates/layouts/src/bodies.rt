@@ -1,8 +1,12 @@
-// ME by its TYPE: which layout it has, or that it is not taken.
+// ME as a whole: which layout it has, by its TYPE or as a coarse message, or that it is not taken.
 use crate::airborne::Airborne;
 use crate::airborne::airborne_fits;
 use crate::airborne::airborne_me;
 use crate::airborne::airborne_of;
+use crate::coarse::Coarse;
+use crate::coarse::coarse_fits;
+use crate::coarse::coarse_me;
+use crate::coarse::coarse_of;
 use crate::identification::Identification;
 use crate::identification::identification_fits;
 use crate::identification::identification_me;
@@ -26,7 +30,7 @@ use crate::velocity::ground_of;
 use refusals::Refusal;
 ghost use mathlib.Core.Path.{_≡_};
 ghost use mathlib.Core.Bool.{true};
-ghost use Rattle.layouts.specs.Bodies.{typeIn, layoutOf, isTaken, flagIn, takenAs, taken, written, bodyType, flagOf, bodyMe, bodyFits};
+ghost use Rattle.layouts.specs.Bodies.{layoutOf, layoutBy, typeBy, isTaken, flagIn, stationIn, takenAs, takenBy, written, bodyCoarse, bodyType, flagOf, stationOf, bodyMe, bodyFits};
 ghost use Rattle.layouts.specs.Layouts.{isPosition};
 
 pub enum Body {
@@ -39,6 +43,8 @@ pub enum Body {
     Air(Air),
     // operational status
     Status(Status),
+    // of the traffic service, without a TYPE
+    Coarse(Coarse),
 }
 
 pub enum Taken {
@@ -52,7 +58,7 @@ pub enum Written {
     Refused(Refusal),
 }
 
-// Which layout ME has: the two of TYPE 19 and the one of TYPE 31 by their subtypes.
+// Which layout ME has: the two of TYPE 19 and the one of TYPE 31 by their subtypes, and a coarse message's by no TYPE.
 pub enum Layout {
     Identification,
     Surface,
@@ -60,6 +66,7 @@ pub enum Layout {
     Ground,
     Air,
     Status,
+    Coarse,
     NotTaken,
 }
 
@@ -89,6 +96,16 @@ pub fn layout_of(me: u64) -> Layout
     Layout::NotTaken
 }
 
+// That of a coarse message, or else by TYPE.
+pub fn layout_by(coarse: bool, me: u64) -> Layout
+    ensures { λ r. ⌜ r ≡ layoutBy coarse me ⌝ }
+{
+    if coarse {
+        return Layout::Coarse;
+    }
+    layout_of(me)
+}
+
 // Whether a layout is one.
 pub fn is_layout(layout: Layout) -> bool
     ensures { λ r. ⌜ r ≡ isTaken layout ⌝ }
@@ -100,17 +117,18 @@ pub fn is_layout(layout: Layout) -> bool
         Layout::Ground => true,
         Layout::Air => true,
         Layout::Status => true,
+        Layout::Coarse => true,
         Layout::NotTaken => false,
     }
 }
 
 // Whether ME has a layout, so that it does not earn 5. Every message is asked this: by its TYPE alone it costs less than by its layout.
-pub fn is_taken(me: u64) -> bool
-    ensures { λ r. ⌜ r ≡ isTaken (layoutOf me) ⌝ }
+pub fn is_taken(coarse: bool, me: u64) -> bool
+    ensures { λ r. ⌜ r ≡ isTaken (layoutBy coarse me) ⌝ }
 {
     let t = me / 0x8_0000_0000_0000 % 32;
     let s = me / 0x1_0000_0000_0000 % 8;
-    if t <= 18 {
+    if coarse | (t <= 18) {
         return true;
     }
     if t == 19 {
@@ -122,10 +140,13 @@ pub fn is_taken(me: u64) -> bool
     t <= 22
 }
 
-// TYPE of ME.
-pub fn type_in(me: u64) -> u8
-    ensures { λ r. ⌜ r ≡ typeIn me ⌝ }
+// TYPE of ME, which a coarse message does not have.
+pub fn type_by(coarse: bool, me: u64) -> u8
+    ensures { λ r. ⌜ r ≡ typeBy coarse me ⌝ }
 {
+    if coarse {
+        return 0;
+    }
     (me / 0x8_0000_0000_0000 % 32) as u8
 }
 
@@ -137,11 +158,11 @@ pub fn is_position(typecode: u8) -> bool
     ((5 <= t) & (t <= 8)) | (((9 <= t) & (t <= 18)) | ((20 <= t) & (t <= 22)))
 }
 
-// The flag that tells the address of a traffic service's message, by ME's bit 21, 8 or 9.
-pub fn flag_in(me: u64) -> u8
-    ensures { λ r. ⌜ r ≡ flagIn me ⌝ }
+// The flag that tells the address of a traffic service's message, by ME's bit 1, 21, 8 or 9.
+pub fn flag_in(coarse: bool, me: u64) -> u8
+    ensures { λ r. ⌜ r ≡ flagIn coarse me ⌝ }
 {
-    let layout = layout_of(me);
+    let layout = layout_by(coarse, me);
     match layout {
         Layout::Identification => 0,
         Layout::Surface => (me / 0x8_0000_0000 % 2) as u8,
@@ -149,15 +170,26 @@ pub fn flag_in(me: u64) -> u8
         Layout::Ground => (me / 0x8000_0000_0000 % 2) as u8,
         Layout::Air => (me / 0x8000_0000_0000 % 2) as u8,
         Layout::Status => 0,
+        Layout::Coarse => (me / 0x80_0000_0000_0000 % 2) as u8,
         Layout::NotTaken => 0,
     }
 }
 
-// What the 56 bits of ME say. What a number has above them is not read.
-pub fn body_of(me: u64) -> Taken
-    ensures { λ r. ⌜ r ≡ taken me ⌝ }
+// The station of a coarse message.
+pub fn station_in(coarse: bool, me: u64) -> u8
+    ensures { λ r. ⌜ r ≡ stationIn coarse me ⌝ }
 {
-    let layout = layout_of(me);
+    if coarse {
+        return (me / 0x2_0000_0000_0000 % 16) as u8;
+    }
+    0
+}
+
+// What the 56 bits of ME say. What a number has above them is not read.
+pub fn body_by(coarse: bool, me: u64) -> Taken
+    ensures { λ r. ⌜ r ≡ takenBy coarse me ⌝ }
+{
+    let layout = layout_by(coarse, me);
     match layout {
         Layout::Identification => Taken::Body(Body::Identification(identification_of(me))),
         Layout::Surface => Taken::Body(Body::Surface(surface_of(me))),
@@ -165,6 +197,7 @@ pub fn body_of(me: u64) -> Taken
         Layout::Ground => Taken::Body(Body::Ground(ground_of(me))),
         Layout::Air => Taken::Body(Body::Air(air_of(me))),
         Layout::Status => Taken::Body(Body::Status(status_of(me))),
+        Layout::Coarse => Taken::Body(Body::Coarse(coarse_of(me))),
         Layout::NotTaken => Taken::Refused(Refusal::TypeCode),
     }
 }
@@ -180,7 +213,23 @@ pub fn body_as(layout: Layout, me: u64) -> Taken
         Layout::Ground => Taken::Body(Body::Ground(ground_of(me))),
         Layout::Air => Taken::Body(Body::Air(air_of(me))),
         Layout::Status => Taken::Body(Body::Status(status_of(me))),
+        Layout::Coarse => Taken::Body(Body::Coarse(coarse_of(me))),
         Layout::NotTaken => Taken::Refused(Refusal::TypeCode),
+    }
+}
+
+// Whether a body is a coarse message's.
+pub fn is_coarse(b: Body) -> bool
+    ensures { λ r. ⌜ r ≡ bodyCoarse b ⌝ }
+{
+    match b {
+        Body::Identification(_) => false,
+        Body::Surface(_) => false,
+        Body::Airborne(_) => false,
+        Body::Ground(_) => false,
+        Body::Air(_) => false,
+        Body::Status(_) => false,
+        Body::Coarse(_) => true,
     }
 }
 
@@ -195,6 +244,7 @@ pub fn type_of(b: Body) -> u8
         Body::Ground(x) => x.typecode,
         Body::Air(x) => x.typecode,
         Body::Status(x) => x.typecode,
+        Body::Coarse(_) => 0,
     }
 }
 
@@ -209,6 +259,22 @@ pub fn flag_of(b: Body) -> u8
         Body::Ground(x) => x.bit9,
         Body::Air(x) => x.bit9,
         Body::Status(_) => 0,
+        Body::Coarse(x) => x.flag,
+    }
+}
+
+// The same station of a body.
+pub fn station_of(b: Body) -> u8
+    ensures { λ r. ⌜ r ≡ stationOf b ⌝ }
+{
+    match b {
+        Body::Identification(_) => 0,
+        Body::Surface(_) => 0,
+        Body::Airborne(_) => 0,
+        Body::Ground(_) => 0,
+        Body::Air(_) => 0,
+        Body::Status(_) => 0,
+        Body::Coarse(x) => x.station,
     }
 }
 
@@ -223,6 +289,7 @@ fn body_fits(b: Body) -> bool
         Body::Ground(x) => ground_fits(x),
         Body::Air(x) => air_fits(x),
         Body::Status(x) => status_fits(x),
+        Body::Coarse(x) => coarse_fits(x),
     }
 }
 
@@ -238,6 +305,7 @@ fn body_me(b: Body) -> u64
         Body::Ground(x) => ground_me(x),
         Body::Air(x) => air_me(x),
         Body::Status(x) => status_me(x),
+        Body::Coarse(x) => coarse_me(x),
     }
 }
 

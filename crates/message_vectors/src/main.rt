@@ -1,10 +1,13 @@
 // Decodes each byte string of standard input, a byte of length and then the bytes, and writes its fields in the order of their
-// bits with the message encoded again, or the number that it earns. Where the length is 254 the fields of a status follow, eight
-// bytes each, and what they are encoded to is written.
+// bits with the message encoded again, or the number that it earns. Where the length is 254 the fields of a status follow, and
+// where it is 253 those of a coarse message, eight bytes each, and what they are encoded to is written.
+use counts::LatitudeCount;
+use counts::LongitudeCount;
 use encoder::Encoded;
 use layouts::Air;
 use layouts::Airborne;
 use layouts::Body;
+use layouts::Coarse;
 use layouts::Ground;
 use layouts::Identification;
 use layouts::Status;
@@ -116,6 +119,19 @@ fn say_status(b: Status) {
     say_end(b.nacp, b.bits49, b.sil, b.bit53, b.bit54, b.bits55);
 }
 
+fn say_coarse(b: Coarse) {
+    say(b.flag as u64);
+    say(b.surveillance as u64);
+    say(b.station as u64);
+    say(b.altitude as u64);
+    say(b.status as u64);
+    say(b.angle as u64);
+    say(b.speed as u64);
+    say(b.f as u64);
+    say(b.latitude.0 as u64);
+    say(b.longitude.0 as u64);
+}
+
 fn say_body(b: Body) {
     match b {
         Body::Identification(x) => say_identification(x),
@@ -124,6 +140,7 @@ fn say_body(b: Body) {
         Body::Ground(x) => say_ground(x),
         Body::Air(x) => say_air(x),
         Body::Status(x) => say_status(x),
+        Body::Coarse(x) => say_coarse(x),
     }
 }
 
@@ -173,7 +190,7 @@ fn answer(s: &[u8]) {
     write(b"\n");
 }
 
-// The next field of a status; where the input has ended, 0.
+// The next field of a message made by hand; where the input has ended, 0.
 fn field() -> u64 {
     let mut b = [0u8; 8];
     io::read_full(STDIN_FILENO, &mut b);
@@ -182,6 +199,10 @@ fn field() -> u64 {
 
 fn byte() -> u8 {
     (field() % 256) as u8
+}
+
+fn word() -> u32 {
+    (field() % 4294967296) as u32
 }
 
 fn status() -> Status {
@@ -217,12 +238,41 @@ fn status() -> Status {
     }
 }
 
-// A status made by hand.
-fn answer_status() {
+fn coarse() -> Coarse {
+    let flag = byte();
+    let surveillance = byte();
+    let station = byte();
+    let altitude = (field() % 65536) as u16;
+    let status = byte();
+    let angle = byte();
+    let speed = byte();
+    let f = byte();
+    let latitude = LatitudeCount(word());
+    let longitude = LongitudeCount(word());
+    Coarse {
+        flag,
+        surveillance,
+        station,
+        altitude,
+        status,
+        angle,
+        speed,
+        f,
+        latitude,
+        longitude,
+    }
+}
+
+// A message made by hand: a status, or a coarse one.
+fn answer_made(is_status: bool) {
     let format = byte();
     let control = byte();
-    let address = (field() % 4294967296) as u32;
-    let body = Body::Status(status());
+    let address = word();
+    let body = if is_status {
+        Body::Status(status())
+    } else {
+        Body::Coarse(coarse())
+    };
     say_encoded(Message {
         format,
         control,
@@ -232,15 +282,15 @@ fn answer_status() {
     write(b"\n");
 }
 
-// Answers one byte string, or a status, and says whether there was one.
+// Answers one byte string, or one made by hand, and says whether there was one.
 fn one() -> bool {
     let mut head = [0u8; 1];
     if io::read_full(STDIN_FILENO, &mut head) != 1 {
         return false;
     }
     let n = (fields::number_of(&head) % 256) as usize;
-    if n == 254 {
-        answer_status();
+    if 253 <= n && n <= 254 {
+        answer_made(n == 254);
         return true;
     }
     let mut space = [0u8; 256];

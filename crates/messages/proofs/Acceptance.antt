@@ -13,7 +13,7 @@ use Rattle.refusals.specs.declared.Refusal.the-variants.{Length, Parity, Format
 use Rattle.refusals.specs.Said.{number}
 use Rattle.fields.specs.Bytes.{number as numeral}
 use Rattle.parity.specs.Parity.{remainder}
-use Rattle.layouts.specs.Bodies.{layoutOf, isTaken, takenAs, taken, bodyMe, bodyFits}
+use Rattle.layouts.specs.Bodies.{layoutBy, isTaken, takenAs, takenBy, bodyMe, bodyFits}
 use Rattle.layouts.specs.declared.bodies.Body.{Body}
 use Rattle.layouts.specs.declared.bodies.Layout.{Layout}
 use Rattle.layouts.specs.declared.bodies.Layout.the-variants as layout
@@ -21,7 +21,7 @@ use Rattle.layouts.specs.declared.bodies.Taken.{Taken}
 use Rattle.layouts.specs.declared.bodies.Taken.the-variants as read
 use Rattle.layouts.proofs.BothWays.{read-good}
 use Rattle.messages.specs.Message.{bits, formatTaken, opened, decoded}
-use Rattle.messages.specs.Accepted.{frameOf, frameReserved, framed, accepted, headed, frameIn, frameSays, decodedBy, openedAs, IsAccepted}
+use Rattle.messages.specs.Accepted.{frameOf, frameCoarse, frameReserved, frameRefused, framed, accepted, headed, frameIn, frameSays, decodedBy, openedAs, IsAccepted}
 use Rattle.messages.specs.Said.{acceptedSaid, earns1, earns3, earns4, acceptTable}
 use Rattle.messages.specs.declared.Frame.{Frame}
 use Rattle.messages.specs.declared.Message.{Message}
@@ -44,6 +44,7 @@ reads layout.Airborne n = (_, refl)
 reads layout.Ground n = (_, refl)
 reads layout.Air n = (_, refl)
 reads layout.Status n = (_, refl)
+reads layout.Coarse n = (_, refl)
 reads layout.NotTaken n = refl
 
 -- ---- decoded is what was accepted, opened
@@ -53,14 +54,14 @@ module _ (f : Frame) where
   a = formatTaken (f .format) (f .control)
 
   abbrev t : Bool
-  t = isTaken (layoutOf (f .me))
+  t = isTaken (layoutBy (frameCoarse f) (f .me))
 
   -- opened by 4, by what is reserved, or by ME: what `framed` refuses, and what it gives back
   opens : opened (f .format) (f .control) (f .address) (f .me) ≡ openedAs (framed f)
   unfolding opened framed
-  opens = by-cases a t (frameReserved f) refl refl refl (reads (layoutOf (f .me)) (f .me))
+  opens = by-cases a t (frameReserved f) refl refl refl (reads (layoutBy (frameCoarse f) (f .me)) (f .me))
     where
-      by-cases : (x y z : Bool) → a ≡ x → t ≡ y → frameReserved f ≡ z → Reads y (taken (f .me)) → opened (f .format) (f .control) (f .address) (f .me) ≡ openedAs (framed f)
+      by-cases : (x y z : Bool) → a ≡ x → t ≡ y → frameReserved f ≡ z → Reads y (takenBy (frameCoarse f) (f .me)) → opened (f .format) (f .control) (f .address) (f .me) ≡ openedAs (framed f)
       by-cases false y z e k q r = rw e
       by-cases true true true e k q r = rw (e, k, q)
       by-cases true false true e k q r = rw (e, k, q)
@@ -77,7 +78,7 @@ accepted-opened s = by-cases (eqb (length s) 14) (eqb (remainder s) 0)
     by-cases true false = refl
     by-cases true true = opens (frameOf s)
 
--- .. and what was opened, by TYPE and subtype
+-- .. and what was opened, by its layout
 
 pub frame-says : (s : List ℕ) → decoded s ≡ decodedBy (frameIn s)
 unfolding opened headed
@@ -102,7 +103,7 @@ messageOf f b = record { format = f .format; control = f .control; address = f .
 -- a frame that was accepted opens to a body that fits, whose bits are its ME
 pub record Opens (f : Frame) : Type 0 where
   pub body : Body
-  pub reads : taken (f .me) ≡ read.Body body
+  pub reads : takenBy (frameCoarse f) (f .me) ≡ read.Body body
   pub message : openedAs (accept.Frame f) ≡ decode.Message (messageOf f body)
   pub fits : bodyFits body ≡ true
   pub same : bodyMe body ≡ f .me
@@ -124,7 +125,7 @@ module _ (g f : Frame) where
   passed true true true e = no-frame e
   passed true true false e = (refl, refl, refl, cc)
 
-opened-as : (g : Frame) (b : Body) → formatTaken (g .format) (g .control) ≡ true → frameReserved g ≡ false → taken (g .me) ≡ read.Body b
+opened-as : (g : Frame) (b : Body) → formatTaken (g .format) (g .control) ≡ true → frameReserved g ≡ false → takenBy (frameCoarse g) (g .me) ≡ read.Body b
     → openedAs (accept.Frame g) ≡ decode.Message (messageOf g b)
 unfolding opened
 opened-as g b h q r = rw (h, q, r)
@@ -134,11 +135,11 @@ unfolding framed
 frame-opens f a =
     let s : List ℕ = a .0 in
     let g : Frame = frameOf s in
-    let p = passed g f (formatTaken (g .format) (g .control)) (isTaken (layoutOf (g .me))) (frameReserved g) (tested g f (eqb (length s) 14) (eqb (remainder s) 0) (a .1)) in
-    let r : Reads true (taken (g .me)) = subst (λ (t : Bool). Reads t (taken (g .me))) (p .1) (reads (layoutOf (g .me)) (g .me)) in
-    of-frame g (p .0) (p .2) (r .0) (r .1) (read-good (g .me) (r .0) (mod-lt (numeral s / 2 ^ 24) (lit< tt)) (r .1)) (p .3)
+    let p = passed g f (formatTaken (g .format) (g .control)) (isTaken (layoutBy (frameCoarse g) (g .me))) (frameReserved g) (tested g f (eqb (length s) 14) (eqb (remainder s) 0) (a .1)) in
+    let r : Reads true (takenBy (frameCoarse g) (g .me)) = subst (λ (t : Bool). Reads t (takenBy (frameCoarse g) (g .me))) (p .1) (reads (layoutBy (frameCoarse g) (g .me)) (g .me)) in
+    of-frame g (p .0) (p .2) (r .0) (r .1) (read-good (frameCoarse g) (g .me) (r .0) (mod-lt (numeral s / 2 ^ 24) (lit< tt)) (r .1)) (p .3)
   where
-    of-frame : (g : Frame) → formatTaken (g .format) (g .control) ≡ true → frameReserved g ≡ false → (b : Body) → taken (g .me) ≡ read.Body b
+    of-frame : (g : Frame) → formatTaken (g .format) (g .control) ≡ true → frameReserved g ≡ false → (b : Body) → takenBy (frameCoarse g) (g .me) ≡ read.Body b
         → (bodyFits b ≡ true) × (bodyMe b ≡ g .me) → g ≡ f → Opens f
     of-frame g h n b r good q = subst Opens q (record { body = b; reads = r; message = opened-as g b h n r; fits = good .0; same = good .1 })
 
@@ -155,5 +156,5 @@ accept-says-the-table s =
     says (earns1 s) _ _
     ∙ ap (cond (earns1 s) (number 1)) (says (earns3 s) _ _
     ∙ ap (cond (earns3 s) (number 3)) (says (earns4 s) _ _
-    ∙ ap (cond (earns4 s) (number 4)) (says (not (isTaken (layoutOf (bits 33 88 s))) || frameReserved (frameOf s)) _ _
+    ∙ ap (cond (earns4 s) (number 4)) (says (frameRefused (frameOf s)) _ _
     ∙ ap₂ (λ (l : Layout) (b : Bool). cond (not (isTaken l) || b) (number 5) (acceptedSaid (accept.Frame (frameOf s)))) (layout-in s) (reserved-in s))))

@@ -3,7 +3,7 @@
 -- Assumes nothing.
 use Prim.Native.Nat.{ℕ, _/_, _%_, _^_, _<_}
 use mathlib.Core.Path.{_≡_, refl, sym, ap, ap₂, subst, _∙_}
-use mathlib.Core.Bool.{Bool, true, false, not}
+use mathlib.Core.Bool.{Bool, true, false, not, _&&_}
 use mathlib.Core.List.{List, _++_}
 use native.Mathlib.Nat.{mod-eq-of-lt, mod-lt}
 use native.Mathlib.Omega.{arith}
@@ -19,11 +19,11 @@ use Rattle.fields.proofs.Packing.{pack-lt, unpack-pack, pack-unpack}
 use Rattle.fields.proofs.Bytes.{bytes-take, bytes-drop, fit-bytes, number-bytes, bytes-number}
 use Rattle.parity.specs.Parity.{remainder}
 use Rattle.parity.proofs.Seal.{sealed, only-sealed}
-use Rattle.layouts.specs.Bodies.{typeIn, taken, flagIn, bodyType, flagOf, bodyMe, bodyFits}
-use Rattle.layouts.proofs.BothWays.{written-read, read-good, type-read, flag-read, me-lt}
+use Rattle.layouts.specs.Bodies.{typeBy, takenBy, flagIn, bodyCoarse, bodyType, flagOf, bodyMe, bodyFits}
+use Rattle.layouts.proofs.BothWays.{written-read, read-good, coarse-read, type-read, flag-read, me-lt}
 use Rattle.layouts.specs.declared.bodies.Taken.{Taken}
 use Rattle.layouts.specs.declared.bodies.Taken.the-variants as read
-use Rattle.messages.specs.Message.{bits, formatTaken, isReserved, withBody, opened, decoded, headWidths, headFields, headTaken, messageFits, sealedBy, messageBytes}
+use Rattle.messages.specs.Message.{bits, formatTaken, coarseBy, isReserved, reservedIn, withBody, opened, decoded, headWidths, headFields, agree, headTaken, messageFits, sealedBy, messageBytes}
 use Rattle.messages.specs.declared.Frame.{Frame}
 use Rattle.messages.specs.declared.Message.{Message}
 use Rattle.messages.specs.declared.Decoded.{Decoded}
@@ -33,16 +33,27 @@ use Rattle.messages.proofs.Parts.{four, seven, head-lt, me-is, head-is,
 
 -- ---- what is encoded is decoded to the same fields
 
+-- both or neither: the two are the same
+same : (a b : Bool) → agree a b ≡ true → b ≡ a
+same true b e = e
+same false b e = not-true b e
+
+alike : (a b : Bool) → b ≡ a → agree a b ≡ true
+alike true b e = e
+alike false b e = rw e
+
 opened-back : (m : Message) → headTaken m ≡ true → bodyFits (m .body) ≡ true
     → opened (m .format) (m .control) (m .address) (bodyMe (m .body)) ≡ decode.Message m
 unfolding opened
 opened-back m h b =
     let n : ℕ = bodyMe (m .body) in
+    let c : Bool = coarseBy (m .format) (m .control) in
     let r : ℕ → ℕ → Bool = isReserved (m .format) (m .control) in
     let q : Bool = r (bodyType (m .body)) (flagOf (m .body)) in
-    let t = each (formatTaken (m .format) (m .control)) (not q) h in
-    let e : taken n ≡ read.Body (m .body) = written-read n (m .body) (rw b) in
-    let f : r (typeIn n) (flagIn n) ≡ false = sym (ap₂ r (type-read n (m .body) e) (flag-read n (m .body) e)) ∙ not-true q (t .1) in
+    let g = each (formatTaken (m .format) (m .control) && not q) (agree c (bodyCoarse (m .body))) h in
+    let t = each (formatTaken (m .format) (m .control)) (not q) (g .0) in
+    let e : takenBy c n ≡ read.Body (m .body) = ap (λ (k : Bool). takenBy k n) (sym (same c (bodyCoarse (m .body)) (g .1))) ∙ written-read n (m .body) (rw b) in
+    let f : r (typeBy c n) (flagIn c n) ≡ false = sym (ap₂ r (type-read c n (m .body) e) (flag-read c n (m .body) e)) ∙ not-true q (t .1) in
     rw (t .0, f) (ap (withBody (m .format) (m .control) (m .address)) e)
 
 -- a message's bytes from the numbers of its first four and next seven
@@ -104,13 +115,17 @@ module _ (s : List ℕ) (e : length s ≡ 14) (h : Bytes s) (z : remainder s ≡
       let q : remainder (take 11 s ++ drop 11 s) ≡ 0 = ap remainder (take-append-drop 11 s) ∙ z in
       ap sealedBy j ∙ ap (λ (y : List ℕ). take 11 s ++ y) (sym (only-sealed (take 11 s) (drop 11 s) l (bytes-drop 11 s h) q)) ∙ take-append-drop 11 s
 
-  body-good : formatTaken (bits 1 5 s) (bits 6 8 s) ≡ true → isReserved (bits 1 5 s) (bits 6 8 s) (typeIn (bits 33 88 s)) (flagIn (bits 33 88 s)) ≡ false → (b : Taken) → taken (bits 33 88 s) ≡ b
+  abbrev coarse : Bool
+  coarse = coarseBy (bits 1 5 s) (bits 6 8 s)
+
+  body-good : formatTaken (bits 1 5 s) (bits 6 8 s) ≡ true → reservedIn (bits 1 5 s) (bits 6 8 s) (bits 33 88 s) ≡ false → (b : Taken) → takenBy coarse (bits 33 88 s) ≡ b
       → Good s (withBody (bits 1 5 s) (bits 6 8 s) (bits 9 32 s) b)
   unfolding head frame
   body-good t r (read.Body b) p =
-      let g = read-good (bits 33 88 s) b (mod-lt (number s / 2 ^ 24) (lit< tt)) p in
+      let n : ℕ = bits 33 88 s in
+      let g = read-good coarse n b (mod-lt (number s / 2 ^ 24) (lit< tt)) p in
       let f = ap (fits headWidths) (head-is s e h) ∙ unpack-fits headWidths head in (
-        both (both f (both t (ap not (ap₂ (isReserved (bits 1 5 s) (bits 6 8 s)) (type-read (bits 33 88 s) b p) (flag-read (bits 33 88 s) b p) ∙ r)))) (g .0),
+        both (both f (both (both t (ap not (ap₂ (isReserved (bits 1 5 s) (bits 6 8 s)) (type-read coarse n b p) (flag-read coarse n b p) ∙ r))) (alike coarse (bodyCoarse b) (coarse-read coarse n b p)))) (g .0),
         framed _ _ (ap (pack headWidths) (head-is s e h) ∙ pack-unpack headWidths head ∙ mod-eq-of-lt (head-lt s e h)) (g .1 ∙ me-is s e h),
       )
   body-good t r (read.Refused q) p = tt
@@ -119,8 +134,8 @@ module _ (s : List ℕ) (e : length s ≡ 14) (h : Bytes s) (z : remainder s ≡
   unfolding opened
   opened-good =
       by-test (Good s) (not (formatTaken (bits 1 5 s) (bits 6 8 s))) _ _ (λ t. tt)
-      (λ t. by-test (Good s) (isReserved (bits 1 5 s) (bits 6 8 s) (typeIn (bits 33 88 s)) (flagIn (bits 33 88 s))) _ _ (λ r. tt)
-      (λ r. body-good (not-false (formatTaken (bits 1 5 s) (bits 6 8 s)) t) r (taken (bits 33 88 s)) refl))
+      (λ t. by-test (Good s) (reservedIn (bits 1 5 s) (bits 6 8 s) (bits 33 88 s)) _ _ (λ r. tt)
+      (λ r. body-good (not-false (formatTaken (bits 1 5 s) (bits 6 8 s)) t) r (takenBy coarse (bits 33 88 s)) refl))
 
 pub decoded-good : (s : List ℕ) (m : Message) → Bytes s → decoded s ≡ decode.Message m → (messageFits m ≡ true) × (messageBytes m ≡ s)
 decoded-good s m h d =

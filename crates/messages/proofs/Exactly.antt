@@ -15,10 +15,11 @@ use Rattle.fields.specs.Packing.{field, total, unpack}
 use Rattle.fields.specs.Bytes.{number as numeral}
 use Rattle.fields.proofs.Bools.{each, either, both}
 use Rattle.fields.proofs.Packing.{unpack-above}
+use Rattle.layouts.specs.Coarse.{coarseWidths}
 use Rattle.layouts.specs.Layouts.{identificationWidths, surfaceWidths, airborneWidths}
 use Rattle.layouts.specs.Status.{statusWidths}
 use Rattle.layouts.specs.Velocity.{groundOf, airOf, groundFields, airFields, velocityWidths}
-use Rattle.layouts.specs.Bodies.{typeIn, layoutOf, isTaken, flagIn, takenAs, layoutWidths, bodyLayout}
+use Rattle.layouts.specs.Bodies.{layoutBy, isTaken, takenAs, layoutWidths, bodyLayout}
 use Rattle.layouts.specs.Said.{Values, values}
 use Rattle.layouts.specs.declared.bodies.Body.the-variants as body
 use Rattle.layouts.specs.declared.bodies.Layout.{Layout}
@@ -26,8 +27,8 @@ use Rattle.layouts.specs.declared.bodies.Layout.the-variants as layout
 use Rattle.layouts.specs.declared.velocity.Ground.{Ground}
 use Rattle.layouts.specs.declared.velocity.Air.{Air}
 use Rattle.messages.specs.Accepted.{Acceptable}
-use Rattle.messages.specs.Message.{bits, trafficBy, isReserved, withBody, opened, decoded, headWidths}
-use Rattle.messages.specs.Said.{said, earns1, earns3, earns4, layoutIn, flagAt, earns5, valuesIn, table}
+use Rattle.messages.specs.Message.{bits, trafficBy, isReserved, reservedIn, withBody, opened, decoded, headWidths}
+use Rattle.messages.specs.Said.{said, earns1, earns3, earns4, coarseAt, layoutIn, typeAt, flagAt, earns5, valuesIn, table}
 use Rattle.messages.specs.declared.Message.{Message}
 use Rattle.messages.specs.declared.Decoded.{Decoded}
 use Rattle.messages.specs.declared.Decoded.the-variants as decode
@@ -70,6 +71,7 @@ layout-says layout.Airborne n = ap (λ (v : List ℕ). gives (values layout.Airb
 layout-says layout.Ground n = ap (λ (v : List ℕ). gives (values layout.Ground v)) (all-fields n velocityWidths refl)
 layout-says layout.Air n = ap (λ (v : List ℕ). gives (values layout.Air v)) (all-fields n velocityWidths refl)
 layout-says layout.Status n = ap (λ (v : List ℕ). gives (values layout.Status v)) (all-fields n statusWidths refl)
+layout-says layout.Coarse n = ap (λ (v : List ℕ). gives (values layout.Coarse v)) (all-fields n coarseWidths refl)
 layout-says layout.NotTaken n = refl
 
 -- ---- the whole
@@ -85,12 +87,12 @@ opened-says : (s : List ℕ)
     → said (opened (bits 1 5 s) (bits 6 8 s) (bits 9 32 s) (bits 33 88 s)) ≡ cond (earns4 s) (number 4) (cond (earns5 s) (number 5) (gives (valuesIn s)))
 unfolding opened
 opened-says s =
-    let n : ℕ = bits 33 88 s in
-    let r : ℕ → ℕ → Bool = isReserved (bits 1 5 s) (bits 6 8 s) in
+    let l : Layout = layoutBy (coarseAt s) (bits 33 88 s) in
+    let r : Bool = reservedIn (bits 1 5 s) (bits 6 8 s) (bits 33 88 s) in
     said-of (earns4 s) _ _
-    ∙ ap (cond (earns4 s) (number 4)) (said-of (r (typeIn n) (flagIn n)) _ _
-    ∙ ap (cond (r (typeIn n) (flagIn n)) (number 5)) (layout-says (layoutOf n) (numeral s))
-    ∙ for-either (r (typeIn n) (flagIn n)) (not (isTaken (layoutOf n))) _
+    ∙ ap (cond (earns4 s) (number 4)) (said-of r _ _
+    ∙ ap (cond r (number 5)) (layout-says l (numeral s))
+    ∙ for-either r (not (isTaken l)) _
     ∙ ap₂ (λ (l : Layout) (b : Bool). cond (not (isTaken l) || b) (number 5) (gives (values l (unpack (headWidths ++ layoutWidths l) (bits 1 88 s))))) (layout-in s) (reserved-in s))
 
 -- what the decoder answers is what the table says
@@ -192,31 +194,40 @@ module _ (s : List ℕ) where
 
   -- TYPE 31, at any subtype, of the traffic service
   abbrev ServedStatus : Type 0
-  ServedStatus = (trafficBy (bits 1 5 s) (bits 6 8 s) ≡ true) × (bits 33 37 s ≡ 31)
+  ServedStatus = (trafficBy (bits 1 5 s) (bits 6 8 s) ≡ true) × (typeAt s ≡ 31)
 
   -- its TYPE or subtype is not taken, or it is DF 18 with CF 5 and the flag set, or with CF 2 or 5 and TYPE 31
   pub five-reasons : earns5 s ≡ true ↔ (isTaken (layoutIn s) ≡ false) ⊎ (FlagSet ⊎ ServedStatus)
   five-reasons = (
     λ e. ⊎-elim (λ t. inl (not-true (isTaken (layoutIn s)) t)) (λ r. inr (reserved r)) (either (not (isTaken (layoutIn s))) _ e),
     ⊎-elim (λ t. rw t) (⊎-elim
-        (λ p. or-right (not (isTaken (layoutIn s))) _ (rw (p .0, p .1, p .2)))
-        (λ p. or-right (not (isTaken (layoutIn s))) _ (or-right (eqb (bits 1 5 s) 18 && eqb (bits 6 8 s) 5 && eqb (flagAt s) 1) _ (both (p .0) (eq-eqb (bits 33 37 s) 31 (p .1)))))),
+        (λ p. or-right (not (isTaken (layoutIn s))) _ (or-left _ _ (both (both (eq-eqb (bits 1 5 s) 18 (p .0)) (eq-eqb (bits 6 8 s) 5 (p .1))) (eq-eqb (flagAt s) 1 (p .2)))))
+        (λ p. or-right (not (isTaken (layoutIn s))) _ (or-right (eqb (bits 1 5 s) 18 && eqb (bits 6 8 s) 5 && eqb (flagAt s) 1) _ (both (p .0) (eq-eqb (typeAt s) 31 (p .1)))))),
   )
     where
-      reserved : isReserved (bits 1 5 s) (bits 6 8 s) (bits 33 37 s) (flagAt s) ≡ true → FlagSet ⊎ ServedStatus
+      reserved : isReserved (bits 1 5 s) (bits 6 8 s) (typeAt s) (flagAt s) ≡ true → FlagSet ⊎ ServedStatus
       reserved r = ⊎-elim
           (λ f.
           let p = each (eqb (bits 1 5 s) 18 && eqb (bits 6 8 s) 5) (eqb (flagAt s) 1) f in
           let q = each (eqb (bits 1 5 s) 18) (eqb (bits 6 8 s) 5) (p .0) in
           inl (eqb-true (bits 1 5 s) 18 (q .0), eqb-true (bits 6 8 s) 5 (q .1), eqb-true (flagAt s) 1 (p .1)))
           (λ t.
-          let p = each (trafficBy (bits 1 5 s) (bits 6 8 s)) (eqb (bits 33 37 s) 31) t in
-          inr (p .0, eqb-true (bits 33 37 s) 31 (p .1)))
+          let p = each (trafficBy (bits 1 5 s) (bits 6 8 s)) (eqb (typeAt s) 31) t in
+          inr (p .0, eqb-true (typeAt s) 31 (p .1)))
           (either (eqb (bits 1 5 s) 18 && eqb (bits 6 8 s) 5 && eqb (flagAt s) 1) _ r)
+
+      or-left : (a b : Bool) → a ≡ true → a || b ≡ true
+      or-left a b e = rw e
 
       or-right : (a b : Bool) → b ≡ true → a || b ≡ true
       or-right true b e = refl
       or-right false b e = e
+
+  -- none of them is there of a coarse message, whatever its ME
+  pub coarse-never-five : coarseAt s ≡ true → earns5 s ≡ false
+  coarse-never-five e =
+      let p = each (eqb (bits 1 5 s) 18) (eqb (bits 6 8 s) 3) e in
+      rw (eqb-true (bits 1 5 s) 18 (p .0), eqb-true (bits 6 8 s) 3 (p .1))
 
   -- acceptable exactly when it earns none of the four
   pub accepted-exactly : Acceptable s ↔ (earns1 s ≡ false) × (earns3 s ≡ false) × (earns4 s ≡ false) × (earns5 s ≡ false)

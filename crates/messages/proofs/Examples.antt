@@ -90,9 +90,21 @@ traffic-name = 0x92 ∷ 0x40 ∷ 0x62 ∷ 0x1D ∷ 0x21 ∷ 0x2C ∷ 0xC3 ∷ 0x
 abbrev transponder : List ℕ
 transponder = 0x8D ∷ 0x40 ∷ 0x62 ∷ 0x1D ∷ 0x59 ∷ 0xC3 ∷ 0x82 ∷ 0xD6 ∷ 0x90 ∷ 0xC8 ∷ 0xAC ∷ 0xF4 ∷ 0x19 ∷ 0x50 ∷ []
 
--- 9340621D58C382D690C8ACBDFCDA: CF 3
+-- 9340621D58C382D690C8ACBDFCDA: CF 3, a coarse message, the flag not set, station 12
 abbrev coarse : List ℕ
 coarse = 0x93 ∷ 0x40 ∷ 0x62 ∷ 0x1D ∷ 0x58 ∷ 0xC3 ∷ 0x82 ∷ 0xD6 ∷ 0x90 ∷ 0xC8 ∷ 0xAC ∷ 0xBD ∷ 0xFC ∷ 0xDA ∷ []
+
+-- 9340621D9CB46ACDABC56766CD3C: CF 3, the flag set, station 14; its first five bits are 19, and the next three 4
+abbrev coarse-mode-a : List ℕ
+coarse-mode-a = 0x93 ∷ 0x40 ∷ 0x62 ∷ 0x1D ∷ 0x9C ∷ 0xB4 ∷ 0x6A ∷ 0xCD ∷ 0xAB ∷ 0xC5 ∷ 0x67 ∷ 0x66 ∷ 0xCD ∷ 0x3C ∷ []
+
+-- 9340621DF954B912344AB546978F: CF 3, the flag set, station 12; the first five bits are 31, the TYPE that CF 2 and 5 may not have
+abbrev coarse-station : List ℕ
+coarse-station = 0x93 ∷ 0x40 ∷ 0x62 ∷ 0x1D ∷ 0xF9 ∷ 0x54 ∷ 0xB9 ∷ 0x12 ∷ 0x34 ∷ 0x4A ∷ 0xB5 ∷ 0x46 ∷ 0x97 ∷ 0x8F ∷ []
+
+-- 9440621D58C382D690C8ACCB5EBB: CF 4
+abbrev rebroadcast : List ℕ
+rebroadcast = 0x94 ∷ 0x40 ∷ 0x62 ∷ 0x1D ∷ 0x58 ∷ 0xC3 ∷ 0x82 ∷ 0xD6 ∷ 0x90 ∷ 0xC8 ∷ 0xAC ∷ 0xCB ∷ 0x5E ∷ 0xBB ∷ []
 
 -- 9140621D58C382D690C8AC0D1E2A: CF 1
 abbrev other : List ℕ
@@ -117,8 +129,8 @@ traffic-status = 0x92 ∷ 0x40 ∷ 0x62 ∷ 0x1D ∷ 0xF9 ∷ 0x54 ∷ 0xB9 ∷ 
 abbrev traffic-other-status : List ℕ
 traffic-other-status = 0x95 ∷ 0x40 ∷ 0x62 ∷ 0x1D ∷ 0xF9 ∷ 0x54 ∷ 0xB9 ∷ 0x12 ∷ 0x34 ∷ 0x4A ∷ 0xB5 ∷ 0x68 ∷ 0x44 ∷ 0x96 ∷ []
 
--- the five kinds by their keys; one AA has five, so no two of the kinds are one track
-pub five-kinds : (keyIn airborne ≡ 0x140621D)
+-- the kinds by their keys; one AA has one of each, and of C one for each flag and station, so no two of them are one track
+pub six-kinds : (keyIn airborne ≡ 0x140621D)
     × (keyIn traffic ≡ 0x340621D)
     × (keyIn traffic-mode-a ≡ 0x440621D)
     × (keyIn traffic-surface ≡ 0x440621D)
@@ -127,18 +139,26 @@ pub five-kinds : (keyIn airborne ≡ 0x140621D)
     × (keyIn traffic-other ≡ 0x540621D)
     × (keyIn transponder ≡ 0x140621D)
     × (keyIn other ≡ 0x240621D)
+    × (keyIn coarse ≡ 0x880C43AC)
+    × (keyIn coarse-mode-a ≡ 0x880C43BE)
+    × (keyIn coarse-station ≡ 0x880C43BC)
 unfolding kindOf
-five-kinds = (refl, refl, refl, refl, refl, refl, refl, refl, refl)
+six-kinds = (refl, refl, refl, refl, refl, refl, refl, refl, refl, refl, refl, refl)
 
 -- what earns 5 and 4
 pub traffic-refused : (said (decoded traffic-reserved) ≡ number 5)
     × (said (decoded traffic-status) ≡ number 5)
     × (said (decoded traffic-other-status) ≡ number 5)
-    × (said (decoded coarse) ≡ number 4)
+    × (said (decoded rebroadcast) ≡ number 4)
 unfolding remainder remainderFrom reduce opened
 traffic-refused = (refl, refl, refl, refl)
 
--- what may start a track: of the traffic service positions alone
+-- a coarse message is read by its own layout, whatever TYPE its bits would be
+pub coarse-read : said (decoded coarse-station) ≡ gives (values layout.Coarse (18 ∷ 3 ∷ 0x40621D ∷ 1 ∷ 3 ∷ 12 ∷ 2725 ∷ 1 ∷ 18 ∷ 9 ∷ 0 ∷ 836 ∷ 2741 ∷ []))
+unfolding remainder remainderFrom reduce opened
+coarse-read = refl
+
+-- what may start a track: of the traffic service positions alone, as every coarse message is
 pub traffic-starts : (startsIn traffic ≡ true)
     × (startsIn traffic-surface ≡ true)
     × (startsIn traffic-velocity ≡ false)
@@ -147,8 +167,10 @@ pub traffic-starts : (startsIn traffic ≡ true)
     × (startsIn traffic-altitude ≡ false)
     × (startsIn ground ≡ true)
     × (startsIn identification ≡ true)
+    × (startsIn coarse-mode-a ≡ true)
+    × (startsIn coarse-station ≡ true)
 unfolding kindOf
-traffic-starts = (refl, refl, refl, refl, refl, refl, refl, refl)
+traffic-starts = (refl, refl, refl, refl, refl, refl, refl, refl, refl, refl)
 
 -- a status starts a track of I and of O
 pub status-starts : (startsIn status ≡ true) × (keyIn status ≡ 0x14840D6) × (startsIn other-status ≡ true) × (keyIn other-status ≡ 0x240621D)
@@ -157,7 +179,7 @@ status-starts = (refl, refl, refl, refl)
 
 -- an even message of T and an odd one of M, of one AA, are never a pair: their keys differ
 pub never-paired : keyIn traffic ≡ keyIn traffic-mode-a → ⊥
-never-paired e = let z : _≡_ {A = ℕ} 0x340621D 0x440621D = sym (five-kinds .1) ∙ e ∙ five-kinds .2 in omega arith
+never-paired e = let z : _≡_ {A = ℕ} 0x340621D 0x440621D = sym (six-kinds .1) ∙ e ∙ six-kinds .2 in omega arith
 
 -- ---- both ways: the bytes are decoded to these fields, which are taken and give the same bytes
 
@@ -202,6 +224,26 @@ status-fields = record {
 pub status-both-ways : BothWays status status-fields
 unfolding seal remainder remainderFrom reduce opened
 status-both-ways = (refl, refl, refl)
+
+-- coarse
+abbrev coarse-fields : Message
+coarse-fields = record {
+  format = 18;
+  control = 3;
+  address = 0x40621D;
+  body = body.Coarse (record { flag = 1; surveillance = 0; station = 14; altitude = 1443; status = 0; angle = 21; speed = 38; f = 1; latitude = record { 0 = 2748 }; longitude = record { 0 = 1383 } });
+}
+
+pub coarse-both-ways : BothWays coarse-mode-a coarse-fields
+unfolding seal remainder remainderFrom reduce opened
+coarse-both-ways = (refl, refl, refl)
+
+-- the same under CF 2, and a body with a TYPE under CF 3, do not fit: CF 3 and a coarse body go together
+abbrev under : ℕ → Message → Message
+under control m = record { format = 18; control = control; address = m .address; body = m .body }
+
+pub coarse-with-its-own : (messageFits (under 2 coarse-fields) ≡ false) × (messageFits (under 3 mode-a-fields) ≡ false)
+coarse-with-its-own = (refl, refl)
 
 -- so two accepted messages are told apart
 abbrev fieldsIn : Said Values → List ℕ

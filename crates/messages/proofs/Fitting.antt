@@ -1,4 +1,4 @@
--- A message that fits: its fields before ME fit, DF and CF are taken with the flag, and its body fits. The one place that takes the conjunction apart.
+-- A message that fits: its fields before ME fit, DF and CF are taken with the flag and the body, and its body fits. The one place that takes the conjunction apart.
 -- Assumes nothing.
 use mathlib.Core.Path.{_≡_}
 use mathlib.Core.Bool.{true, _&&_}

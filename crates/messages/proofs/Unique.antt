@@ -4,10 +4,14 @@ use mathlib.Core.Path.{sym, _∙_}
 use Rattle.refusals.specs.Answers.{OneAnswer}
 use Rattle.messages.proofs.accept.Kinds as accept-kinds
 use Rattle.messages.proofs.accept.Reads as accept
+use Rattle.messages.proofs.coarse_by.Kinds as coarse-by-kinds
+use Rattle.messages.proofs.coarse_by.Reads as coarse-by
 use Rattle.messages.proofs.decode.Kinds as decode-kinds
 use Rattle.messages.proofs.decode.Reads as decode
 use Rattle.messages.proofs.head_taken.Kinds as head-taken-kinds
 use Rattle.messages.proofs.head_taken.Reads as head-taken
+use Rattle.messages.proofs.frame_coarse.Kinds as frame-coarse-kinds
+use Rattle.messages.proofs.frame_coarse.Reads as frame-coarse
 use Rattle.messages.proofs.frame_key.Kinds as frame-key-kinds
 use Rattle.messages.proofs.frame_key.Reads as frame-key
 use Rattle.messages.proofs.frame_starts.Kinds as frame-starts-kinds
@@ -57,3 +61,9 @@ frame-in-once κs args x y left left′ p q = p ∙ sym q
 
 pub traffic-by-once : OneAnswer 0 traffic-by-kinds.ps traffic-by-kinds.r traffic-by.Post
 traffic-by-once κs args x y left left′ p q = p ∙ sym q
+
+pub coarse-by-once : OneAnswer 0 coarse-by-kinds.ps coarse-by-kinds.r coarse-by.Post
+coarse-by-once κs args x y left left′ p q = p ∙ sym q
+
+pub frame-coarse-once : OneAnswer 0 frame-coarse-kinds.ps frame-coarse-kinds.r frame-coarse.Post
+frame-coarse-once κs args x y left left′ p q = p ∙ sym q

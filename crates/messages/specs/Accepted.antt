@@ -6,30 +6,39 @@ use mathlib.Core.Bool.{Bool, cond, not, _||_}
 use lib.Dec.{eqb}
 use lib.ListN.{length}
 use Rattle.refusals.specs.declared.Refusal.the-variants.{Length, Parity, Format, TypeCode}
-use Rattle.keys.specs.Keys.{isTraffic}
+use Rattle.keys.specs.Keys.{keyFor, isTraffic}
+use Rattle.keys.specs.declared.Kind.{Kind}
 use Rattle.parity.specs.Parity.{remainder}
-use Rattle.layouts.specs.Bodies.{typeIn, layoutOf, isTaken, flagIn, taken}
+use Rattle.layouts.specs.Bodies.{layoutBy, typeBy, isTaken, flagIn, stationIn, takenBy}
 use Rattle.messages.specs.declared.Frame.{Frame}
 use Rattle.messages.specs.declared.Message.{Message}
 use Rattle.messages.specs.declared.Accepted.{Accepted}
 use Rattle.messages.specs.declared.Accepted.the-variants as accept
 use Rattle.messages.specs.declared.Decoded.{Decoded}
 use Rattle.messages.specs.declared.Decoded.the-variants as decode
-use Rattle.messages.specs.Message.{bits, formatTaken, isReserved, withBody, opened, decoded, kindOf, keyBy, startsBy}
+use Rattle.messages.specs.Message.{bits, formatTaken, coarseBy, reservedIn, withBody, opened, decoded, kindOf, startsBy}
 
 -- DF, CA or CF, AA and ME
 abbrev pub frameOf : List ℕ → Frame
 frameOf s = record { format = bits 1 5 s; control = bits 6 8 s; address = bits 9 32 s; me = bits 33 88 s }
 
+-- whether it is a coarse message
+abbrev pub frameCoarse : Frame → Bool
+frameCoarse f = coarseBy (f .format) (f .control)
+
 -- CF 5 with the flag set, or status of the traffic service
 abbrev pub frameReserved : Frame → Bool
-frameReserved f = isReserved (f .format) (f .control) (typeIn (f .me)) (flagIn (f .me))
+frameReserved f = reservedIn (f .format) (f .control) (f .me)
 
--- 4, then 5 for either reason
+-- 5 for either reason
+abbrev pub frameRefused : Frame → Bool
+frameRefused f = not (isTaken (layoutBy (frameCoarse f) (f .me))) || frameReserved f
+
+-- 4, then 5
 unfoldable pub framed : Frame → Accepted
 framed f =
     cond (not (formatTaken (f .format) (f .control))) (accept.Refused Format)
-    (cond (not (isTaken (layoutOf (f .me))) || frameReserved f) (accept.Refused TypeCode)
+    (cond (frameRefused f) (accept.Refused TypeCode)
     (accept.Frame f))
 
 -- 1, then 3, then 4 and 5
@@ -53,9 +62,9 @@ frameIn s =
     (cond (not (eqb (remainder s) 0)) (accept.Refused Parity)
     (headed (frameOf s)))
 
--- what a frame says by its TYPE and subtype: its fields, or 5
+-- what a frame says by its layout: its fields, or 5
 abbrev pub frameSays : Frame → Decoded
-frameSays f = withBody (f .format) (f .control) (f .address) (taken (f .me))
+frameSays f = withBody (f .format) (f .control) (f .address) (takenBy (frameCoarse f) (f .me))
 
 abbrev pub decodedBy : Accepted → Decoded
 decodedBy (accept.Frame f) = frameSays f
@@ -66,13 +75,16 @@ abbrev pub openedAs : Accepted → Decoded
 openedAs (accept.Frame f) = opened (f .format) (f .control) (f .address) (f .me)
 openedAs (accept.Refused r) = decode.Refused r
 
--- the key of its track
+-- the kind of its track, and the key
+abbrev pub frameKind : Frame → Kind
+frameKind f = kindOf (f .format) (f .control) (flagIn (frameCoarse f) (f .me)) (stationIn (frameCoarse f) (f .me))
+
 abbrev pub frameKey : Frame → ℕ
-frameKey f = keyBy (f .format) (f .control) (flagIn (f .me)) (f .address)
+frameKey f = keyFor (frameKind f) (f .address)
 
 -- whether it may start a track
 abbrev pub frameStarts : Frame → Bool
-frameStarts f = startsBy (isTraffic (kindOf (f .format) (f .control) (flagIn (f .me)))) (typeIn (f .me))
+frameStarts f = startsBy (frameCoarse f) (isTraffic (frameKind f)) (typeBy (frameCoarse f) (f .me))
 
 -- the decoder takes it
 abbrev pub Acceptable : List ℕ → Type 0

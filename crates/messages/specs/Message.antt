@@ -9,11 +9,11 @@ use Rattle.fields.specs.Packing.{field, pack, fits}
 use Rattle.fields.specs.Bytes.{number, bytesOf}
 use Rattle.keys.specs.Keys.{keyFor, isTraffic}
 use Rattle.keys.specs.declared.Kind.{Kind}
-use Rattle.keys.specs.declared.Kind.the-variants.{I, O, T, M, N}
+use Rattle.keys.specs.declared.Kind.the-variants.{I, O, T, M, N, C}
 use Rattle.parity.specs.Parity.{remainder, seal}
 use Rattle.layouts.specs.Layouts.{isPosition}
 use Rattle.layouts.specs.Status.{isStatusType}
-use Rattle.layouts.specs.Bodies.{typeIn, taken, flagIn, bodyType, flagOf, bodyMe, bodyFits}
+use Rattle.layouts.specs.Bodies.{typeBy, takenBy, flagIn, bodyCoarse, bodyType, flagOf, stationOf, bodyMe, bodyFits}
 use Rattle.layouts.specs.declared.bodies.Taken.{Taken}
 use Rattle.layouts.specs.declared.bodies.Taken.the-variants as read
 use Rattle.messages.specs.declared.Message.{Message}
@@ -24,17 +24,25 @@ use Rattle.messages.specs.declared.Decoded.the-variants as decode
 abbrev pub bits : ℕ → ℕ → List ℕ → ℕ
 bits from to s = field 112 from to (number s)
 
--- taken: DF 17 with any CA, and DF 18 with CF 0, 1, 2 or 5
+-- taken: DF 17 with any CA, and DF 18 with CF 0, 1, 2, 3 or 5
 abbrev pub formatTaken : ℕ → ℕ → Bool
-formatTaken format control = eqb format 17 || (eqb format 18 && (leb control 2 || eqb control 5))
+formatTaken format control = eqb format 17 || (eqb format 18 && (leb control 3 || eqb control 5))
 
--- sent by a ground station's traffic service: DF 18 with CF 2 or 5
+-- a coarse message: DF 18 with CF 3
+abbrev pub coarseBy : ℕ → ℕ → Bool
+coarseBy format control = eqb format 18 && eqb control 3
+
+-- sent by a ground station's traffic service: DF 18 with CF 2, 3 or 5
 abbrev pub trafficBy : ℕ → ℕ → Bool
-trafficBy format control = eqb format 18 && (eqb control 2 || eqb control 5)
+trafficBy format control = eqb format 18 && (eqb control 2 || eqb control 3 || eqb control 5)
 
--- reserved: CF 5 with the flag set; and status, TYPE 31, of the traffic service, whatever its subtype
+-- reserved: CF 5 with the flag set; and status, TYPE 31, of the traffic service, whatever its subtype. Of a coarse message, which has no TYPE, nothing is
 abbrev pub isReserved : ℕ → ℕ → ℕ → ℕ → Bool
 isReserved format control type flag = (eqb format 18 && eqb control 5 && eqb flag 1) || (trafficBy format control && isStatusType type)
+
+-- .. by ME
+abbrev pub reservedIn : ℕ → ℕ → ℕ → Bool
+reservedIn format control me = isReserved format control (typeBy (coarseBy format control) me) (flagIn (coarseBy format control) me)
 
 -- ---- decoding
 
@@ -47,8 +55,8 @@ withBody format control address (read.Refused r) = decode.Refused r
 unfoldable pub opened : ℕ → ℕ → ℕ → ℕ → Decoded
 opened format control address me =
     cond (not (formatTaken format control)) (decode.Refused Format)
-    (cond (isReserved format control (typeIn me) (flagIn me)) (decode.Refused TypeCode)
-    (withBody format control address (taken me)))
+    (cond (reservedIn format control me) (decode.Refused TypeCode)
+    (withBody format control address (takenBy (coarseBy format control) me)))
 
 -- 1, then 3, then 4 and 5. DF is bits 1-5, CA or CF 6-8, AA 9-32, ME 33-88
 abbrev pub decoded : List ℕ → Decoded
@@ -59,36 +67,41 @@ decoded s =
 
 -- ---- the key of a track
 
--- DF 18. O: CF 1. T: CF 2 without the flag, and M with it. N: CF 5. I: CF 0
-abbrev pub kindBy : ℕ → ℕ → Kind
-kindBy control flag =
+-- DF 18. O: CF 1. T: CF 2 without the flag, and M with it. C: CF 3, with the flag and the station. N: CF 5. I: CF 0
+abbrev pub kindBy : ℕ → ℕ → ℕ → Kind
+kindBy control flag station =
     cond (eqb control 1) O
     (cond (eqb control 2) (cond (eqb flag 0) T M)
-    (cond (eqb control 5) N I))
+    (cond (eqb control 3) (C flag station)
+    (cond (eqb control 5) N I)))
 
 -- I: DF 17 too, whatever its CA and the bit that would be the flag
-unfoldable pub kindOf : ℕ → ℕ → ℕ → Kind
-kindOf format control flag = cond (eqb format 18) (kindBy control flag) I
+unfoldable pub kindOf : ℕ → ℕ → ℕ → ℕ → Kind
+kindOf format control flag station = cond (eqb format 18) (kindBy control flag station) I
 
 -- AA with its kind
-abbrev pub keyBy : ℕ → ℕ → ℕ → ℕ → ℕ
-keyBy format control flag address = keyFor (kindOf format control flag) address
+abbrev pub keyBy : ℕ → ℕ → ℕ → ℕ → ℕ → ℕ
+keyBy format control flag station address = keyFor (kindOf format control flag station) address
+
+-- the kind of a message, by the flag and the station of its body
+abbrev pub messageKind : Message → Kind
+messageKind m = kindOf (m .format) (m .control) (flagOf (m .body)) (stationOf (m .body))
 
 abbrev pub keyOf : Message → ℕ
-keyOf m = keyBy (m .format) (m .control) (flagOf (m .body)) (m .address)
+keyOf m = keyFor (messageKind m) (m .address)
 
--- whether the traffic service sent it: by its kind, T, M or N, which is by DF and CF alone
+-- whether the traffic service sent it: by its kind, T, M, N or C, which is by DF and CF alone
 abbrev pub traffic : Message → Bool
-traffic m = isTraffic (kindOf (m .format) (m .control) (flagOf (m .body)))
+traffic m = isTraffic (messageKind m)
 
 -- ---- what may start a track
 
--- by TYPE: of the traffic service position messages alone, of others all but 0, which only ever adds to a track that is held
-abbrev pub startsBy : Bool → ℕ → Bool
-startsBy served type = cond served (isPosition type) (not (eqb type 0))
+-- a coarse message, which has a position; by TYPE of the traffic service's others position messages alone, and of all others all but 0, which only ever adds to a track that is held
+abbrev pub startsBy : Bool → Bool → ℕ → Bool
+startsBy coarse served type = coarse || cond served (isPosition type) (not (eqb type 0))
 
 abbrev pub starts : Message → Bool
-starts m = startsBy (traffic m) (bodyType (m .body))
+starts m = startsBy (coarseBy (m .format) (m .control)) (traffic m) (bodyType (m .body))
 
 -- ---- the bytes that say a message
 
@@ -99,9 +112,16 @@ headWidths = 5 ∷ 3 ∷ 24 ∷ []
 abbrev pub headFields : Message → List ℕ
 headFields m = m .format ∷ m .control ∷ m .address ∷ []
 
--- whether DF and CF are taken, and neither the flag nor TYPE is reserved
+-- both or neither
+abbrev pub agree : Bool → Bool → Bool
+agree a b = cond a b (not b)
+
+-- whether DF and CF are taken, neither the flag nor TYPE is reserved, and the body is a coarse one just where DF and CF say so
 abbrev pub headTaken : Message → Bool
-headTaken m = formatTaken (m .format) (m .control) && not (isReserved (m .format) (m .control) (bodyType (m .body)) (flagOf (m .body)))
+headTaken m =
+    formatTaken (m .format) (m .control)
+    && not (isReserved (m .format) (m .control) (bodyType (m .body)) (flagOf (m .body)))
+    && agree (coarseBy (m .format) (m .control)) (bodyCoarse (m .body))
 
 -- whether each field fits its bits, in a message that would earn neither 4 nor 5
 abbrev pub messageFits : Message → Bool

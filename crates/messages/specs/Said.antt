@@ -7,12 +7,14 @@ use lib.ListN.{length}
 use Rattle.refusals.specs.Numbers.{numberOf}
 use Rattle.refusals.specs.Said.{Said, number, gives}
 use Rattle.fields.specs.Packing.{unpack}
-use Rattle.keys.specs.Keys.{isTraffic}
+use Rattle.keys.specs.Keys.{keyFor, isTraffic}
+use Rattle.keys.specs.declared.Kind.{Kind}
 use Rattle.parity.specs.Parity.{remainder}
 use Rattle.layouts.specs.Bodies.{layoutAt, isTaken, flagBy, layoutWidths, bodyLayout, bodyFields}
 use Rattle.layouts.specs.Said.{Values, values}
 use Rattle.layouts.specs.declared.bodies.Layout.{Layout}
-use Rattle.messages.specs.Message.{bits, formatTaken, isReserved, kindOf, keyBy, startsBy, headWidths, headFields}
+use Rattle.layouts.specs.declared.bodies.Layout.the-variants as layout
+use Rattle.messages.specs.Message.{bits, formatTaken, coarseBy, isReserved, kindOf, startsBy, headWidths, headFields}
 use Rattle.messages.specs.declared.Accepted.{Accepted}
 use Rattle.messages.specs.declared.Accepted.the-variants as accept
 use Rattle.messages.specs.declared.Decoded.{Decoded}
@@ -42,25 +44,40 @@ earns3 s = not (eqb (remainder s) 0)
 abbrev pub earns4 : List ℕ → Bool
 earns4 s = not (formatTaken (bits 1 5 s) (bits 6 8 s))
 
--- the layout of ME: TYPE is bits 33-37 of the message, the subtype bits 38-40
+-- a coarse message, by DF and CF
+abbrev pub coarseAt : List ℕ → Bool
+coarseAt s = coarseBy (bits 1 5 s) (bits 6 8 s)
+
+-- the layout of ME: that of a coarse message; of others TYPE is bits 33-37 of the message, the subtype bits 38-40
 abbrev pub layoutIn : List ℕ → Layout
-layoutIn s = layoutAt (bits 33 37 s) (bits 38 40 s)
+layoutIn s = cond (coarseAt s) layout.Coarse (layoutAt (bits 33 37 s) (bits 38 40 s))
 
--- the flag: bit 53 of the message on the surface, 40 in the air, 41 of a velocity
+-- TYPE; a coarse message has none, which counts as 0
+abbrev pub typeAt : List ℕ → ℕ
+typeAt s = cond (coarseAt s) 0 (bits 33 37 s)
+
+-- the flag: bit 33 of a coarse message, 53 on the surface, 40 in the air, 41 of a velocity
 abbrev pub flagAt : List ℕ → ℕ
-flagAt s = flagBy (layoutIn s) (bits 53 53 s) (bits 40 40 s) (bits 41 41 s)
+flagAt s = flagBy (layoutIn s) (bits 33 33 s) (bits 53 53 s) (bits 40 40 s) (bits 41 41 s)
 
--- 5: TYPE or subtype not taken, or CF 5 with the flag set, or TYPE 31 under CF 2 or 5
+-- the station: bits 36-39 of a coarse message
+abbrev pub stationAt : List ℕ → ℕ
+stationAt s = cond (coarseAt s) (bits 36 39 s) 0
+
+-- 5: TYPE or subtype not taken, or CF 5 with the flag set, or TYPE 31 under CF 2 or 5; never CF 3
 abbrev pub earns5 : List ℕ → Bool
-earns5 s = not (isTaken (layoutIn s)) || isReserved (bits 1 5 s) (bits 6 8 s) (bits 33 37 s) (flagAt s)
+earns5 s = not (isTaken (layoutIn s)) || isReserved (bits 1 5 s) (bits 6 8 s) (typeAt s) (flagAt s)
 
--- the key of the message's track
+-- the kind of the message's track, and the key
+abbrev pub kindAt : List ℕ → Kind
+kindAt s = kindOf (bits 1 5 s) (bits 6 8 s) (flagAt s) (stationAt s)
+
 abbrev pub keyIn : List ℕ → ℕ
-keyIn s = keyBy (bits 1 5 s) (bits 6 8 s) (flagAt s) (bits 9 32 s)
+keyIn s = keyFor (kindAt s) (bits 9 32 s)
 
 -- whether the message may start a track
 abbrev pub startsIn : List ℕ → Bool
-startsIn s = startsBy (isTraffic (kindOf (bits 1 5 s) (bits 6 8 s) (flagAt s))) (bits 33 37 s)
+startsIn s = startsBy (coarseAt s) (isTraffic (kindAt s)) (typeAt s)
 
 -- the layout, and all fields of the bits before PI by its widths
 abbrev pub valuesIn : List ℕ → Values

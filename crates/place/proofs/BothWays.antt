@@ -12,12 +12,14 @@ use lib.ListN.{length, getD}
 use borrow.Author.Tests.{le-leb, lt-ltb}
 use Rattle.fields.specs.Bytes.{Bytes}
 use Rattle.memory.specs.Offsets.{heardAt, identificationAt, velocityAt, surfaceAt, statusAt, marksAt, latitudeAt, longitudeAt, timeAt, savedTimeAt, evenAt, oddAt}
+use Rattle.positions.specs.Positions.{countSize}
 use Rattle.whereabouts.specs.declared.Saved.{Saved}
+use Rattle.whereabouts.specs.Located.{sizeOf}
 use Rattle.track.specs.declared.Track.{Track}
 use Rattle.track.specs.Track.{noSaved}
 use Rattle.track.specs.Meaning.{meantGroups, meantPosition, meantSaved, meant}
 use Rattle.memory.specs.Bytes.{numberAt, lowBytes}
-use Rattle.place.specs.Place.{savedFrom, groupsIn, positionIn, writtenIn, trackOf, bit, abovePole, marksOf, savedNumber, savedBytes, messageBytes, spotBytes, bodyOf, FitsSaved, FitsGroups, FitsPosition, Fits}
+use Rattle.place.specs.Place.{countIn, coarseIn, savedFrom, groupsIn, positionIn, writtenIn, trackOf, bit, abovePole, marksOf, savedNumber, savedBytes, messageBytes, spotBytes, bodyOf, FitsSaved, FitsGroups, FitsPosition, Fits}
 use Rattle.keys.specs.Keys.{isKey}
 use Rattle.memory.specs.Ranges.{inRange, held}
 use Rattle.memory.proofs.Numbers.{read-back, number-lt}
@@ -85,30 +87,46 @@ eqb-bit : (k : Bool) → eqb (bit k) 1 ≡ k
 eqb-bit true = refl
 eqb-bit false = refl
 
-saved-parts : (a b : ℕ) (k : Bool) → a < 2 ^ 17 → b < 2 ^ 17
-    → let n = (a % 131072 + b % 131072 * 131072 + bit k * 17179869184) % 2 ^ 40 in
-    (n % 131072 ≡ a) × ((n / 131072 % 131072 ≡ b) × (n / 17179869184 % 2 ≡ bit k))
-saved-parts a b true p q = (omega arith, (omega arith, omega arith))
-saved-parts a b false p q = (omega arith, (omega arith, omega arith))
-
 bit-lt : (k : Bool) → bit k < 2
 bit-lt true = omega arith
 bit-lt false = omega arith
 
--- the five values of the marks
-module _ (a b k c d : ℕ) (ha : a < 2 ^ 12) (hb : b < 2 ^ 12) (hk : k < 2) (hc : c < 2 ^ 5) (hd : d < 2) where
+-- two counts and two marks
+module _ (a b k c : ℕ) (ha : a < 2 ^ 17) (hb : b < 2 ^ 17) (hk : k < 2) (hc : c < 2) where
+  abbrev four : ℕ
+  four = (a % 131072 + b % 131072 * 131072 + k * 17179869184 + c * 34359738368) % 2 ^ 40
+
+  saved-marks : (four / 17179869184 % 2 ≡ k) × (four / 34359738368 % 2 ≡ c)
+  saved-marks = (omega arith, omega arith)
+
+  saved-counts : (coarse : Bool) → a < countSize (sizeOf coarse) → b < countSize (sizeOf coarse) → (countIn coarse four ≡ a) × (countIn coarse (four / 131072) ≡ b)
+  saved-counts true p q = (omega arith, omega arith)
+  saved-counts false p q = (omega arith, omega arith)
+
+-- the six values of the marks
+module _ (a b k c d e : ℕ) (ha : a < 2 ^ 12) (hb : b < 2 ^ 12) (hk : k < 2) (hc : c < 2 ^ 5) (hd : d < 2) (he : e < 2) where
   abbrev whole : ℕ
-  whole = (a % 4096 + b % 4096 * 4096 + k * 16777216 + c % 32 * 33554432 + d * 1073741824) % 2 ^ 32
+  whole = (a % 4096 + b % 4096 * 4096 + k * 16777216 + c % 32 * 33554432 + d * 1073741824 + e * 2147483648) % 2 ^ 32
 
   marks-parts : (whole % 4096 ≡ a)
-      × ((whole / 4096 % 4096 ≡ b) × ((whole / 16777216 % 2 ≡ k) × ((whole / 33554432 % 32 ≡ c) × (whole / 1073741824 % 2 ≡ d))))
-  marks-parts = (omega arith, (omega arith, (omega arith, (omega arith, omega arith))))
+      × ((whole / 4096 % 4096 ≡ b) × ((whole / 16777216 % 2 ≡ k) × ((whole / 33554432 % 32 ≡ c) × ((whole / 1073741824 % 2 ≡ d) × (whole / 2147483648 % 2 ≡ e)))))
+  marks-parts = (omega arith, (omega arith, (omega arith, (omega arith, (omega arith, omega arith)))))
+
+-- a coarse count has 17 bits too
+seventeen : (coarse : Bool) (n : ℕ) → n < countSize (sizeOf coarse) → n < 2 ^ 17
+seventeen true n h = omega arith
+seventeen false n h = omega arith
 
 saved-back : (v : Saved) → FitsSaved v → savedFrom (savedNumber v % 2 ^ 40) (v .time % 2 ^ 64) ≡ v
 unfolding savedFrom savedNumber
 saved-back v f =
-    let e = saved-parts (v .counts .latitude .0) (v .counts .longitude .0) (v .known) (f .latitude) (f .longitude) in
-    rw (e .0, e .1 .0, e .1 .1, eqb-bit (v .known), mod-eq-of-lt (f .time))
+    let a = v .counts .latitude .0 in
+    let b = v .counts .longitude .0 in
+    let ha = seventeen (v .coarse) a (f .latitude) in
+    let hb = seventeen (v .coarse) b (f .longitude) in
+    let m = saved-marks a b (bit (v .known)) (bit (v .coarse)) ha hb (bit-lt (v .known)) (bit-lt (v .coarse)) in
+    let e = saved-counts a b (bit (v .known)) (bit (v .coarse)) ha hb (bit-lt (v .known)) (bit-lt (v .coarse)) (v .coarse) (f .latitude) (f .longitude) in
+    rw (m .0, m .1, eqb-bit (v .known), eqb-bit (v .coarse), e .0, e .1, mod-eq-of-lt (f .time))
 
 two-of : (xs : List Saved) → length xs ≡ 2 → getD xs 0 noSaved ∷ getD xs 1 noSaved ∷ [] ≡ xs
 two-of [] e = let z : ⊥ = omega arith in absurd z
@@ -123,18 +141,19 @@ module _ (t : Track) (f : Fits t) where
       (n % 4096 ≡ t .groups .pressure)
       × ((n / 4096 % 4096 ≡ t .groups .height)
       × ((n / 16777216 % 2 ≡ bit (t .position .known))
-      × ((n / 33554432 % 32 ≡ t .groups .typecode) × (n / 1073741824 % 2 ≡ bit (t .groups .bit8)))))
+      × ((n / 33554432 % 32 ≡ t .groups .typecode)
+      × ((n / 1073741824 % 2 ≡ bit (t .groups .bit8)) × (n / 2147483648 % 2 ≡ bit (t .groups .coarse))))))
   unfolding marksOf
   marks-back =
       let g = f .groups in
-      marks-parts _ _ _ _ _ (g .pressure) (g .height) (bit-lt (t .position .known)) (g .typecode) (bit-lt (t .groups .bit8))
+      marks-parts _ _ _ _ _ _ (g .pressure) (g .height) (bit-lt (t .position .known)) (g .typecode) (bit-lt (t .groups .bit8)) (bit-lt (t .groups .coarse))
 
   groups-back : groupsIn (bodyOf t) ≡ t .groups
   unfolding groupsIn
   groups-back =
       let g = f .groups in
       let e = marks-back in
-      rw (at-identification t, at-velocity t, at-surface t, at-status t, at-marks t, e .0, e .1 .0, e .1 .1 .1 .0, e .1 .1 .1 .1, eqb-bit (t .groups .bit8), mod-eq-of-lt (g .identification), mod-eq-of-lt (g .velocity), mod-eq-of-lt (g .surface), mod-eq-of-lt (g .status))
+      rw (at-identification t, at-velocity t, at-surface t, at-status t, at-marks t, e .0, e .1 .0, e .1 .1 .1 .0, e .1 .1 .1 .1 .0, e .1 .1 .1 .1 .1, eqb-bit (t .groups .bit8), eqb-bit (t .groups .coarse), mod-eq-of-lt (g .identification), mod-eq-of-lt (g .velocity), mod-eq-of-lt (g .surface), mod-eq-of-lt (g .status))
 
   position-back : positionIn (bodyOf t) ≡ t .position
   unfolding positionIn
@@ -171,9 +190,13 @@ module _ (t : Track) (f : Fits t) where
 
 -- ---- any bytes read as a track that fits
 
+count-lt : (coarse : Bool) (n : ℕ) → countIn coarse n < countSize (sizeOf coarse)
+count-lt true n = omega arith
+count-lt false n = omega arith
+
 saved-fits : (n time : ℕ) → time < 2 ^ 64 → FitsSaved (meantSaved (savedFrom n time))
 unfolding savedFrom
-saved-fits n time h = saved-meant-fits (savedFrom n time) (omega arith) (omega arith) h
+saved-fits n time h = saved-meant-fits (savedFrom n time) (count-lt (coarseIn n) n) (count-lt (coarseIn n) (n / 131072)) h
 
 module _ (p : List ℕ) (h : Bytes p) where
   groups-fit : FitsGroups (meantGroups (groupsIn p))

@@ -6,10 +6,10 @@ use mathlib.Core.Bool.{Bool, true, cond}
 use mathlib.Core.List.{List}
 use native.Mathlib.Omega.{arith}
 use Rattle.fields.proofs.Bools.{by-test}
-use Rattle.positions.specs.Positions.{poleToPole}
+use Rattle.positions.specs.Positions.{countSize, poleToPole}
 use Rattle.whereabouts.specs.declared.Position.{Position}
 use Rattle.whereabouts.specs.declared.Saved.{Saved}
-use Rattle.whereabouts.specs.Located.{noPosition}
+use Rattle.whereabouts.specs.Located.{noPosition, sizeOf}
 use Rattle.track.specs.declared.Groups.{Groups}
 use Rattle.track.specs.Track.{noSaved}
 use Rattle.track.specs.Meaning.{givesIdentification, givesVelocity, givesSurface, givesStatus, meantGroups, meantPosition, meantSaved, NothingForeign}
@@ -42,7 +42,7 @@ unfolding meantGroups
 groups-meant-fits g a b c s d e t =
     record {
       identification = heard-lt (givesIdentification (g .identification)) (g .identification) a;
-      velocity = heard-lt (givesVelocity (g .velocity)) (g .velocity) b;
+      velocity = heard-lt (givesVelocity (g .coarse) (g .velocity)) (g .velocity) b;
       surface = heard-lt (givesSurface (g .surface)) (g .surface) c;
       status = heard-lt (givesStatus (g .status)) (g .status) s;
       pressure = d;
@@ -51,7 +51,8 @@ groups-meant-fits g a b c s d e t =
       meant = groups-twice g;
     }
 
-pub saved-meant-fits : (v : Saved) → v .counts .latitude .0 < 2 ^ 17 → v .counts .longitude .0 < 2 ^ 17 → v .time < 2 ^ 64 → FitsSaved (meantSaved v)
+pub saved-meant-fits : (v : Saved) → v .counts .latitude .0 < countSize (sizeOf (v .coarse)) → v .counts .longitude .0 < countSize (sizeOf (v .coarse))
+    → v .time < 2 ^ 64 → FitsSaved (meantSaved v)
 unfolding meantSaved
 saved-meant-fits v a b c =
     by-test FitsSaved (v .known) v noSaved

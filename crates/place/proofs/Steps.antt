@@ -15,7 +15,8 @@ use Rattle.refusals.specs.Numbers.{numberOf}
 use Rattle.fields.proofs.Bools.{each, by-test}
 use Rattle.positions.specs.declared.Counts.{Counts}
 use Rattle.positions.specs.declared.Spot.{Spot}
-use Rattle.positions.specs.declared.Size.the-variants.{Fine}
+use Rattle.positions.specs.declared.Size.{Size}
+use Rattle.positions.specs.declared.Size.the-variants.{Fine, Coarse}
 use Rattle.positions.specs.declared.Turn.{Turn}
 use Rattle.positions.specs.declared.Turn.the-variants as turn
 use Rattle.positions.specs.declared.Format.{Format}
@@ -24,6 +25,7 @@ use Rattle.positions.specs.declared.Found.{Found}
 use Rattle.positions.specs.declared.Found.the-variants.{At, Refused}
 use Rattle.positions.specs.Positions.{
   units,
+  countSize,
   latitudeZones,
   allRound,
   poleToPole,
@@ -61,9 +63,8 @@ use Rattle.whereabouts.specs.declared.Saved.{Saved}
 use Rattle.whereabouts.specs.declared.Site.{Site}
 use Rattle.track.specs.declared.Stepped.{Stepped}
 use Rattle.track.specs.declared.Track.{Track}
-use Rattle.track.specs.Groups.{high, atPressure, reported, atHeight, positioned}
+use Rattle.track.specs.Groups.{moving, high, atPressure, reported, atHeight, positioned}
 use Rattle.whereabouts.specs.Located.{
-  isWithin,
   isFresh,
   foundAt,
   passedOn,
@@ -72,11 +73,13 @@ use Rattle.whereabouts.specs.Located.{
   readSingly,
   pairedWith,
   afterPair,
+  sizeOf,
+  isPartner,
   airbornePosition,
   surfacePosition,
 }
-use Rattle.track.specs.Track.{noSaved, newTrack, formatOf, placedOr, countsIn, groupTrack, airborneTrack, surfaceTrack, stepBody, stepped}
-use Rattle.track.specs.Meaning.{givesSurface, meantGroups, meantPosition, meantSaved}
+use Rattle.track.specs.Track.{noSaved, newTrack, formatOf, placedOr, countsIn, groupTrack, savedTrack, surfaceTrack, stepBody, stepped}
+use Rattle.track.specs.Meaning.{givesVelocity, givesSurface, meantGroups, meantPosition, meantSaved}
 use Rattle.track.proofs.Meanings.{gives-identification, gives-surface, gives-ground, gives-air, gives-status, identified-meant, moving-meant, surface-meant, stating-meant, pressure-meant, height-meant, positioned-meant}
 use Rattle.place.specs.Place.{FitsSaved, FitsGroups, FitsPosition, Fits}
 use Rattle.place.proofs.Meaning.{none-fits, no-position-fits}
@@ -108,37 +111,37 @@ abbrev PolarFound : Found → Type 0
 PolarFound (At s) = poleToPole (s .latitude) ≡ true
 PolarFound (Refused r) = Unit
 
-pair-inside : (f : Format) (a b : ℕ) → (inside (60 * 131072) (pairLatitude 131072 Even a b) && inside (59 * 131072) (pairLatitude 131072 Odd a b)) ≡ true
-    → poleToPole (rounded (latitudeZones f * 131072) (pairLatitude 131072 f a b)) ≡ true
-pair-inside Even a b e = rounded-pole (60 * 131072) (pairLatitude 131072 Even a b) (omega arith) (each (inside (60 * 131072) (pairLatitude 131072 Even a b)) _ e .0)
-pair-inside Odd a b e = rounded-pole (59 * 131072) (pairLatitude 131072 Odd a b) (omega arith) (each (inside (60 * 131072) (pairLatitude 131072 Even a b)) _ e .1)
+pair-inside : (P : ℕ) → 0 < P → (f : Format) (a b : ℕ) → (inside (60 * P) (pairLatitude P Even a b) && inside (59 * P) (pairLatitude P Odd a b)) ≡ true
+    → poleToPole (rounded (latitudeZones f * P) (pairLatitude P f a b)) ≡ true
+pair-inside P some Even a b e = rounded-pole (60 * P) (pairLatitude P Even a b) (omega arith) (each (inside (60 * P) (pairLatitude P Even a b)) _ e .0)
+pair-inside P some Odd a b e = rounded-pole (59 * P) (pairLatitude P Odd a b) (omega arith) (each (inside (60 * P) (pairLatitude P Even a b)) _ e .1)
 
-paired-polar : (even odd : Counts) (later : Format) → PolarFound (paired 131072 even odd later)
+paired-polar : (P : ℕ) → 0 < P → (even odd : Counts) (later : Format) → PolarFound (paired P even odd later)
 unfolding pairFound pairSpot
-paired-polar even odd later =
+paired-polar P some even odd later =
     let a = even .latitude .0 in
     let b = odd .latitude .0 in
-    by-test PolarFound (fit 131072 even && fit 131072 odd) (pairFound 131072 even odd later) (Refused Field)
+    by-test PolarFound (fit P even && fit P odd) (pairFound P even odd later) (Refused Field)
     (λ _.
-    by-test PolarFound (inside (60 * 131072) (pairLatitude 131072 Even a b) && inside (59 * 131072) (pairLatitude 131072 Odd a b)) _ (Refused Latitude)
-    (λ e. by-test PolarFound (eqb (pairNL 131072 Even a b) (pairNL 131072 Odd a b)) _ (Refused Zones) (λ _. pair-inside later a b e) (λ _. tt))
+    by-test PolarFound (inside (60 * P) (pairLatitude P Even a b) && inside (59 * P) (pairLatitude P Odd a b)) _ (Refused Latitude)
+    (λ e. by-test PolarFound (eqb (pairNL P Even a b) (pairNL P Odd a b)) _ (Refused Zones) (λ _. pair-inside P some later a b e) (λ _. tt))
     (λ _. tt))
     (λ _. tt)
 
-zones-pos : (k : Turn) (f : Format) → 0 < allRound k (latitudeZones f) * 131072
+zones-pos : (P : ℕ) → 0 < P → (k : Turn) (f : Format) → 0 < allRound k (latitudeZones f) * P
 unfolding allRound
-zones-pos turn.Airborne Even = omega arith
-zones-pos turn.Airborne Odd = omega arith
-zones-pos turn.Surface Even = omega arith
-zones-pos turn.Surface Odd = omega arith
+zones-pos P some turn.Airborne Even = omega arith
+zones-pos P some turn.Airborne Odd = omega arith
+zones-pos P some turn.Surface Even = omega arith
+zones-pos P some turn.Surface Odd = omega arith
 
-singly-polar : (s : Spot) (c : Counts) (k : Turn) (f : Format) → PolarFound (singly 131072 s c k f)
+singly-polar : (P : ℕ) → 0 < P → (s : Spot) (c : Counts) (k : Turn) (f : Format) → PolarFound (singly P s c k f)
 unfolding nearFound nearSpot
-singly-polar s c k f =
+singly-polar P some s c k f =
     let N = allRound k (latitudeZones f) in
-    let r = near 131072 N (s .latitude) (c .latitude .0) in
-    by-test PolarFound (fit 131072 c && poleToPole (s .latitude)) (nearFound 131072 N s c k f) (Refused Field)
-    (λ _. by-test PolarFound (inside (N * 131072) r) _ (Refused Latitude) (λ e. rounded-pole (N * 131072) r (zones-pos k f) e) (λ _. tt))
+    let r = near P N (s .latitude) (c .latitude .0) in
+    by-test PolarFound (fit P c && poleToPole (s .latitude)) (nearFound P N s c k f) (Refused Field)
+    (λ _. by-test PolarFound (inside (N * P) r) _ (Refused Latitude) (λ e. rounded-pole (N * P) r (zones-pos P some k f) e) (λ _. tt))
     (λ _. tt)
 
 -- the spot that is found fits its bytes: from pole to pole, and short of a turn
@@ -150,21 +153,29 @@ abbrev FitsFound : Found → Type 0
 FitsFound (At s) = FitsSpot s
 FitsFound (Refused r) = Unit
 
-spot-fits : (N r u : ℕ) (found : Found) → PolarFound found → HandedBy 131072 N r (suc u) found → FitsFound found
-spot-fits N r u (At s) p h = record { latitude = p; longitude = omega arith }
-spot-fits N r u (Refused e) p h = tt
+spot-fits : (P N r u : ℕ) (found : Found) → PolarFound found → HandedBy P N r (suc u) found → FitsFound found
+spot-fits P N r u (At s) p h = record { latitude = p; longitude = omega arith }
+spot-fits P N r u (Refused e) p h = tt
 
-paired-fits : (even odd : Counts) (later : Format) → FitsFound (paired 131072 even odd later)
-paired-fits even odd later =
-    spot-fits (pairZones 131072 even odd later) (pairExact 131072 even odd later) 0 (paired 131072 even odd later)
-    (paired-polar even odd later)
-    (paired-handed 131072 0 (omega arith) even odd later)
+size-some : (size : Size) → 0 < countSize size
+size-some Fine = omega arith
+size-some Coarse = omega arith
 
-singly-fits : (s : Spot) (c : Counts) (k : Turn) (f : Format) → FitsFound (singly 131072 s c k f)
-singly-fits s c k f =
-    spot-fits (singleZones 131072 s c k f) (singleExact 131072 s c k f) (lastShort Fine k - 1) (singly 131072 s c k f)
-    (singly-polar s c k f)
-    (singly-handed 131072 (lastShort Fine k - 1) k (last-room Fine k) (omega arith) s c f)
+paired-fits : (size : Size) (even odd : Counts) (later : Format) → FitsFound (paired (countSize size) even odd later)
+unfolding allRound
+paired-fits size even odd later =
+    let P = countSize size in
+    let u : ℕ = lastShort size turn.Airborne - 1 in
+    spot-fits P (pairZones P even odd later) (pairExact P even odd later) u (paired P even odd later)
+    (paired-polar P (size-some size) even odd later)
+    (paired-handed P u (last-room size turn.Airborne) even odd later)
+
+singly-fits : (size : Size) (s : Spot) (c : Counts) (k : Turn) (f : Format) → FitsFound (singly (countSize size) s c k f)
+singly-fits size s c k f =
+    let P = countSize size in
+    spot-fits P (singleZones P s c k f) (singleExact P s c k f) (lastShort size k - 1) (singly P s c k f)
+    (singly-polar P (size-some size) s c k f)
+    (singly-handed P (lastShort size k - 1) k (last-room size k) (size-some size) s c f)
 
 -- ---- the position
 
@@ -188,40 +199,40 @@ module _ (p : Position) (fits : FitsPosition p) (time : ℕ) (h : time < 2 ^ 64)
   settled-fits (At s) e = found-fits s e
   settled-fits (Refused r) e = passed-on-fits r (placed.At p) fits
 
-  module _ (counts : Counts) (format : Format) where
-    read-near-fits : (reference : Spot) (k : Turn) → FitsPlaced (readNear reference p counts k format time)
+  module _ (size : Size) (counts : Counts) (format : Format) where
+    read-near-fits : (reference : Spot) (k : Turn) → FitsPlaced (readNear reference p size counts k format time)
     unfolding readNear
-    read-near-fits reference k = settled-fits (singly 131072 reference counts k format) (singly-fits reference counts k format)
+    read-near-fits reference k = settled-fits (singly (countSize size) reference counts k format) (singly-fits size reference counts k format)
 
-    read-singly-fits : FitsPlaced (readSingly p counts format time)
+    read-singly-fits : FitsPlaced (readSingly p size counts format time)
     unfolding readSingly
     read-singly-fits = by-test FitsPlaced (isFresh p time) _ (placed.At p) (λ _. read-near-fits (p .spot) turn.Airborne) (λ _. fits)
 
-    after-pair-fits : (found : Found) → FitsFound found → FitsPlaced (afterPair found p counts format time)
+    after-pair-fits : (found : Found) → FitsFound found → FitsPlaced (afterPair found p size counts format time)
     after-pair-fits (At s) e = found-fits s e
-    after-pair-fits (Refused r) e = passed-on-fits r (readSingly p counts format time) read-singly-fits
+    after-pair-fits (Refused r) e = passed-on-fits r (readSingly p size counts format time) read-singly-fits
 
-  paired-with-fits : (partner counts : Counts) (format : Format) → FitsFound (pairedWith partner counts format)
+  paired-with-fits : (partner : Counts) (size : Size) (counts : Counts) (format : Format) → FitsFound (pairedWith partner size counts format)
   unfolding pairedWith
-  paired-with-fits partner counts Even = paired-fits counts partner Even
-  paired-with-fits partner counts Odd = paired-fits partner counts Odd
+  paired-with-fits partner size counts Even = paired-fits size counts partner Even
+  paired-with-fits partner size counts Odd = paired-fits size partner counts Odd
 
-  airborne-placed : (partner : Saved) (counts : Counts) (format : Format) → FitsPlaced (airbornePosition p partner counts format time)
+  airborne-placed : (partner : Saved) (size : Size) (counts : Counts) (format : Format) → FitsPlaced (airbornePosition p partner size counts format time)
   unfolding airbornePosition
-  airborne-placed partner counts format =
-      by-test FitsPlaced (partner .known && isWithin 10000 time (partner .time)) _ _
-      (λ _. after-pair-fits counts format (pairedWith (partner .counts) counts format) (paired-with-fits (partner .counts) counts format))
-      (λ _. read-singly-fits counts format)
+  airborne-placed partner size counts format =
+      by-test FitsPlaced (isPartner partner size time) _ _
+      (λ _. after-pair-fits size counts format (pairedWith (partner .counts) size counts format) (paired-with-fits (partner .counts) size counts format))
+      (λ _. read-singly-fits size counts format)
 
   surface-placed : (site : Site) (counts : Counts) (format : Format) → FitsPlaced (surfacePosition p site counts format time)
   unfolding surfacePosition
   surface-placed site counts format =
       by-test FitsPlaced (isFresh p time) _ _
-      (λ _. read-near-fits counts format (p .spot) turn.Surface)
-      (λ _. by-test FitsPlaced (site .known) _ (placed.At p) (λ _. read-near-fits counts format (site .spot) turn.Surface) (λ _. fits))
+      (λ _. read-near-fits Fine counts format (p .spot) turn.Surface)
+      (λ _. by-test FitsPlaced (site .known) _ (placed.At p) (λ _. read-near-fits Fine counts format (site .spot) turn.Surface) (λ _. fits))
 
-  airborne-fits : (partner : Saved) (counts : Counts) (format : Format) → FitsPosition (placedOr (airbornePosition p partner counts format time) p)
-  airborne-fits partner counts format = placed-or-fits (airbornePosition p partner counts format time) p (airborne-placed partner counts format) fits
+  airborne-fits : (partner : Saved) (size : Size) (counts : Counts) (format : Format) → FitsPosition (placedOr (airbornePosition p partner size counts format time) p)
+  airborne-fits partner size counts format = placed-or-fits (airbornePosition p partner size counts format time) p (airborne-placed partner size counts format) fits
 
   surface-fits : (site : Site) (counts : Counts) (format : Format) → FitsPosition (placedOr (surfacePosition p site counts format time) p)
   surface-fits site counts format = placed-or-fits (surfacePosition p site counts format time) p (surface-placed site counts format) fits
@@ -233,9 +244,10 @@ record FitsTwo (xs : List Saved) : Type 0 where
   even : FitsSaved (getD xs 0 noSaved)
   odd : FitsSaved (getD xs 1 noSaved)
 
-taken-fits : (c : Counts) (time : ℕ) → c .latitude .0 < 2 ^ 17 → c .longitude .0 < 2 ^ 17 → time < 2 ^ 64 → FitsSaved (record { known = true; counts = c; time = time })
+taken-fits : (coarse : Bool) (c : Counts) (time : ℕ) → c .latitude .0 < countSize (sizeOf coarse) → c .longitude .0 < countSize (sizeOf coarse)
+    → time < 2 ^ 64 → FitsSaved (record { known = true; coarse = coarse; counts = c; time = time })
 unfolding meantSaved
-taken-fits c time x y h = record { latitude = x; longitude = y; time = h; meant = refl }
+taken-fits coarse c time x y h = record { latitude = x; longitude = y; time = h; meant = refl }
 
 set-fits : (xs : List Saved) (i : ℕ) (v : Saved) → FitsTwo xs → i < 2 → FitsSaved v → FitsTwo (set xs i v)
 set-fits [] i v f l e = let z : ⊥ = omega (arith, f .two) in absurd z
@@ -304,13 +316,18 @@ module _ (t : Track) (f : Fits t) (site : Site) (time : ℕ) (h : time < 2 ^ 64)
         odd = none-fits;
       }
 
-  airborne-track-fits : (b : Airborne) → b .typecode < 2 ^ 5 → b .f < 2 → b .altitude < 2 ^ 12 → b .latitude .0 < 2 ^ 17 → b .longitude .0 < 2 ^ 17
-      → Fits (airborneTrack t b time)
-  unfolding airborneTrack
-  airborne-track-fits b p l a x y =
-      track-fits _ h (positioned-fits _ (b .typecode) (eqb (b .bit8) 1) (high-fits (t .groups) (b .typecode) (b .altitude) (f .groups) a) p)
-      (airborne-fits (t .position) (f .position) time h (getD (t .saved) (1 - b .f) noSaved) (countsIn b) (formatOf (b .f)))
-      (set-fits (t .saved) (b .f) (record { known = true; counts = countsIn b; time = time }) (two-of t f) l (taken-fits (countsIn b) time x y h))
+  saved-track-fits : (g : Groups) (coarse : Bool) (i : ℕ) (c : Counts) → FitsGroups g → i < 2 → c .latitude .0 < countSize (sizeOf coarse) → c .longitude .0 < countSize (sizeOf coarse)
+      → Fits (savedTrack t g coarse i c time)
+  unfolding savedTrack
+  saved-track-fits g coarse i c e l x y =
+      track-fits _ h e
+      (airborne-fits (t .position) (f .position) time h (getD (t .saved) (1 - i) noSaved) (sizeOf coarse) c (formatOf i))
+      (set-fits (t .saved) i (record { known = true; coarse = coarse; counts = c; time = time }) (two-of t f) l (taken-fits coarse c time x y h))
+
+  moving-fits : (coarse : Bool) (me : ℕ) → me < 2 ^ 56 → givesVelocity coarse me ≡ true → FitsGroups (moving (t .groups) coarse me)
+  moving-fits coarse me l e =
+      let g = f .groups in
+      record { identification = g .identification; velocity = l; surface = g .surface; status = g .status; pressure = g .pressure; height = g .height; typecode = g .typecode; meant = moving-meant (t .groups) (g .meant) coarse me e }
 
   body-fits : (b : Body) → bodyFits b ≡ true → Fits (stepBody t b (bodyMe b) site time)
   body-fits (body.Identification b) e =
@@ -322,16 +339,18 @@ module _ (t : Track) (f : Fits t) (site : Site) (time : ℕ) (h : time < 2 ^ 64)
       let w = w₁ .1 .1 .1 in
       by-test Fits (eqb (b .typecode) 0) _ _
       (λ _. group-fits _ (reported-fits (t .groups) (b .altitude) (f .groups) (w .0)))
-      (λ _. airborne-track-fits b (w₁ .0) (w .1 .1 .0) (w .0) (w .1 .1 .1 .0) (w .1 .1 .1 .1 .0))
-  body-fits (body.Ground b) e =
-      let g = f .groups in
-      group-fits _ (record { identification = g .identification; velocity = me-lt (body.Ground b) e; surface = g .surface; status = g .status; pressure = g .pressure; height = g .height; typecode = g .typecode; meant = moving-meant (t .groups) (g .meant) _ (gives-ground b e) })
-  body-fits (body.Air b) e =
-      let g = f .groups in
-      group-fits _ (record { identification = g .identification; velocity = me-lt (body.Air b) e; surface = g .surface; status = g .status; pressure = g .pressure; height = g .height; typecode = g .typecode; meant = moving-meant (t .groups) (g .meant) _ (gives-air b e) })
+      (λ _.
+      saved-track-fits _ false (b .f) (countsIn b)
+      (positioned-fits _ (b .typecode) (eqb (b .bit8) 1) (high-fits (t .groups) (b .typecode) (b .altitude) (f .groups) (w .0)) (w₁ .0)) (w .1 .1 .0) (w .1 .1 .1 .0) (w .1 .1 .1 .1 .0))
+  body-fits (body.Ground b) e = group-fits _ (moving-fits false _ (me-lt (body.Ground b) e) (gives-ground b e))
+  body-fits (body.Air b) e = group-fits _ (moving-fits false _ (me-lt (body.Air b) e) (gives-air b e))
   body-fits (body.Status b) e =
       let g = f .groups in
       group-fits _ (record { identification = g .identification; velocity = g .velocity; surface = g .surface; status = me-lt (body.Status b) e; pressure = g .pressure; height = g .height; typecode = g .typecode; meant = stating-meant (t .groups) (g .meant) _ (gives-status b e) })
+  body-fits (body.Coarse b) e =
+      let w = fitting (body.Coarse b) e .1 .1 .1 in
+      let p = w .1 .1 .1 .1 in
+      saved-track-fits _ true (b .f) _ (pressure-fits _ (b .altitude) (moving-fits true _ (me-lt (body.Coarse b) e) refl) (w .0)) (p .0) (p .1 .0) (p .1 .1 .0)
 
   pub stepped-fits : (answer : Decoded) → Fits (stepped t answer site time .track)
   stepped-fits (decode.Refused r) = f

@@ -7,10 +7,11 @@ use lib.Dec.{eqb}
 use lib.IntN.{ℤ, pos, negsuc, subℕ}
 use lib.ListN.{length, getD}
 use Rattle.memory.specs.Offsets.{heardAt, identificationAt, velocityAt, surfaceAt, statusAt, marksAt, latitudeAt, longitudeAt, timeAt, savedTimeAt, evenAt, oddAt}
-use Rattle.positions.specs.Positions.{poleToPole}
+use Rattle.positions.specs.Positions.{countSize, poleToPole}
 use Rattle.track.specs.declared.Groups.{Groups}
 use Rattle.whereabouts.specs.declared.Position.{Position}
 use Rattle.whereabouts.specs.declared.Saved.{Saved}
+use Rattle.whereabouts.specs.Located.{sizeOf}
 use Rattle.track.specs.declared.Track.{Track}
 use Rattle.track.specs.Track.{noSaved}
 use Rattle.track.specs.Meaning.{meantGroups, meantPosition, meantSaved, meant}
@@ -18,12 +19,21 @@ use Rattle.memory.specs.Bytes.{numberAt, lowBytes}
 
 -- ---- the track of a body
 
+-- a count of its 17 bits: of a coarse one 12 of them count
+abbrev pub countIn : Bool → ℕ → ℕ
+countIn coarse n = n % countSize (sizeOf coarse)
+
+-- bit 35 of an encoded position's number
+abbrev pub coarseIn : ℕ → Bool
+coarseIn n = eqb (n / 34359738368 % 2) 1
+
 -- an encoded position of one number, the counts its low bits, and a time
 unfoldable pub savedFrom : ℕ → ℕ → Saved
 savedFrom n time =
     record {
       known = eqb (n / 17179869184 % 2) 1;
-      counts = record { latitude = record { 0 = n % 131072 }; longitude = record { 0 = n / 131072 % 131072 } };
+      coarse = coarseIn n;
+      counts = record { latitude = record { 0 = countIn (coarseIn n) n }; longitude = record { 0 = countIn (coarseIn n) (n / 131072) } };
       time = time;
     }
 
@@ -41,6 +51,7 @@ groupsIn p =
       height = numberAt 4 p marksAt / 4096 % 4096;
       typecode = numberAt 4 p marksAt / 33554432 % 32;
       bit8 = eqb (numberAt 4 p marksAt / 1073741824 % 2) 1;
+      coarse = eqb (numberAt 4 p marksAt / 2147483648 % 2) 1;
     }
 
 -- a latitude of its number, 2^30 up; one above its range is read as the pole
@@ -82,10 +93,12 @@ abovePole (negsuc a) = 5368709120 - suc a
 unfoldable pub marksOf : Groups → Bool → ℕ
 marksOf g known =
     g .pressure % 4096 + g .height % 4096 * 4096 + bit known * 16777216
-    + g .typecode % 32 * 33554432 + bit (g .bit8) * 1073741824
+    + g .typecode % 32 * 33554432 + bit (g .bit8) * 1073741824 + bit (g .coarse) * 2147483648
 
 unfoldable pub savedNumber : Saved → ℕ
-savedNumber v = v .counts .latitude .0 % 131072 + v .counts .longitude .0 % 131072 * 131072 + bit (v .known) * 17179869184
+savedNumber v =
+    v .counts .latitude .0 % 131072 + v .counts .longitude .0 % 131072 * 131072
+    + bit (v .known) * 17179869184 + bit (v .coarse) * 34359738368
 
 unfoldable pub savedBytes : Saved → List ℕ
 savedBytes v = lowBytes 5 (savedNumber v) ++ lowBytes 8 (v .time)
@@ -108,8 +121,8 @@ bodyOf t =
 
 -- what a body has room for, and that means itself
 pub record FitsSaved (v : Saved) : Type 0 where
-  pub latitude : v .counts .latitude .0 < 2 ^ 17
-  pub longitude : v .counts .longitude .0 < 2 ^ 17
+  pub latitude : v .counts .latitude .0 < countSize (sizeOf (v .coarse))
+  pub longitude : v .counts .longitude .0 < countSize (sizeOf (v .coarse))
   pub time : v .time < 2 ^ 64
   pub meant : meantSaved v ≡ v
 

@@ -12,7 +12,7 @@ ghost use Prim.Native.Nat.{_+_, _≤_, min};
 ghost use lib.ListN.{length};
 ghost use lib.IntN.{subℕ};
 ghost use Rattle.memory.specs.Offsets.{savedSize, bodySize};
-ghost use Rattle.place.specs.Place.{lowered, savedFrom, savedAt, groupsIn, positionIn, writtenIn, trackOf};
+ghost use Rattle.place.specs.Place.{lowered, countIn, savedFrom, savedAt, groupsIn, positionIn, writtenIn, trackOf};
 
 // A latitude's number, at most that of the north pole.
 fn capped(n: u32) -> u32
@@ -35,14 +35,27 @@ pub fn latitude_of(n: u32) -> i32
     lower(capped(n))
 }
 
+// A count has 17 bits, of which 12 count if it is coarse.
+fn count_in(coarse: bool, n: u64) -> u32
+    ensures { λ r. ⌜ r ≡ countIn coarse n ⌝ }
+{
+    if coarse {
+        (n % 4096) as u32
+    } else {
+        (n % 131072) as u32
+    }
+}
+
 fn saved_from(n: u64, time: u64) -> Saved
     ensures { λ r. ⌜ r ≡ savedFrom n time ⌝ }
 {
+    let coarse = n / 34359738368 % 2 == 1;
     Saved {
         known: n / 17179869184 % 2 == 1,
+        coarse: coarse,
         counts: Counts {
-            latitude: LatitudeCount((n % 131072) as u32),
-            longitude: LongitudeCount((n / 131072 % 131072) as u32),
+            latitude: LatitudeCount(count_in(coarse, n)),
+            longitude: LongitudeCount(count_in(coarse, n / 131072)),
         },
         time: time,
     }
@@ -72,6 +85,7 @@ fn groups_in(p: &[u8]) -> Groups
         height: (marks / 4096 % 4096) as u16,
         typecode: (marks / 33554432 % 32) as u8,
         bit8: marks / 1073741824 % 2 == 1,
+        coarse: marks / 2147483648 % 2 == 1,
     }
 }
 

@@ -31,6 +31,7 @@ fn marks_of(g: Groups, known: bool) -> u32
         + (flag(known) as u32) * 16777216
         + (g.typecode % 32) as u32 * 33554432
         + (flag(g.bit8) as u32) * 1073741824
+        + (flag(g.coarse) as u32) * 2147483648
 }
 
 fn saved_number(v: Saved) -> u64
@@ -39,6 +40,7 @@ fn saved_number(v: Saved) -> u64
     (v.counts.latitude.0 % 131072) as u64
         + (v.counts.longitude.0 % 131072) as u64 * 131072
         + flag(v.known) * 17179869184
+        + flag(v.coarse) * 34359738368
 }
 
 fn put_saved(s: &mut [u8], at: usize, v: Saved)

@@ -24,11 +24,12 @@ use Rattle.layouts.proofs.BothWays.{fitting}
 use Rattle.readings.specs.Altitude.{bit, hundreds, altitudeOf}
 use Rattle.readings.specs.Amounts.{Scale, stepped, amount, speeds, rates, differences, speedOf, rateOf, differenceOf}
 use Rattle.readings.specs.Bodies.{heightDifference, bodyReadings, readingsOf}
+use Rattle.readings.specs.Coarse.{coarseSpeedOf}
 use Rattle.readings.specs.Headings.{headingOf}
 use Rattle.readings.specs.Movement.{movementOf}
 use Rattle.readings.specs.Status.{isPublished, hasA, hasC, bitC, versionOf, supplementOf}
-use Rattle.readings.specs.Said.{Amount, unknown, over, figure, altitudeSaid, speedSaid, rateSaid, differenceSaid, headingSaid, movementSaid, versionSaid, supplementSaid, readingsSaid}
-use Rattle.readings.specs.Said.{altitudeMeans, speedMeans, rateMeans, differenceMeans, heightMeans, headingMeans, movementMeans, versionMeans, supplementMeans, bodyMeans, Given, AllGiven, Alone}
+use Rattle.readings.specs.Said.{Amount, unknown, over, figure, altitudeSaid, speedSaid, rateSaid, differenceSaid, headingSaid, movementSaid, coarseSpeedSaid, versionSaid, supplementSaid, readingsSaid}
+use Rattle.readings.specs.Said.{altitudeMeans, speedMeans, rateMeans, differenceMeans, heightMeans, headingMeans, movementMeans, coarseSpeedMeans, versionMeans, supplementMeans, bodyMeans, Given, AllGiven, Alone}
 use Rattle.readings.specs.declared.bodies.Readings.the-variants.{Refused}
 use Rattle.readings.proofs.altitude.altitude_of.Kinds as altitude-of-kinds
 use Rattle.readings.proofs.altitude.altitude_of.Reads as altitude-of
@@ -38,6 +39,10 @@ use Rattle.readings.proofs.amounts.rate_of.Kinds as rate-of-kinds
 use Rattle.readings.proofs.amounts.rate_of.Reads as rate-of
 use Rattle.readings.proofs.amounts.difference_of.Kinds as difference-of-kinds
 use Rattle.readings.proofs.amounts.difference_of.Reads as difference-of
+use Rattle.readings.proofs.coarse.coarse_speed_of.Kinds as coarse-speed-of-kinds
+use Rattle.readings.proofs.coarse.coarse_speed_of.Reads as coarse-speed-of
+use Rattle.readings.proofs.headings.angle_of.Kinds as angle-of-kinds
+use Rattle.readings.proofs.headings.angle_of.Reads as angle-of
 use Rattle.readings.proofs.headings.heading_of.Kinds as heading-of-kinds
 use Rattle.readings.proofs.headings.heading_of.Reads as heading-of
 use Rattle.readings.proofs.headings.surface_heading_of.Kinds as surface-heading-of-kinds
@@ -93,6 +98,14 @@ movement-says c =
     (through movementSaid gives (eqb c 1) refl
     (through movementSaid gives (leb c 123) refl
     (through movementSaid gives (eqb c 124) refl refl))))
+
+pub coarse-speed-says : (n : ℕ) → coarseSpeedSaid (coarseSpeedOf n) ≡ cond (wider 6 n) (number 8) (gives (coarseSpeedMeans n))
+unfolding coarseSpeedOf
+coarse-speed-says n =
+    through coarseSpeedSaid (λ s. s) (wider 6 n) refl
+    (through coarseSpeedSaid gives (eqb n 0) refl
+    (through coarseSpeedSaid gives (eqb n 1) refl
+    (through coarseSpeedSaid gives (leb n 62) refl refl)))
 
 version-says : (v : ℕ) → versionSaid (versionOf v) ≡ gives (versionMeans v)
 version-says v = through versionSaid gives (isPublished v) refl refl
@@ -157,6 +170,13 @@ fitting-says (body.Status b) traffic e =
       supplement-says (hasA (b .version)) (b .supplementa),
       supplement-says (hasC (b .version)) (bitC (b .subtype) (b .bit20)),
     )
+fitting-says (body.Coarse b) traffic e =
+    let f = fitting (body.Coarse b) e in
+    rw (
+      within 12 (b .altitude) (f .1 .1 .1 .0) (altitude-says (b .altitude)),
+      within 5 (b .angle) (f .1 .1 .1 .1 .1 .0) (heading-says 5 (b .angle)),
+      within 6 (b .speed) (f .1 .1 .1 .1 .1 .1 .0) (coarse-speed-says (b .speed)),
+    )
 
 pub readings-say : (b : Body) (traffic : Bool) → readingsSaid (readingsOf b traffic) ≡ cond (bodyFits b) (gives (bodyMeans b traffic)) (number 8)
 unfolding readingsOf
@@ -175,6 +195,7 @@ all-given (body.Airborne b) traffic = tt
 all-given (body.Ground b) traffic = (tt, tt, tt, tt)
 all-given (body.Air b) traffic = (tt, tt, tt, tt)
 all-given (body.Status b) traffic = (tt, tt, tt)
+all-given (body.Coarse b) traffic = (tt, tt, tt)
 
 -- of a body that fits every reading gives something
 pub fitting-given : (b : Body) (traffic : Bool) → bodyFits b ≡ true → Alone (readingsSaid (bodyReadings b traffic))
@@ -219,6 +240,16 @@ pub movement-of-promised : (κs : Lfts 0) (args : Dens κs movement-of-kinds.ps)
     (left : AtExit (endedOf 0 movement-of-kinds.ps movement-of-kinds.r) κs) → movement-of.Post κs args x left
     → movementSaid x ≡ cond (wider 7 (args .0)) (number 8) (gives (movementMeans (args .0)))
 movement-of-promised κs args x left p = ap movementSaid p ∙ movement-says (args .0)
+
+pub angle-of-promised : (κs : Lfts 0) (args : Dens κs angle-of-kinds.ps) (x : resT angle-of-kinds.r κs .Denot)
+    (left : AtExit (endedOf 0 angle-of-kinds.ps angle-of-kinds.r) κs) → angle-of.Post κs args x left
+    → headingSaid x ≡ cond (wider 5 (args .0)) (number 8) (gives (headingMeans 5 (args .0)))
+angle-of-promised κs args x left p = ap headingSaid p ∙ heading-says 5 (args .0)
+
+pub coarse-speed-of-promised : (κs : Lfts 0) (args : Dens κs coarse-speed-of-kinds.ps) (x : resT coarse-speed-of-kinds.r κs .Denot)
+    (left : AtExit (endedOf 0 coarse-speed-of-kinds.ps coarse-speed-of-kinds.r) κs) → coarse-speed-of.Post κs args x left
+    → coarseSpeedSaid x ≡ cond (wider 6 (args .0)) (number 8) (gives (coarseSpeedMeans (args .0)))
+coarse-speed-of-promised κs args x left p = ap coarseSpeedSaid p ∙ coarse-speed-says (args .0)
 
 pub readings-of-promised : (κs : Lfts 0) (args : Dens κs readings-of-kinds.ps) (x : resT readings-of-kinds.r κs .Denot)
     (left : AtExit (endedOf 0 readings-of-kinds.ps readings-of-kinds.r) κs) → readings-of.Post κs args x left

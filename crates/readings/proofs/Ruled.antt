@@ -5,6 +5,7 @@ use mathlib.Core.Path.{_≡_, refl}
 use mathlib.Core.Bool.{true, false}
 use lib.IntN.{pos, negsuc}
 use Rattle.refusals.specs.declared.Refusal.the-variants.{Field}
+use Rattle.layouts.specs.Coarse.{coarseOf}
 use Rattle.layouts.specs.Layouts.{identificationOf, surfaceOf, airborneOf}
 use Rattle.layouts.specs.Velocity.{groundOf, airOf}
 use Rattle.layouts.specs.declared.bodies.Body.{Body}
@@ -12,6 +13,7 @@ use Rattle.layouts.specs.declared.bodies.Body.the-variants as body
 use Rattle.readings.specs.Bodies.{readingsOf, heightDifference}
 use Rattle.readings.specs.Altitude.{altitudeOf, byHundreds, sixLess, straight, fiveHundreds, hundreds, grayStep}
 use Rattle.readings.specs.Amounts.{speedOf, rateOf, differenceOf, amount, signed, times}
+use Rattle.readings.specs.Coarse.{coarseSpeedOf}
 use Rattle.readings.specs.Headings.{headingOf}
 use Rattle.readings.specs.Movement.{movementOf, lowerEdge}
 use Rattle.characters.specs.Text.{categorySetOf, shown, textOf}
@@ -20,6 +22,7 @@ use Rattle.readings.specs.declared.amounts.Speed.the-variants as speed
 use Rattle.readings.specs.declared.amounts.Rate.the-variants as rate
 use Rattle.readings.specs.declared.amounts.Difference.{Difference}
 use Rattle.readings.specs.declared.amounts.Difference.the-variants as difference
+use Rattle.readings.specs.declared.coarse.CoarseSpeed.the-variants as coarseSpeed
 use Rattle.readings.specs.declared.headings.Heading.the-variants as heading
 use Rattle.readings.specs.declared.movement.Movement.the-variants as movement
 use Rattle.readings.specs.declared.bodies.GroundReadings.{GroundReadings}
@@ -63,6 +66,20 @@ surface-half-turn = (refl, refl)
 pub past-the-top : (movementOf 124 ≡ movement.AndUp 8400) × (movementOf 125 ≡ movement.Reserved)
 unfolding movementOf
 past-the-top = (refl, refl)
+
+-- a coarse message's: a quarter of the codes is a quarter of a turn
+pub angle-quarter : (headingOf 5 8 ≡ heading.Turn 0x4000_0000) × (headingOf 5 32 ≡ heading.Refused Field)
+angle-quarter = (refl, refl)
+
+-- its speeds: 1 is 0 knots and no step of 32 below 16, 62 has an upper edge and 63 has none
+pub coarse-speeds : (coarseSpeedOf 1 ≡ coarseSpeed.LowerEdge 0)
+    × (coarseSpeedOf 2 ≡ coarseSpeed.LowerEdge 16)
+    × (coarseSpeedOf 3 ≡ coarseSpeed.LowerEdge 48)
+    × (coarseSpeedOf 62 ≡ coarseSpeed.LowerEdge 1936)
+    × (coarseSpeedOf 63 ≡ coarseSpeed.AndUp 1968)
+    × (coarseSpeedOf 64 ≡ coarseSpeed.Refused Field)
+unfolding coarseSpeedOf
+coarse-speeds = (refl, refl, refl, refl, refl, refl)
 
 -- ---- whole bodies, of published messages
 
@@ -111,6 +128,16 @@ pub traffic-difference : (readingsOf (body.Ground (groundOf 0x99440994083817)) t
     × (readingsOf (body.Ground (groundOf (0x99440994083817 + 2 ^ 20))) true ≡ readings.Ground (groundWith (difference.Feet (pos 550))))
 unfolding readingsOf heightDifference speedOf rateOf differenceOf amount signed times
 traffic-difference = (refl, refl)
+
+-- a coarse message: 10,000 feet in steps of 25, a quarter of a turn, and from 272 knots up to 304, whoever is said to have sent it; a station wider than its bits, which is not read, is refused
+abbrev coarseAs : ℕ → Body
+coarseAs station = body.Coarse (record { flag = 0; surveillance = 0; station = station; altitude = 888; status = 1; angle = 8; speed = 10; f = 0; latitude = record { 0 = 2048 }; longitude = record { 0 = 1024 } })
+
+pub coarse-body : (body.Coarse (coarseOf 0x066F1414800400) ≡ coarseAs 3)
+    × (readingsOf (coarseAs 3) true ≡ readings.Coarse (record { altitude = altitude.Feet (pos 10000) 25; angle = heading.Turn 0x4000_0000; speed = coarseSpeed.LowerEdge 272 }))
+    × (readingsOf (coarseAs 16) true ≡ readings.Refused Field)
+unfolding readingsOf altitudeOf coarseSpeedOf
+coarse-body = (refl, refl, refl)
 
 -- ---- whole bodies that are refused
 

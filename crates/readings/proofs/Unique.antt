@@ -10,6 +10,10 @@ use Rattle.readings.proofs.amounts.rate_of.Kinds as rate-of-kinds
 use Rattle.readings.proofs.amounts.rate_of.Reads as rate-of
 use Rattle.readings.proofs.amounts.difference_of.Kinds as difference-of-kinds
 use Rattle.readings.proofs.amounts.difference_of.Reads as difference-of
+use Rattle.readings.proofs.coarse.coarse_speed_of.Kinds as coarse-speed-of-kinds
+use Rattle.readings.proofs.coarse.coarse_speed_of.Reads as coarse-speed-of
+use Rattle.readings.proofs.headings.angle_of.Kinds as angle-of-kinds
+use Rattle.readings.proofs.headings.angle_of.Reads as angle-of
 use Rattle.readings.proofs.headings.heading_of.Kinds as heading-of-kinds
 use Rattle.readings.proofs.headings.heading_of.Reads as heading-of
 use Rattle.readings.proofs.headings.surface_heading_of.Kinds as surface-heading-of-kinds
@@ -42,3 +46,9 @@ movement-of-once κs args x y left left′ p q = p ∙ sym q
 
 pub readings-of-once : OneAnswer 0 readings-of-kinds.ps readings-of-kinds.r readings-of.Post
 readings-of-once κs args x y left left′ p q = p ∙ sym q
+
+pub angle-of-once : OneAnswer 0 angle-of-kinds.ps angle-of-kinds.r angle-of.Post
+angle-of-once κs args x y left left′ p q = p ∙ sym q
+
+pub coarse-speed-of-once : OneAnswer 0 coarse-speed-of-kinds.ps coarse-speed-of-kinds.r coarse-speed-of.Post
+coarse-speed-of-once κs args x y left left′ p q = p ∙ sym q

@@ -1,7 +1,7 @@
 -- A body is read as a whole or refused as a whole, by the test of its fields.
 -- Assumes nothing.
-use mathlib.Core.Path.{_≡_, sym, ap}
-use mathlib.Core.Bool.{Bool, true, false, cond, not, true≢false, false≢true}
+use mathlib.Core.Path.{_≡_, refl, sym, ap}
+use mathlib.Core.Bool.{Bool, true, false, cond, not, _&&_, true≢false, false≢true}
 use Rattle.refusals.specs.declared.Refusal.the-variants.{Field}
 use Rattle.layouts.specs.declared.bodies.Body.{Body}
 use Rattle.layouts.specs.Bodies.{bodyFits}
@@ -22,3 +22,8 @@ pub unread : (b : Body) (traffic t : Bool) → t ≡ bodyFits b → not t ≡ tr
 unfolding readingsOf
 unread b traffic true p q = absurd (false≢true q)
 unread b traffic false p q = ap (chosen b traffic) (sym p)
+
+-- a coarse body has no TYPE to agree: its fields alone are tested
+pub always : (t : Bool) → t ≡ t && true
+always true = refl
+always false = refl

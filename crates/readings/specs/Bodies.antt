@@ -9,11 +9,13 @@ use Rattle.layouts.specs.declared.airborne.Airborne.{Airborne}
 use Rattle.layouts.specs.declared.velocity.Ground.{Ground}
 use Rattle.layouts.specs.declared.velocity.Air.{Air}
 use Rattle.layouts.specs.declared.status.Status.{Status}
+use Rattle.layouts.specs.declared.coarse.Coarse.{Coarse}
 use Rattle.layouts.specs.declared.bodies.Body.{Body}
 use Rattle.layouts.specs.declared.bodies.Body.the-variants as body
 use Rattle.layouts.specs.Bodies.{bodyFits}
 use Rattle.readings.specs.Altitude.{altitudeOf}
 use Rattle.readings.specs.Amounts.{speedOf, rateOf, differenceOf}
+use Rattle.readings.specs.Coarse.{coarseSpeedOf}
 use Rattle.readings.specs.Headings.{headingOf}
 use Rattle.readings.specs.Movement.{movementOf}
 use Rattle.readings.specs.Status.{hasA, hasC, bitC, versionOf, supplementOf}
@@ -26,6 +28,7 @@ use Rattle.readings.specs.declared.bodies.AirborneReadings.{AirborneRead
 use Rattle.readings.specs.declared.bodies.GroundReadings.{GroundReadings}
 use Rattle.readings.specs.declared.bodies.AirReadings.{AirReadings}
 use Rattle.readings.specs.declared.bodies.StatusReadings.{StatusReadings}
+use Rattle.readings.specs.declared.bodies.CoarseReadings.{CoarseReadings}
 use Rattle.readings.specs.declared.bodies.Readings.{Readings}
 use Rattle.readings.specs.declared.bodies.Readings.the-variants as readings
 
@@ -73,6 +76,10 @@ statusMeans b = record {
   supplementc = supplementOf (hasC (b .version)) (bitC (b .subtype) (b .bit20));
 }
 
+-- a pressure altitude; the track status is a field, and stands beside the angle
+abbrev pub coarseMeans : Coarse → CoarseReadings
+coarseMeans b = record { altitude = altitudeOf (b .altitude); angle = headingOf 5 (b .angle); speed = coarseSpeedOf (b .speed) }
+
 -- of a body whose fields fit
 abbrev pub bodyReadings : Body → Bool → Readings
 bodyReadings (body.Identification b) traffic = readings.Identification (identificationMeans b)
@@ -81,6 +88,7 @@ bodyReadings (body.Airborne b) traffic = readings.Airborne (airborneMeans b)
 bodyReadings (body.Ground b) traffic = readings.Ground (groundMeans b traffic)
 bodyReadings (body.Air b) traffic = readings.Air (airMeans b traffic)
 bodyReadings (body.Status b) traffic = readings.Status (statusMeans b)
+bodyReadings (body.Coarse b) traffic = readings.Coarse (coarseMeans b)
 
 -- a field wider than its bits, or a TYPE or subtype of another layout, is refused
 unfoldable pub readingsOf : Body → Bool → Readings

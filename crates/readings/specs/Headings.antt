@@ -6,7 +6,7 @@ use Rattle.fields.specs.Packing.{wider}
 use Rattle.readings.specs.declared.headings.Heading.{Heading}
 use Rattle.readings.specs.declared.headings.Heading.the-variants.{Turn, Refused}
 
--- n of b bits is n / 2^b of a turn: n/1024 in TYPE 19, n/128 on the surface
+-- n of b bits is n / 2^b of a turn: n/1024 in TYPE 19, n/128 on the surface, n/32 in a coarse message
 abbrev pub turnOf : ℕ → ℕ → ℕ
 turnOf bits code = code * 2 ^ (32 - bits)
 

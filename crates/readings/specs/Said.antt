@@ -12,6 +12,7 @@ use Rattle.layouts.specs.declared.bodies.Body.the-variants as body
 use Rattle.readings.specs.Altitude.{altitudeBy}
 use Rattle.readings.specs.Amounts.{stepped, speeds, rates, differences}
 use Rattle.readings.specs.Bodies.{isGnss, ifThere}
+use Rattle.readings.specs.Coarse.{coarseSpeedBy}
 use Rattle.readings.specs.Headings.{turnOf}
 use Rattle.readings.specs.Movement.{movementBy}
 use Rattle.readings.specs.Status.{hasA, hasC, bitC, versionBy, supplementBy}
@@ -23,6 +24,8 @@ use Rattle.readings.specs.declared.amounts.Rate.{Rate}
 use Rattle.readings.specs.declared.amounts.Rate.the-variants as rate
 use Rattle.readings.specs.declared.amounts.Difference.{Difference}
 use Rattle.readings.specs.declared.amounts.Difference.the-variants as difference
+use Rattle.readings.specs.declared.coarse.CoarseSpeed.{CoarseSpeed}
+use Rattle.readings.specs.declared.coarse.CoarseSpeed.the-variants as coarseSpeed
 use Rattle.readings.specs.declared.headings.Heading.{Heading}
 use Rattle.readings.specs.declared.headings.Heading.the-variants as heading
 use Rattle.readings.specs.declared.movement.Movement.{Movement}
@@ -43,7 +46,7 @@ pub data Amount : Type 0 where
   figure : ℤ → Amount
   -- feet of an altitude, and its step
   inSteps : ℤ → (step : ℕ) → Amount
-  -- 48ths of a knot: a lower edge, and one with no edge above it
+  -- 48ths of a knot, of a coarse message knots: a lower edge, and one with no edge above it
   edge andUp : ℕ → Amount
 
 -- ---- each answer
@@ -83,6 +86,12 @@ movementSaid (movement.AndUp n) = gives (andUp n)
 movementSaid movement.Reserved = gives reserved
 movementSaid (movement.Refused r) = number (numberOf r)
 
+abbrev pub coarseSpeedSaid : CoarseSpeed → Said Amount
+coarseSpeedSaid coarseSpeed.Unknown = gives unknown
+coarseSpeedSaid (coarseSpeed.LowerEdge n) = gives (edge n)
+coarseSpeedSaid (coarseSpeed.AndUp n) = gives (andUp n)
+coarseSpeedSaid (coarseSpeed.Refused r) = number (numberOf r)
+
 abbrev pub versionSaid : Version → Said Amount
 versionSaid (version.Number n) = gives (numeral n)
 versionSaid version.Reserved = gives reserved
@@ -102,6 +111,7 @@ pub data Meaning : Type 0 where
   ground : (east north rate difference : Said Amount) → Meaning
   air : (heading airspeed rate difference : Said Amount) → Meaning
   status : (version a c : Said Amount) → Meaning
+  coarse : (altitude angle speed : Said Amount) → Meaning
 
 abbrev pub readingsSaid : Readings → Said Meaning
 readingsSaid (readings.Identification r) = gives (identification (categorySetSaid (r .set)) (textSaid (r .text)))
@@ -110,6 +120,7 @@ readingsSaid (readings.Airborne r) = gives (airborne (altitudeSaid (r .altitude)
 readingsSaid (readings.Ground r) = gives (ground (speedSaid (r .east)) (speedSaid (r .north)) (rateSaid (r .rate)) (differenceSaid (r .difference)))
 readingsSaid (readings.Air r) = gives (air (headingSaid (r .heading)) (speedSaid (r .airspeed)) (rateSaid (r .rate)) (differenceSaid (r .difference)))
 readingsSaid (readings.Status r) = gives (status (versionSaid (r .version)) (supplementSaid (r .supplementa)) (supplementSaid (r .supplementc)))
+readingsSaid (readings.Coarse r) = gives (coarse (altitudeSaid (r .altitude)) (headingSaid (r .angle)) (coarseSpeedSaid (r .speed)))
 readingsSaid (readings.Refused r) = number (numberOf r)
 
 -- ---- what is due of a code that fits its bits
@@ -135,6 +146,9 @@ headingMeans bits code = figure (pos (turnOf bits code))
 abbrev pub movementMeans : ℕ → Amount
 movementMeans c = movementBy unknown stopped edge andUp reserved c
 
+abbrev pub coarseSpeedMeans : ℕ → Amount
+coarseSpeedMeans n = coarseSpeedBy unknown edge andUp n
+
 abbrev pub versionMeans : ℕ → Amount
 versionMeans v = versionBy numeral reserved v
 
@@ -156,6 +170,7 @@ bodyMeans (body.Status b) traffic =
     status (gives (versionMeans (b .version)))
     (gives (supplementMeans (hasA (b .version)) (b .supplementa)))
     (gives (supplementMeans (hasC (b .version)) (bitC (b .subtype) (b .bit20))))
+bodyMeans (body.Coarse b) traffic = coarse (gives (altitudeMeans (b .altitude))) (gives (headingMeans 5 (b .angle))) (gives (coarseSpeedMeans (b .speed)))
 
 -- ---- a refusal stands alone
 
@@ -170,6 +185,7 @@ AllGiven (airborne a g) = Given a
 AllGiven (ground e n r d) = Given e × Given n × Given r × Given d
 AllGiven (air h a r d) = Given h × Given a × Given r × Given d
 AllGiven (status v a c) = Given v × Given a × Given c
+AllGiven (coarse a t s) = Given a × Given t × Given s
 
 -- the whole is a number, or no reading in it is
 abbrev pub Alone : Said Meaning → Type 0

@@ -7,7 +7,10 @@ use crate::amounts::Speed;
 use crate::amounts::difference_of;
 use crate::amounts::rate_of;
 use crate::amounts::speed_of;
+use crate::coarse::CoarseSpeed;
+use crate::coarse::coarse_speed_of;
 use crate::headings::Heading;
+use crate::headings::angle_of;
 use crate::headings::heading_of;
 use crate::headings::surface_heading_of;
 use crate::movement::Movement;
@@ -24,6 +27,7 @@ use characters::text_of;
 use layouts::Air;
 use layouts::Airborne;
 use layouts::Body;
+use layouts::Coarse;
 use layouts::Ground;
 use layouts::Identification;
 use layouts::Status;
@@ -69,6 +73,12 @@ pub struct StatusReadings {
     pub supplementc: Supplement,
 }
 
+pub struct CoarseReadings {
+    pub altitude: Altitude,
+    pub angle: Heading,
+    pub speed: CoarseSpeed,
+}
+
 pub enum Readings {
     Identification(IdentificationReadings),
     Surface(SurfaceReadings),
@@ -79,6 +89,8 @@ pub enum Readings {
     Air(AirReadings),
     // operational status
     Status(StatusReadings),
+    // of a coarse message
+    Coarse(CoarseReadings),
     Refused(Refusal),
 }
 
@@ -177,6 +189,20 @@ fn status_readings(b: Status) -> Readings
     })
 }
 
+// The pressure altitude, the track angle whatever its status bit says, and the speed.
+fn coarse_readings(b: Coarse) -> Readings
+    ensures { λ r. ⌜ ((traffic : Bool) → r ≡ readingsOf (Body.Coarse b) traffic) ⌝ }
+{
+    if !layouts::coarse_fits(b) {
+        return Readings::Refused(Refusal::Field);
+    }
+    Readings::Coarse(CoarseReadings {
+        altitude: altitude_of(b.altitude),
+        angle: angle_of(b.angle),
+        speed: coarse_speed_of(b.speed),
+    })
+}
+
 // What the fields of a body mean, in a message of a traffic service or in another. One with a field wider than its bits, or a TYPE or subtype of another layout, is refused.
 pub fn readings_of(b: Body, traffic: bool) -> Readings
     ensures { λ r. ⌜ r ≡ readingsOf b traffic ⌝ }
@@ -188,5 +214,6 @@ pub fn readings_of(b: Body, traffic: bool) -> Readings
         Body::Ground(x) => ground_readings(x, traffic),
         Body::Air(x) => air_readings(x, traffic),
         Body::Status(x) => status_readings(x),
+        Body::Coarse(x) => coarse_readings(x),
     }
 }

@@ -1,4 +1,4 @@
-// Headings as parts of a turn.
+// Headings, and track angles, as parts of a turn.
 use refusals::Refusal;
 ghost use mathlib.Core.Path.{_≡_};
 ghost use Rattle.readings.specs.Headings.{headingOf};
@@ -27,4 +27,14 @@ pub fn surface_heading_of(code: u8) -> Heading
         return Heading::Refused(Refusal::Field);
     }
     Heading::Turn((code as u32) * 0x200_0000)
+}
+
+// The track angle of a code of 5 bits, of a coarse message.
+pub fn angle_of(code: u8) -> Heading
+    ensures { λ r. ⌜ r ≡ headingOf 5 code ⌝ }
+{
+    if 32 <= code {
+        return Heading::Refused(Refusal::Field);
+    }
+    Heading::Turn((code as u32) * 0x800_0000)
 }

@@ -7,6 +7,7 @@ use counts::LongitudeCount;
 use layouts::Air;
 use layouts::Airborne;
 use layouts::Body;
+use layouts::Coarse;
 use layouts::Ground;
 use layouts::Identification;
 use layouts::Status;
@@ -17,6 +18,8 @@ use libc::STDOUT_FILENO;
 use readings::AirReadings;
 use readings::AirborneReadings;
 use readings::Altitude;
+use readings::CoarseReadings;
+use readings::CoarseSpeed;
 use readings::Difference;
 use readings::GroundReadings;
 use readings::Heading;
@@ -126,6 +129,21 @@ fn say_movement(m: Movement) {
     }
 }
 
+fn say_coarse_speed(s: CoarseSpeed) {
+    match s {
+        CoarseSpeed::Unknown => write(b"unknown"),
+        CoarseSpeed::LowerEdge(n) => {
+            write(b"from ");
+            say(n);
+        }
+        CoarseSpeed::AndUp(n) => {
+            say(n);
+            write(b" and up");
+        }
+        CoarseSpeed::Refused(r) => say_refused(r),
+    }
+}
+
 fn say_character(c: Character) {
     match c {
         Character::Shown(b) => say(b as u32),
@@ -228,6 +246,18 @@ fn say_status(m: StatusReadings) {
     say_supplement(c);
 }
 
+fn say_coarse(m: CoarseReadings) {
+    let altitude = m.altitude;
+    let angle = m.angle;
+    let speed = m.speed;
+    write(b"coarse ");
+    say_altitude(altitude);
+    write(b", ");
+    say_heading(angle);
+    write(b", ");
+    say_coarse_speed(speed);
+}
+
 fn say_readings(r: Readings) {
     match r {
         Readings::Identification(m) => say_identification(m),
@@ -236,6 +266,7 @@ fn say_readings(r: Readings) {
         Readings::Ground(m) => say_ground(m),
         Readings::Air(m) => say_air(m),
         Readings::Status(m) => say_status(m),
+        Readings::Coarse(m) => say_coarse(m),
         Readings::Refused(n) => say_refused(n),
     }
 }
@@ -359,6 +390,21 @@ fn status(q: &[u8]) -> Body {
     })
 }
 
+fn coarse(q: &[u8]) -> Body {
+    Body::Coarse(Coarse {
+        flag: byte(q, 0),
+        surveillance: byte(q, 1),
+        station: byte(q, 2),
+        altitude: short(q, 3),
+        status: byte(q, 4),
+        angle: byte(q, 5),
+        speed: byte(q, 6),
+        f: byte(q, 7),
+        latitude: LatitudeCount(word(q, 8)),
+        longitude: LongitudeCount(word(q, 9)),
+    })
+}
+
 // What a body means, by the number of its layout, in a traffic service's message or in another.
 fn say_body(layout: u8, traffic: bool, q: &[u8]) {
     match layout {
@@ -368,6 +414,7 @@ fn say_body(layout: u8, traffic: bool, q: &[u8]) {
         3 => say_readings(readings::readings_of(ground(q), traffic)),
         4 => say_readings(readings::readings_of(air(q), traffic)),
         5 => say_readings(readings::readings_of(status(q), traffic)),
+        6 => say_readings(readings::readings_of(coarse(q), traffic)),
         _ => write(b"no such layout"),
     }
 }
@@ -395,6 +442,8 @@ fn answer(question: u8, a: u8, b: u8, code: u16) {
         7 => say_movement(readings::movement_of(byte)),
         8 => say_character(characters::character_of(byte)),
         9 => answer_body(a, b == 1),
+        10 => say_heading(readings::angle_of(byte)),
+        11 => say_coarse_speed(readings::coarse_speed_of(byte)),
         _ => write(b"no such question"),
     }
     write(b"\n");

@@ -33,7 +33,7 @@ by-tests false false v = looked v
 
 pub replay-says : (log : List ℕ) (kind : Kind) (address : ℕ) (site : Site) → lookedSaid (replayed log kind address site) ≡ replayTable log kind address site
 unfolding replayed
-replay-says log kind address site = by-tests (earns14 log) (earns8 address site) (ownAt (sited site) (keyFor kind address) unheard log (length log / 22) .track)
+replay-says log kind address site = by-tests (earns14 log) (earns8 kind address site) (ownAt (sited site) (keyFor kind address) unheard log (length log / 22) .track)
 
 pub replay-promised : (κs : Lfts 1) (args : Dens κs replay-kinds.ps) (x : resT replay-kinds.r κs .Denot) (left : AtExit (endedOf 1 replay-kinds.ps replay-kinds.r) κs)
     → replay.Post κs args x left → lookedSaid x ≡ replayTable (args .0 .now) (args .1 .0) (args .1 .1 .0) (args .1 .1 .1 .0)

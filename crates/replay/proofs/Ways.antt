@@ -18,15 +18,14 @@ use Rattle.fields.proofs.Bytes.{bytes-take, number-whole}
 use Rattle.keys.specs.Keys.{low24, keyFor, addressIn}
 use Rattle.keys.specs.declared.Kind.{Kind}
 use Rattle.keys.proofs.Laws.{address-back}
-use Rattle.layouts.specs.Bodies.{flagOf}
 use Rattle.messages.specs.declared.Frame.{Frame}
 use Rattle.messages.specs.declared.Message.{Message}
 use Rattle.messages.specs.declared.Decoded.{Decoded}
 use Rattle.messages.specs.declared.Decoded.the-variants as decode
 use Rattle.messages.specs.declared.Accepted.{Accepted}
 use Rattle.messages.specs.declared.Accepted.the-variants as accept
-use Rattle.messages.specs.Message.{bits, decoded, kindOf, keyOf, starts}
-use Rattle.messages.specs.Accepted.{accepted, openedAs, frameKey, frameStarts}
+use Rattle.messages.specs.Message.{bits, decoded, messageKind, keyOf, starts}
+use Rattle.messages.specs.Accepted.{accepted, openedAs, frameCoarse, frameKey, frameStarts}
 use Rattle.messages.proofs.Parts.{head-lt, address-is}
 use Rattle.messages.proofs.Acceptance.{accepted-opened, messageOf, Opens}
 use Rattle.messages.proofs.Keys.{decoded-from, frame-key}
@@ -36,9 +35,9 @@ use Rattle.track.specs.declared.Track.{Track}
 use Rattle.track.specs.declared.held.Looked.{Looked}
 use Rattle.track.specs.Track.{newTrack, stepMe}
 use Rattle.track.specs.Held.{inDate, laterAt, lookedAs, notLooked}
-use Rattle.track.proofs.Mes.{stepped-me}
+use Rattle.track.proofs.Mes.{stepped-as}
 use Rattle.replay.specs.Alone.{ownIn, heardIn, Own, toldOf, ownAfter}
-use Rattle.replay.specs.Replay.{isLog, heardAt, unheard, ownAt, sited, badSite, replayed, trackOf}
+use Rattle.replay.specs.Replay.{isLog, heardAt, unheard, ownAt, sited, isWide, badSite, replayed, trackOf}
 
 -- ---- a message whose AA is another's
 
@@ -50,8 +49,8 @@ module _ (s : List ℕ) (key : ℕ) (l : length s ≡ 14) (h : Bytes s) (other :
       by-key m d false e = refl
       by-key m d true e =
           let address : m .address ≡ bits 9 32 s = ap (λ (n : Message). n .address) (sym (decoded-from s m d .1)) in
-          let its : addressIn (keyOf m) ≡ low24 (m .address) = address-back (kindOf (m .format) (m .control) (flagOf (m .body))) (m .address) in
-          let same : number (take 4 s) % 2 ^ 64 % 2 ^ 24 ≡ addressIn key = omega (arith, address, its, eqb-true (keyOf m) key e, address-is s l h, head-lt s l h) in
+          let its : addressIn (keyOf m) ≡ low24 (m .address) = address-back (messageKind m) (m .address) in
+          let same : number (take 4 s) % 2 ^ 64 % 2 ^ 24 ≡ addressIn key = omega (arith, address, its, ap addressIn (eqb-true (keyOf m) key e), address-is s l h, head-lt s l h) in
           absurd (true≢false (sym (eq-eqb _ _ same) ∙ other))
 
       by-answer : (d : Decoded) → decoded s ≡ d → ownIn key d ≡ none
@@ -101,14 +100,14 @@ module _ (f : Frame) (o : Opens f) (key : ℕ) (site : Site) (clock : ℕ) (held
       let s : starts m ≡ false = sym (frame-starts f o) ∙ none-of .1 in
       rw (its-own k, none-of .0, s)
 
-  pub told-step : frameKey f ≡ key → held || frameStarts f ≡ true → {x : Track} → x ≡ stepMe (cond held t newTrack) (f .me) site clock → Told (with-track clock (some x))
+  pub told-step : frameKey f ≡ key → held || frameStarts f ≡ true → {x : Track} → x ≡ stepMe (cond held t newTrack) (frameCoarse f) (f .me) site clock → Told (with-track clock (some x))
   told-step k e x-is = ap (λ (y : Track). with-track clock (some y)) x-is ∙ by-held held e
     where
-      by-held : (b : Bool) → b || frameStarts f ≡ true → with-track clock (some (stepMe (cond b t newTrack) (f .me) site clock)) ≡ with-track clock (toldOf site clock heard (trackOf b t))
-      by-held true e = rw (its-own k, ← o .same) (ap (λ (y : Track). with-track clock (some y)) (stepped-me t site clock (o .body) (o .fits)))
+      by-held : (b : Bool) → b || frameStarts f ≡ true → with-track clock (some (stepMe (cond b t newTrack) (frameCoarse f) (f .me) site clock)) ≡ with-track clock (toldOf site clock heard (trackOf b t))
+      by-held true e = rw (its-own k) (ap (λ (y : Track). with-track clock (some y)) (stepped-as t site clock (frameCoarse f) (f .me) (o .body) (o .reads) (o .fits) (o .same)))
       by-held false e =
           let s : starts m ≡ true = sym (frame-starts f o) ∙ e in
-          rw (its-own k, s, ← o .same) (ap (λ (y : Track). with-track clock (some y)) (stepped-me newTrack site clock (o .body) (o .fits)))
+          rw (its-own k, s) (ap (λ (y : Track). with-track clock (some y)) (stepped-as newTrack site clock (frameCoarse f) (f .me) (o .body) (o .reads) (o .fits) (o .same)))
 
 -- ---- a message that comes at a time, late or not
 
@@ -163,11 +162,11 @@ module _ (log : List ℕ) (kind : Kind) (address : ℕ) (site : Site) {w : Bool}
   unfolding replayed
   no-log e = rw (← w-is, e)
 
-  module _ (whole : not w ≡ false) {t : Bool} (t-is : t ≡ badSite site) where
-    pub no-field : leb (2 ^ 24) address || t ≡ true → Answer (notLooked Field)
+  module _ (whole : not w ≡ false) {k t : Bool} (k-is : k ≡ isWide kind) (t-is : t ≡ badSite site) where
+    pub no-field : leb (2 ^ 24) address || k || t ≡ true → Answer (notLooked Field)
     unfolding replayed
-    no-field e = rw (← w-is, whole, ← t-is, e)
+    no-field e = rw (← w-is, whole, ← k-is, ← t-is, e)
 
-    pub all-heard : leb (2 ^ 24) address || t ≡ false → {x : Looked} → x ≡ lookedAs (ownAt (sited site) (keyFor kind address) unheard log (length log / 22) .track) → Answer x
+    pub all-heard : leb (2 ^ 24) address || k || t ≡ false → {x : Looked} → x ≡ lookedAs (ownAt (sited site) (keyFor kind address) unheard log (length log / 22) .track) → Answer x
     unfolding replayed
-    all-heard e x-is = rw (← w-is, whole, ← t-is, e) x-is
+    all-heard e x-is = rw (← w-is, whole, ← k-is, ← t-is, e) x-is

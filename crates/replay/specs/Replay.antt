@@ -1,6 +1,6 @@
 -- A track worked out again from a log. "The plain method takes the records in order, knows no table, and applies 01's track rules to that key alone, the clock moving at each record."
 use Prim.Native.Nat.{ℕ, zero, suc, _*_, _/_, _%_, _^_}
-use mathlib.Core.Bool.{Bool, cond, not, _&&_, _||_}
+use mathlib.Core.Bool.{Bool, false, cond, not, _&&_, _||_}
 use mathlib.Core.Option.{Option, some, none}
 use mathlib.Core.List.{List}
 use lib.Dec.{eqb, leb}
@@ -9,6 +9,7 @@ use Rattle.refusals.specs.declared.Refusal.the-variants.{Field, Log}
 use Rattle.fields.specs.Bytes.{number}
 use Rattle.keys.specs.Keys.{keyFor}
 use Rattle.keys.specs.declared.Kind.{Kind}
+use Rattle.keys.specs.declared.Kind.the-variants.{I, O, T, M, N, C}
 use Rattle.positions.specs.Positions.{poleToPole}
 use Rattle.whereabouts.specs.declared.Site.{Site}
 use Rattle.whereabouts.specs.Located.{noSite}
@@ -47,15 +48,24 @@ ownAt site key o log (suc n) = ownAfter site (ownAt site key o log n) (heardAt k
 abbrev pub sited : Site → Site
 sited site = cond (site .known) site noSite
 
+-- a flag above 1, or a station above 15
+abbrev pub isWide : Kind → Bool
+isWide I = false
+isWide O = false
+isWide T = false
+isWide M = false
+isWide N = false
+isWide (C flag station) = leb 2 flag || leb 16 station
+
 -- a known site whose latitude is beyond a pole
 abbrev pub badSite : Site → Bool
 badSite site = site .known && not (poleToPole (site .spot .latitude))
 
--- 14, then 8 for an address over 24 bits or a bad site; else what all records leave of the key
+-- 14, then 8 for an address over 24 bits, a flag or a station that is too wide or a bad site; else what all records leave of the key
 unfoldable pub replayed : List ℕ → Kind → ℕ → Site → Looked
 replayed log kind address site =
     cond (not (isLog (length log))) (notLooked Log)
-    (cond (leb (2 ^ 24) address || badSite site) (notLooked Field)
+    (cond (leb (2 ^ 24) address || isWide kind || badSite site) (notLooked Field)
     (lookedAs (ownAt (sited site) (keyFor kind address) unheard log (length log / 22) .track)))
 
 -- ---- what the code keeps between two records: the track counts where it is held

@@ -10,19 +10,19 @@ use Rattle.keys.specs.Keys.{keyFor}
 use Rattle.keys.specs.declared.Kind.{Kind}
 use Rattle.whereabouts.specs.declared.Site.{Site}
 use Rattle.track.specs.declared.Track.{Track}
-use Rattle.replay.specs.Replay.{isLog, unheard, ownAt, sited, badSite}
+use Rattle.replay.specs.Replay.{isLog, unheard, ownAt, sited, isWide, badSite}
 
 -- 14: a log over 2,900 records, or not of whole ones
 abbrev pub earns14 : List ℕ → Bool
 earns14 log = not (isLog (length log))
 
--- 8: an address over 24 bits, or a bad site
-abbrev pub earns8 : ℕ → Site → Bool
-earns8 address site = leb (2 ^ 24) address || badSite site
+-- 8: an address over 24 bits, a flag or a station wider than its bits, or a bad site
+abbrev pub earns8 : Kind → ℕ → Site → Bool
+earns8 kind address site = leb (2 ^ 24) address || isWide kind || badSite site
 
 -- 14 precedes 8
 abbrev pub replayTable : List ℕ → Kind → ℕ → Site → Said (Option Track)
 replayTable log kind address site =
     cond (earns14 log) (number 14)
-    (cond (earns8 address site) (number 8)
+    (cond (earns8 kind address site) (number 8)
     (gives (ownAt (sited site) (keyFor kind address) unheard log (length log / 22) .track)))

@@ -19,7 +19,7 @@ ghost use Rattle.messages.specs.Accepted.{IsAccepted, openedAs};
 ghost use Rattle.track.specs.Track.{newTrack};
 ghost use Rattle.track.specs.Held.{lookedAs, notLooked};
 ghost use Rattle.replay.specs.Alone.{ownIn, heardIn, toldOf, ownAfter};
-ghost use Rattle.replay.specs.Replay.{isLog, heardAt, unheard, ownAt, sited, badSite, replayed, kept};
+ghost use Rattle.replay.specs.Replay.{isLog, heardAt, unheard, ownAt, sited, isWide, badSite, replayed, kept};
 
 // What is kept between two records: the clock, whether the aircraft is held at it, and its track, which counts where it is.
 struct Own {
@@ -65,7 +65,13 @@ fn tell(own: Own, key: u32, f: Frame, site: Site) -> Own
     Own {
         clock: own.clock,
         held: true,
-        track: track::step_me(start_of(own), f.me, site, own.clock),
+        track: track::step_me(
+            start_of(own),
+            messages::frame_coarse(f),
+            f.me,
+            site,
+            own.clock,
+        ),
     }
 }
 
@@ -147,6 +153,20 @@ fn look(own: Own) -> Looked
     }
 }
 
+// Whether a kind has a flag or a station that is wider than its bits.
+fn is_wide(kind: Kind) -> bool
+    ensures { λ r. ⌜ r ≡ isWide kind ⌝ }
+{
+    match kind {
+        Kind::I => false,
+        Kind::O => false,
+        Kind::T => false,
+        Kind::M => false,
+        Kind::N => false,
+        Kind::C(flag, station) => (2 <= flag) | (16 <= station),
+    }
+}
+
 fn bad_site(site: Site) -> bool
     ensures { λ r. ⌜ r ≡ badSite site ⌝ }
 {
@@ -171,7 +191,7 @@ pub fn replay(log: &[u8], kind: Kind, address: u32, site: Site) -> Looked
     if !is_log(log.len()) {
         return not_looked(Refusal::Log);
     }
-    if (0x100_0000 <= address) | bad_site(site) {
+    if (0x100_0000 <= address) | is_wide(kind) | bad_site(site) {
         return not_looked(Refusal::Field);
     }
     look(hear_all(log, keys::key_for(kind, address), site_of(site)))

@@ -1,4 +1,4 @@
--- The listing of a table, as documents 01 and 02 have it: the header, then the lines of a list of rows, those of the keys held, I first, then by address; of all, or of those with a known position.
+-- The listing of a table, as documents 01 and 02 have it: the header, then the lines of a list of rows, those of the keys held, in the order of the kinds, then by address; of all, or of those with a known position.
 use Prim.Native.Nat.{ℕ, zero, suc}
 use mathlib.Core.Bool.{Bool, cond, not, _||_}
 use mathlib.Core.List.{List, [], _∷_, _++_}
@@ -56,7 +56,7 @@ rowOf key t =
       step = stepIn (altitudeOf (t .groups .pressure));
     }
 
--- ---- the whole listing, over all keys, whose order is by kind and then by address
+-- ---- the whole listing, over all keys, whose order is by kind, then by address, of C then by flag and station
 
 -- a track is shown if all are asked for, or if its position is known, whatever its age
 abbrev pub shown : Bool → Position → Bool

@@ -2,7 +2,7 @@
 -- Assumes nothing.
 use Prim.Native.Nat.{ℕ}
 use mathlib.Core.Path.{_≡_, refl, sym, ap, _∙_}
-use mathlib.Core.Bool.{true}
+use mathlib.Core.Bool.{Bool, true}
 use mathlib.Core.List.{[], _∷_}
 use borrow.Author.Tests.{eq-eqb}
 use Rattle.fields.specs.Packing.{fits}
@@ -13,13 +13,15 @@ use Rattle.layouts.specs.declared.bodies.Layout.{Layout}
 use Rattle.layouts.specs.declared.bodies.Layout.the-variants as layout
 use Rattle.layouts.specs.declared.bodies.Taken.the-variants as read
 use Rattle.layouts.specs.declared.bodies.Written.the-variants as write
-use Rattle.layouts.specs.Bodies.{taken, bodyLayout, bodyFields, bodyWidths, typeAgrees, bodyMe, bodyFits}
+use Rattle.layouts.specs.Bodies.{takenBy, bodyLayout, bodyFields, bodyWidths, typeAgrees, bodyMe, bodyFits}
 use Rattle.layouts.proofs.BothWays.{read-back, fields-read}
 use Rattle.messages.specs.declared.Message.{Message}
 use Rattle.messages.specs.declared.Decoded.the-variants as decode
-use Rattle.messages.specs.Message.{keyOf, messageFits}
+use Rattle.messages.specs.Message.{coarseBy, keyOf, messageFits, messageBytes}
+use Rattle.messages.proofs.BothWays.{encoded-decoded}
+use Rattle.messages.proofs.Keys.{coarse-by-its-own}
 use Rattle.messages.proofs.Fitting.{fits-head, fits-body}
-use Rattle.rows.specs.From.{layoutNumbered, packedBy, packedAs, messageWith, headWith, messageBy, messageFrom}
+use Rattle.rows.specs.From.{layoutNumbered, packedBy, packedAs, messageWith, layoutWith, headWith, messageBy, messageFrom}
 use Rattle.rows.specs.Rows.{layoutNumber, rowOf, messageFour, messageRow}
 use Rattle.rows.specs.declared.message.Four.{Four}
 use Rattle.rows.proofs.Cutting.{chosen}
@@ -33,6 +35,7 @@ numbered layout.Airborne = refl
 numbered layout.Ground = refl
 numbered layout.Air = refl
 numbered layout.Status = refl
+numbered layout.Coarse = refl
 numbered layout.NotTaken = refl
 
 fields-fit : (b : Body) → bodyFits b ≡ true → fits (bodyWidths b) (bodyFields b) ≡ true
@@ -48,20 +51,27 @@ packs (body.Airborne b) format control address key four e = chosen _ _ _ (fields
 packs (body.Ground b) format control address key four e = chosen _ _ _ (fields-fit (body.Ground b) e)
 packs (body.Air b) format control address key four e = chosen _ _ _ (fields-fit (body.Air b) e)
 packs (body.Status b) format control address key four e = chosen _ _ _ (fields-fit (body.Status b) e)
+packs (body.Coarse b) format control address key four e = chosen _ _ _ (fields-fit (body.Coarse b) e)
 
 module _ (m : Message) (e : messageFits m ≡ true) where
   abbrev n : ℕ
   n = bodyMe (m .body)
 
-  says : taken n ≡ read.Body (m .body)
-  says = read-back (m .body) (fits-body m e)
+  abbrev coarse : Bool
+  coarse = coarseBy (m .format) (m .control)
+
+  -- it is read as the body that it was packed of, which is coarse just where DF and CF say so
+  says : takenBy coarse n ≡ read.Body (m .body)
+  says =
+      ap (λ (t : Bool). takenBy t n) (sym (coarse-by-its-own (messageBytes m) m (encoded-decoded m e) .1))
+      ∙ read-back (m .body) (fits-body m e)
 
   -- so a row is the message that it was made of
   pub from-row : messageFrom (messageRow m) ≡ decode.Message m
-  unfolding messageFrom messageBy headWith rowOf
+  unfolding messageFrom messageBy headWith layoutWith rowOf
   from-row =
       ap (λ (l : Layout). messageBy (messageRow m) (packedAs l (messageRow m))) (numbered (bodyLayout (m .body)))
       ∙ ap (messageBy (messageRow m)) (packs (m .body) (m .format) (m .control) (m .address) (keyOf m) (messageFour m) (fits-body m e))
-      ∙ chosen _ _ _ (eq-eqb _ _ (ap layoutNumber (sym (fields-read n (m .body) says .0))))
       ∙ chosen _ _ _ (fits-head m e)
+      ∙ chosen _ _ _ (eq-eqb _ _ (ap layoutNumber (sym (fields-read coarse n (m .body) says .0))))
       ∙ ap (messageWith (m .format) (m .control) (m .address)) says

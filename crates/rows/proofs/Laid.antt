@@ -1,47 +1,30 @@
--- Arrays laid out entry by entry: each list of entries is the array that was handed over, whose length its definition has.
+-- A row laid into an array in three parts, each of which is filled.
 -- Assumes nothing.
-use Prim.Native.Nat.{ℕ}
+use Prim.Native.Nat.{ℕ, _≤_}
 use mathlib.Core.Path.{_≡_, refl, sym, ap, ap₂, _∙_}
-use mathlib.Core.Bool.{Bool, true, false}
-use mathlib.Core.List.{List, [], _∷_, _++_}
+use mathlib.Core.Bool.{Bool}
+use mathlib.Core.List.{List, [], _∷_, _++_, append-assoc, append-nil}
 use native.Mathlib.Omega.{arith}
 use lib.Dec.{eqb}
-use lib.ListN.{length, getD, length-append}
+use lib.ListN.{length, drop, length-append, length-drop, drop-of-length-le}
+use lib.Seq.{take-at, drop-at}
+use borrow.Rule.Slice.PartMut.{midOf, putMid, mid-len}
+use Rattle.entries.proofs.Filling.{filled-zeros}
 use borrow.Author.Tests.{eq-eqb, ne-eqb}
-use Rattle.fields.proofs.Bools.{by-test}
 use Rattle.entries.specs.Arrays.{filled}
-use Rattle.entries.specs.Twos.{twos}
-use Rattle.entries.specs.Means.{bit, altitudeReading, stepReading}
-use Rattle.readings.specs.Altitude.{altitudeOf}
-use Rattle.whereabouts.specs.declared.Saved.{Saved}
-use Rattle.track.specs.Track.{noSaved}
 use Rattle.layouts.specs.declared.bodies.Layout.{Layout}
 use Rattle.layouts.specs.Bodies.{layoutWidths, takenAs}
 use Rattle.fields.specs.Packing.{unpack}
-use Rattle.keys.specs.declared.Kind.{Kind}
-use Rattle.keys.specs.Keys.{kindIn, trafficIn}
-use Rattle.integrity.specs.declared.standard.Supplements.{Supplements}
-use Rattle.integrity.specs.declared.standard.Supplements.the-variants as supplements
-use Rattle.integrity.specs.Integrity.{integrityOf}
-use Rattle.integrity.specs.Standard.{versionOf, supplementsOf}
-use Rattle.entries.specs.declared.Reading.{Reading}
-use Rattle.track.specs.declared.Track.{Track}
 use Rattle.rows.specs.declared.message.Four.{Four}
 use Rattle.rows.specs.Rows.{layoutNumber, rowOf, fourIn, fourValues, meRow, rowInto}
-use Rattle.rows.specs.Same.{entries}
-use Rattle.rows.specs.Shown.{rowIn, knownAt, readingAt, unknown, isOf, named, source, moving, onGround, taxiing, isSaved, shown}
-use Rattle.rows.specs.Standard.{versionNumber, supplementBits, integrityReading, standardRow}
-use Rattle.rows.specs.Tracks.{keptRow, trackRow}
-use Rattle.rows.proofs.Cutting.{chosen, length-filled, filled-all, entries-all}
+use Rattle.rows.proofs.Cutting.{chosen, length-filled, filled-all}
 
 -- ---- the row of an ME
 
-pub row-is : (l : Layout) (f fields : List ℕ) (k : ℕ) (r four : Four) → f ≡ filled 15 fields → k ≡ layoutNumber l → r ≡ four
-    → k ∷ 0 ∷ 0 ∷ 0 ∷ 0 ∷ (entries 0 15 f ++ fourValues r) ≡ rowOf l (0 ∷ 0 ∷ 0 ∷ 0 ∷ []) fields four
-unfolding rowOf
-row-is l f fields k r four e q g =
-    ap₂ (λ (n : ℕ) (x : List ℕ). n ∷ 0 ∷ 0 ∷ 0 ∷ 0 ∷ (x ++ fourValues r)) q (entries-all 15 f (ap length e ∙ length-filled 15 fields) ∙ e)
-    ∙ ap (λ (x : Four). layoutNumber l ∷ 0 ∷ 0 ∷ 0 ∷ 0 ∷ (filled 15 fields ++ fourValues x)) g
+-- the next part is put behind those that are there
+put-next : (p r y : List ℕ) (a k : ℕ) → length p ≡ a → putMid a k (p ++ r) y ≡ (p ++ y) ++ drop k r
+put-next p r y a k e =
+    ap₂ (λ (x z : List ℕ). x ++ (y ++ drop k z)) (take-at p r a e) (drop-at p r a e) ∙ sym (append-assoc p y (drop k r))
 
 pub row-length : (l : Layout) (a b c d : ℕ) (fields : List ℕ) (four : Four) → length (rowOf l (a ∷ b ∷ c ∷ d ∷ []) fields four) ≡ 28
 unfolding rowOf
@@ -50,143 +33,43 @@ row-length l a b c d fields four = omega (arith, length-append (filled 15 fields
 pub row-kept : (out row : List ℕ) → (length out ≡ 28 → ⊥) → out ≡ rowInto out row
 row-kept out row h = rw (ne-eqb (length out) 28 h)
 
-pub row-put : (out row : List ℕ) (l : Layout) (n : ℕ) (traffic : Bool) {new : List ℕ} → length out ≡ 28 → row ≡ meRow l n traffic → new ≡ filled (length out) row → new ≡ rowInto out (meRow l n traffic)
-row-put out row l n traffic h e p =
-    let m : List ℕ = meRow l n traffic in
-    p ∙ ap₂ filled (h ∙ sym (row-length l 0 0 0 0 (unpack (layoutWidths l) n) (fourIn (takenAs l n) traffic))) e ∙ filled-all m
-    ∙ sym (chosen (eqb (length out) 28) m out (eq-eqb (length out) 28 h))
+-- three parts of an array, each filled
+module _ (out : List ℕ) (size : length out ≡ 28) (h f r : List ℕ) where
+  abbrev one : List ℕ
+  one = putMid 0 5 out h
 
--- ---- what people are shown
+  abbrev two : List ℕ
+  two = putMid 5 15 one f
 
-source-length : (traffic : Bool) (row : List ℕ) → length (source traffic row) ≡ 2
-unfolding source
-source-length true row = refl
-source-length false row = refl
+  parts : (head fields four : List ℕ) → length head ≡ 5 → length fields ≡ 15 → length four ≡ 8
+      → h ≡ filled (length (midOf 0 5 out)) head → f ≡ filled (length (midOf 5 15 one)) fields → r ≡ filled (length (midOf 20 8 two)) four
+      → putMid 20 8 two r ≡ head ++ (fields ++ four)
+  parts head fields four l m n p q e =
+      let left : List ℕ = drop 15 (drop 5 out) in
+      let hs : h ≡ head = p ∙ ap (λ (k : ℕ). filled k head) (mid-len 0 5 out (omega arith) ∙ sym l) ∙ filled-all head in
+      let hl : length h ≡ 5 = ap length hs ∙ l in
+      let ol : 20 ≤ length one = omega (arith, length-append h (drop 5 out), length-drop 5 out) in
+      let fs : f ≡ fields = q ∙ ap (λ (k : ℕ). filled k fields) (mid-len 5 20 one ol ∙ sym m) ∙ filled-all fields in
+      let fl : length f ≡ 15 = ap length fs ∙ m in
+      let t : two ≡ (h ++ f) ++ left = put-next h (drop 5 out) f 5 15 hl in
+      let hf : length (h ++ f) ≡ 20 = omega (arith, length-append h f) in
+      let tl : 28 ≤ length two = omega (arith, ap length t, length-append (h ++ f) left, length-drop 15 (drop 5 out), length-drop 5 out) in
+      let rs : r ≡ four = e ∙ ap (λ (k : ℕ). filled k four) (mid-len 20 28 two tl ∙ sym n) ∙ filled-all four in
+      let none : drop 8 left ≡ [] = drop-of-length-le left {i = 8} (omega (arith, length-drop 15 (drop 5 out), length-drop 5 out)) in
+      ap (λ (x : List ℕ). putMid 20 8 x r) t
+      ∙ put-next (h ++ f) left r 20 8 hf
+      ∙ ap (λ (x : List ℕ). ((h ++ f) ++ r) ++ x) none
+      ∙ append-nil ((h ++ f) ++ r)
+      ∙ append-assoc h f r
+      ∙ rw (hs, fs, rs)
 
-module _ (traffic : Bool) (row s : List ℕ) (e : s ≡ source traffic row) where
-  source-is : entries 0 2 s ≡ source traffic row
-  source-is = entries-all 2 s (ap length e ∙ source-length traffic row) ∙ e
-
-  pub over-ground : isOf 4 row ≡ true → readingAt row 20 ++ (readingAt row 22 ++ (unknown 4 ++ (readingAt row 24 ++ entries 0 2 s))) ≡ moving traffic row
-  unfolding moving
-  over-ground h = ap (λ (x : List ℕ). readingAt row 20 ++ (readingAt row 22 ++ (unknown 4 ++ (readingAt row 24 ++ x)))) source-is ∙ sym (chosen (isOf 4 row) _ _ h)
-
-  pub through-air : isOf 4 row ≡ false → isOf 5 row ≡ true
-      → unknown 2 ++ (readingAt row 20 ++ (knownAt row 10 ++ (readingAt row 22 ++ (knownAt row 12 ++ (readingAt row 24 ++ entries 0 2 s))))) ≡ moving traffic row
-  unfolding moving
-  through-air n h =
-      ap (λ (x : List ℕ). unknown 2 ++ (readingAt row 20 ++ (knownAt row 10 ++ (readingAt row 22 ++ (knownAt row 12 ++ (readingAt row 24 ++ x)))))) source-is
-      ∙ rw (n, h)
-
-module _ (row : List ℕ) where
-  abbrev Of : ℕ → List ℕ → Type 0
-  Of n l = length l ≡ n
-
-  named-length : length (named row) ≡ 6
-  unfolding named
-  named-length = by-test (Of 6) (isOf 1 row) _ _ (λ _. refl) (λ _. refl)
-
-  moving-length : (traffic : Bool) → length (moving traffic row) ≡ 16
-  unfolding moving
-  moving-length traffic =
-      let s = source-length traffic row in
-      by-test (Of 16) (isOf 4 row) _ _ (λ _. omega arith)
-      (λ _. by-test (Of 16) (isOf 5 row) _ _ (λ _. omega arith) (λ _. refl))
-
-  ground-length : (encoded : Bool) → length (onGround encoded row) ≡ 2
-  unfolding onGround
-  ground-length encoded = by-test (Of 2) encoded _ _ (λ _. refl) (λ _. by-test (Of 2) (isOf 2 row) _ _ (λ _. refl) (λ _. refl))
-
-  taxiing-length : length (taxiing row) ≡ 6
-  unfolding taxiing
-  taxiing-length = by-test (Of 6) (isOf 2 row) _ _ (λ _. refl) (λ _. refl)
-
-whole : (k : ℕ) (l meant : List ℕ) → l ≡ meant → length meant ≡ k → entries 0 k l ≡ meant
-whole k l meant e h = entries-all k l (ap length e ∙ h) ∙ e
-
-module _ (traffic : Bool) (t : Track) where
-  abbrev surface : List ℕ
-  surface = rowIn traffic (t .groups .surface)
-
-  pub shows : (n m o s : List ℕ) → n ≡ named (rowIn traffic (t .groups .identification)) → m ≡ moving traffic (rowIn traffic (t .groups .velocity))
-      → o ≡ onGround (isSaved t) surface → s ≡ taxiing surface
-      → entries 0 6 n ++ (entries 0 16 m ++ (entries 0 2 o ++ entries 0 6 s)) ≡ shown traffic t
-  unfolding shown
-  shows n m o s p q r e =
-      ap₂ (λ (a b : List ℕ). a ++ b) (whole 6 n _ p (named-length (rowIn traffic (t .groups .identification))))
-      (ap₂ (λ (a b : List ℕ). a ++ b) (whole 16 m _ q (moving-length (rowIn traffic (t .groups .velocity)) traffic))
-      (ap₂ (λ (a b : List ℕ). a ++ b) (whole 2 o _ r (ground-length surface (isSaved t))) (whole 6 s _ e (taxiing-length surface))))
-
-  shown-length : length (shown traffic t) ≡ 30
-  unfolding shown
-  shown-length =
-      let i : List ℕ = named (rowIn traffic (t .groups .identification)) in
-      let v : List ℕ = moving traffic (rowIn traffic (t .groups .velocity)) in
-      let o : List ℕ = onGround (isSaved t) surface in
-      omega (
-        arith,
-        length-append i (v ++ (o ++ taxiing surface)),
-        length-append v (o ++ taxiing surface),
-        length-append o (taxiing surface),
-        named-length (rowIn traffic (t .groups .identification)),
-        moving-length (rowIn traffic (t .groups .velocity)) traffic,
-        ground-length surface (isSaved t),
-        taxiing-length surface,
-      )
-
--- ---- the row of a track
-
-module _ (t : Track) where
-  abbrev even : Saved
-  even = getD (t .saved) 0 noSaved
-
-  abbrev odd : Saved
-  odd = getD (t .saved) 1 noSaved
-
-  pub keeps : (bit8 known latitude e o : ℕ) (pressure step height height-step : Reading)
-      → bit8 ≡ bit (t .groups .bit8) → known ≡ bit (t .position .known) → latitude ≡ twos (t .position .spot .latitude) → e ≡ bit (even .known) → o ≡ bit (odd .known)
-      → pressure ≡ altitudeReading (altitudeOf (t .groups .pressure)) → step ≡ stepReading (altitudeOf (t .groups .pressure))
-      → height ≡ altitudeReading (altitudeOf (t .groups .height)) → height-step ≡ stepReading (altitudeOf (t .groups .height))
-      → 1 ∷ t .heard ∷ t .groups .identification ∷ t .groups .velocity ∷ t .groups .surface ∷ t .groups .status ∷ t .groups .pressure ∷ t .groups .height ∷
-      t .groups .typecode ∷ bit8 ∷
-      known ∷ latitude ∷ t .position .spot .longitude ∷ t .position .time ∷
-      e ∷ even .counts .latitude .0 ∷ even .counts .longitude .0 ∷ even .time ∷
-      o ∷ odd .counts .latitude .0 ∷ odd .counts .longitude .0 ∷ odd .time ∷
-      pressure .what ∷ pressure .value ∷ step .what ∷ step .value ∷ height .what ∷ height .value ∷ height-step .what ∷ height-step .value ∷ [] ≡ keptRow t
-  unfolding keptRow
-  keeps bit8 known latitude e o pressure step height height-step a b c d f g h i j = rw (a, b, c, d, f, g, h, i, j)
-
-kept-length : (t : Track) → length (keptRow t) ≡ 30
-unfolding keptRow
-kept-length t = refl
-
-bits-length : (s : Supplements) → length (supplementBits s) ≡ 3
-bits-length (supplements.Bits s) = refl
-bits-length (supplements.Refused r) = refl
-
-module _ (kind : Kind) (t : Track) where
-  abbrev supplementing : Supplements
-  supplementing = supplementsOf kind (t .groups .status) (t .groups .bit8)
-
-  -- its version, the three supplements, and the integrity as a reading
-  pub standing : (v : ℕ) (s : List ℕ) (r : Reading) → v ≡ versionNumber (versionOf kind (t .groups .status)) → s ≡ supplementBits supplementing
-      → r ≡ integrityReading (integrityOf kind (t .groups .status) (t .groups .typecode) (t .groups .bit8))
-      → v ∷ (entries 0 3 s ++ (r .what ∷ r .value ∷ [])) ≡ standardRow kind t
-  unfolding standardRow
-  standing v s r p q e =
-      ap₂ (λ (n : ℕ) (l : List ℕ). n ∷ l) p
-      (ap₂ (λ (l : List ℕ) (x : Reading). l ++ (x .what ∷ x .value ∷ [])) (whole 3 s (supplementBits supplementing) q (bits-length supplementing)) e)
-
-  standard-length : length (standardRow kind t) ≡ 6
-  unfolding standardRow
-  standard-length =
-      let r = integrityReading (integrityOf kind (t .groups .status) (t .groups .typecode) (t .groups .bit8)) in
-      omega (arith, length-append (supplementBits supplementing) (r .what ∷ r .value ∷ []), bits-length supplementing)
-
-pub joined : (key : ℕ) (t : Track) (traffic : Bool) (kind : Kind) (k s i : List ℕ) → traffic ≡ trafficIn key → kind ≡ kindIn key
-    → k ≡ keptRow t → s ≡ shown traffic t → i ≡ standardRow kind t → entries 0 30 k ++ (entries 0 30 s ++ entries 0 6 i) ≡ trackRow key t
-unfolding trackRow
-joined key t traffic kind k s i p q a b c =
-    ap₂ (λ (x y : List ℕ). x ++ y) (whole 30 k _ a (kept-length t))
-    (ap₂ (λ (x y : List ℕ). x ++ y) (whole 30 s _ b (shown-length traffic t) ∙ ap (λ (z : Bool). shown z t) p)
-    (whole 6 i _ c (standard-length kind t) ∙ ap (λ (z : Kind). standardRow z t) q))
+  pub row-put : (l : Layout) (n k : ℕ) (traffic : Bool) (four : Four) → k ≡ layoutNumber l → four ≡ fourIn (takenAs l n) traffic
+      → h ≡ filled (length (midOf 0 5 out)) (k ∷ []) → f ≡ filled (length (midOf 5 15 one)) (filled 15 (unpack (layoutWidths l) n))
+      → r ≡ filled (length (midOf 20 8 two)) (fourValues four) → putMid 20 8 two r ≡ rowInto out (meRow l n traffic)
+  unfolding rowOf
+  row-put l n k traffic four a b p q e =
+      let fields : List ℕ = filled 15 (unpack (layoutWidths l) n) in
+      let zeros = filled-zeros (length (midOf 0 5 out)) (k ∷ []) 4 in
+      parts (k ∷ 0 ∷ 0 ∷ 0 ∷ 0 ∷ []) fields (fourValues four) refl (length-filled 15 (unpack (layoutWidths l) n)) refl (p ∙ sym zeros) q e
+      ∙ ap₂ (λ (x : ℕ) (y : Four). x ∷ 0 ∷ 0 ∷ 0 ∷ 0 ∷ (fields ++ fourValues y)) a b
+      ∙ sym (chosen (eqb (length out) 28) (meRow l n traffic) out (eq-eqb (length out) 28 size))

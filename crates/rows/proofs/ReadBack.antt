@@ -2,7 +2,7 @@
 -- Assumes nothing.
 use Prim.Native.Nat.{ℕ, zero, suc}
 use mathlib.Core.Path.{_≡_, refl, sym, ap, subst, _∙_}
-use mathlib.Core.Bool.{true}
+use mathlib.Core.Bool.{Bool, true}
 use mathlib.Core.List.{List, [], _∷_}
 use lib.Dec.{eqb}
 use lib.ListN.{length, getD}
@@ -17,13 +17,13 @@ use Rattle.layouts.specs.declared.bodies.Taken.{Taken}
 use Rattle.layouts.specs.declared.bodies.Taken.the-variants as read
 use Rattle.layouts.specs.declared.bodies.Written.{Written}
 use Rattle.layouts.specs.declared.bodies.Written.the-variants as write
-use Rattle.layouts.specs.Bodies.{layoutOf, isTaken, layoutWidths, taken, bodyFields}
+use Rattle.layouts.specs.Bodies.{layoutBy, isTaken, layoutWidths, takenBy, bodyFields}
 use Rattle.layouts.proofs.BothWays.{fields-read}
 use Rattle.messages.specs.declared.Message.{Message}
 use Rattle.messages.specs.declared.Decoded.{Decoded}
 use Rattle.messages.specs.declared.Decoded.the-variants as decode
-use Rattle.messages.specs.Message.{headWidths}
-use Rattle.rows.specs.From.{layoutNumbered, fieldsFrom, packedBy, packedAs, messageWith, headWith, messageBy, messageFrom}
+use Rattle.messages.specs.Message.{coarseBy, headWidths}
+use Rattle.rows.specs.From.{layoutNumbered, fieldsFrom, packedBy, packedAs, messageWith, layoutWith, headWith, messageBy, messageFrom}
 use Rattle.rows.specs.Rows.{layoutNumber, rowOf}
 use Rattle.rows.specs.Same.{entries, Same}
 use Rattle.rows.proofs.BothWays.{numbered}
@@ -44,13 +44,16 @@ module _ (l : List ℕ) where
     abbrev p : ℕ
     p = pack (layoutWidths a) ds
 
+    abbrev coarse : Bool
+    coarse = coarseBy (getD l 1 0) (getD l 2 0)
+
     -- of the layout of the ME, whose number entry 0 is
-    same : (b : Body) → fits (layoutWidths a) ds ≡ true → layoutNumber (layoutOf p) ≡ getD l 0 0 → taken p ≡ read.Body b
+    same : (b : Body) → fits (layoutWidths a) ds ≡ true → layoutNumber (layoutBy coarse p) ≡ getD l 0 0 → takenBy coarse p ≡ read.Body b
         → Same l (record { format = getD l 1 0; control = getD l 2 0; address = getD l 3 0; body = b })
     unfolding rowOf
     same b f e r =
-        let c = fields-read p b r in
-        let k : layoutOf p ≡ a = sym (numbered (layoutOf p)) ∙ ap layoutNumbered e ∙ sym q in
+        let c = fields-read coarse p b r in
+        let k : layoutBy coarse p ≡ a = sym (numbered (layoutBy coarse p)) ∙ ap layoutNumbered e ∙ sym q in
         let d : bodyFields b ≡ ds = c .1 ∙ ap (λ (x : Layout). unpack (layoutWidths x) p) k ∙ unpack-pack (layoutWidths a) ds (fits-fit (layoutWidths a) ds f) in
         record {
           layout = ap layoutNumber (c .0) ∙ e;
@@ -58,15 +61,16 @@ module _ (l : List ℕ) where
           body = d ∙ ap (λ (n : ℕ). entries 5 n l) (sym (ap length d ∙ length-entries (length (layoutWidths a)) 5 l));
         }
 
-    with-taken : (t : Taken) → taken p ≡ t → fits (layoutWidths a) ds ≡ true → layoutNumber (layoutOf p) ≡ getD l 0 0 → Read (messageWith (getD l 1 0) (getD l 2 0) (getD l 3 0) t)
+    with-taken : (t : Taken) → takenBy coarse p ≡ t → fits (layoutWidths a) ds ≡ true → layoutNumber (layoutBy coarse p) ≡ getD l 0 0
+        → Read (messageWith (getD l 1 0) (getD l 2 0) (getD l 3 0) t)
     with-taken (read.Body b) r f e = same b f e r
     with-taken (read.Refused x) r f e = tt
 
     with-me : fits (layoutWidths a) ds ≡ true → Read (messageBy l (write.Me p))
-    unfolding messageBy headWith
+    unfolding messageBy headWith layoutWith
     with-me f =
-        by-test Read (eqb (layoutNumber (layoutOf p)) (getD l 0 0)) _ _
-        (λ e. by-test Read (fits headWidths (getD l 1 0 ∷ getD l 2 0 ∷ getD l 3 0 ∷ [])) _ _ (λ _. with-taken (taken p) refl f (eqb-true _ _ e)) (λ _. tt))
+        by-test Read (fits headWidths (getD l 1 0 ∷ getD l 2 0 ∷ getD l 3 0 ∷ [])) _ _
+        (λ _. by-test Read (eqb (layoutNumber (layoutBy coarse p)) (getD l 0 0)) _ _ (λ e. with-taken (takenBy coarse p) refl f (eqb-true _ _ e)) (λ _. tt))
         (λ _. tt)
 
     as-layout : Read (messageBy l (packedAs a l))

@@ -7,22 +7,11 @@ use Prim.Native.Nat.{ℕ}
 use Rattle.refusals.specs.Answers.{OneAnswer, OneOutcome}
 use Rattle.rows.proofs.back.message_from.Kinds as message-from-kinds
 use Rattle.rows.proofs.back.message_from.Reads as message-from
-use Rattle.entries.specs.Sent.{Sent, sent}
-use Rattle.rows.proofs.held.give_held.Kinds as give-held-kinds
-use Rattle.rows.proofs.held.give_held.Reads as give-held
 use Rattle.rows.proofs.message.put_me.Kinds as put-me-kinds
 use Rattle.rows.proofs.message.put_me.Reads as put-me
-use Rattle.rows.proofs.tracks.track_values.Kinds as track-values-kinds
-use Rattle.rows.proofs.tracks.track_values.Reads as track-values
 
 pub message-from-once : OneAnswer 1 message-from-kinds.ps message-from-kinds.r message-from.Post
 message-from-once κs args x y left left′ p q = p ∙ sym q
 
-pub give-held-once : OneOutcome 1 give-held-kinds.ps give-held-kinds.r Sent (λ κs x left. sent x (left .0 .now)) give-held.Post
-give-held-once κs args x y left left′ p q = p ∙ sym q
-
 pub put-me-once : OneOutcome 1 put-me-kinds.ps put-me-kinds.r (Bool × List ℕ) (λ κs x left. (x, left .0 .now)) put-me.Post
 put-me-once κs args x y left left′ p q = ap₂ (λ (a : Bool) (b : List ℕ). (a, b)) (p .0 ∙ sym (q .0)) (p .1 ∙ sym (q .1))
-
-pub track-values-once : OneAnswer 0 track-values-kinds.ps track-values-kinds.r track-values.Post
-track-values-once κs args x y left left′ p q = p ∙ sym q

@@ -17,13 +17,14 @@ use Rattle.readings.specs.declared.bodies.AirborneReadings.{AirborneReadings}
 use Rattle.readings.specs.declared.bodies.GroundReadings.{GroundReadings}
 use Rattle.readings.specs.declared.bodies.AirReadings.{AirReadings}
 use Rattle.readings.specs.declared.bodies.StatusReadings.{StatusReadings}
+use Rattle.readings.specs.declared.bodies.CoarseReadings.{CoarseReadings}
 use Rattle.readings.specs.declared.bodies.Readings.{Readings}
 use Rattle.readings.specs.declared.bodies.Readings.the-variants as readings
 use Rattle.readings.specs.Bodies.{readingsOf}
 use Rattle.messages.specs.declared.Message.{Message}
 use Rattle.messages.specs.Message.{headFields, keyOf, traffic}
 use Rattle.rows.specs.declared.message.Four.{Four}
-use Rattle.entries.specs.Means.{reading, bit, altitudeReading, stepReading, speedReading, rateReading, differenceReading, headingReading, movementReading, setReading, textReading, versionReading, supplementReading}
+use Rattle.entries.specs.Means.{reading, bit, altitudeReading, stepReading, speedReading, rateReading, differenceReading, headingReading, movementReading, coarseSpeedReading, setReading, textReading, versionReading, supplementReading}
 
 -- ---- the readings of each layout
 
@@ -87,6 +88,16 @@ statusFour m =
       fourth = reading 0 0;
     }
 
+-- altitude, its step, track angle, speed
+abbrev pub coarseFour : CoarseReadings → Four
+coarseFour m =
+    record {
+      first = altitudeReading (m .altitude);
+      second = stepReading (m .altitude);
+      third = headingReading (m .angle);
+      fourth = coarseSpeedReading (m .speed);
+    }
+
 -- of a body that is refused
 abbrev pub refusedFour : Four
 refusedFour = record { first = reading 5 0; second = reading 5 0; third = reading 5 0; fourth = reading 5 0 }
@@ -98,6 +109,7 @@ fourOf (readings.Airborne m) = airborneFour m
 fourOf (readings.Ground m) = groundFour m
 fourOf (readings.Air m) = airFour m
 fourOf (readings.Status m) = statusFour m
+fourOf (readings.Coarse m) = coarseFour m
 fourOf (readings.Refused r) = refusedFour
 
 abbrev pub fourValues : Four → List ℕ
@@ -120,6 +132,7 @@ layoutNumber layout.Airborne = 3
 layoutNumber layout.Ground = 4
 layoutNumber layout.Air = 5
 layoutNumber layout.Status = 6
+layoutNumber layout.Coarse = 7
 
 -- behind the layout what stands before ME, with the key
 unfoldable pub rowOf : Layout → List ℕ → List ℕ → Four → List ℕ

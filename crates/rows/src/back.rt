@@ -9,7 +9,7 @@ use messages::Message;
 use refusals::Refusal;
 ghost use mathlib.Core.Path.{_≡_};
 ghost use Prim.Native.Nat.{_<_};
-ghost use Rattle.rows.specs.From.{messageWith, headWith, messageBy, messageFrom};
+ghost use Rattle.rows.specs.From.{messageWith, layoutWith, headWith, messageBy, messageFrom};
 
 fn message_with(format: u8, control: u8, address: u32, taken: Taken) -> Decoded
     ensures { λ r. ⌜ r ≡ messageWith format control address taken ⌝ }
@@ -25,29 +25,37 @@ fn message_with(format: u8, control: u8, address: u32, taken: Taken) -> Decoded
     }
 }
 
-// DF, CA or CF and AA, each within its bits, with what ME says.
-fn head_with(format: u64, control: u64, address: u64, taken: Taken) -> Decoded
-    ensures { λ r. ⌜ r ≡ headWith format control address taken ⌝ }
+// With an ME that has the layout of a number, which is the coarse one where DF and CF say so.
+fn layout_with(number: u64, format: u8, control: u8, address: u32, me: u64) -> Decoded
+    ensures { λ r. ⌜ r ≡ layoutWith number format control address me ⌝ }
+{
+    let coarse = messages::coarse_by(format, control);
+    if number_of(layouts::layout_by(coarse, me)) != number {
+        return Decoded::Refused(Refusal::Field);
+    }
+    message_with(format, control, address, layouts::body_by(coarse, me))
+}
+
+// DF, CA or CF and AA, each within its bits, with an ME.
+fn head_with(number: u64, format: u64, control: u64, address: u64, me: u64) -> Decoded
+    ensures { λ r. ⌜ r ≡ headWith number format control address me ⌝ }
 {
     if (format < 32) & (control < 8) & (address < 0x100_0000) {
-        message_with(format as u8, control as u8, address as u32, taken)
+        layout_with(number, format as u8, control as u8, address as u32, me)
     } else {
         Decoded::Refused(Refusal::Field)
     }
 }
 
-// With an ME that has the layout which entry 0 says.
+// With an ME and what entries 0 to 3 say.
 fn with_me(fields: &[u64], me: u64) -> Decoded
     ensures { λ r. ⌜ r ≡ messageBy (now (fields .entry)) (Written.Me me) ⌝ }
 {
-    let layout = layouts::layout_of(me);
-    if number_of(layout) != entries::entry(fields, 0) {
-        return Decoded::Refused(Refusal::Field);
-    }
+    let number = entries::entry(fields, 0);
     let format = entries::entry(fields, 1);
     let control = entries::entry(fields, 2);
     let address = entries::entry(fields, 3);
-    head_with(format, control, address, layouts::body_of(me))
+    head_with(number, format, control, address, me)
 }
 
 // A message from its 28 numbers, or 8.

@@ -1,9 +1,10 @@
 // An ME as 28 numbers, its fields and its readings; who has a message adds what stands before ME.
-use crate::widths::fields_in;
 use crate::widths::number_of;
+use crate::widths::put_fields;
 use entries::Reading;
 use entries::altitude_reading;
 use entries::bit;
+use entries::coarse_speed_reading;
 use entries::difference_reading;
 use entries::heading_reading;
 use entries::movement_reading;
@@ -20,6 +21,7 @@ use layouts::Layout;
 use layouts::Taken;
 use readings::AirReadings;
 use readings::AirborneReadings;
+use readings::CoarseReadings;
 use readings::GroundReadings;
 use readings::IdentificationReadings;
 use readings::Readings;
@@ -29,7 +31,8 @@ ghost use mathlib.Core.Path.{_≡_};
 ghost use lib.Dec.{eqb};
 ghost use lib.ListN.{length};
 ghost use Rattle.readings.specs.Bodies.{readingsOf};
-ghost use Rattle.rows.specs.Rows.{identificationFour, surfaceFour, airborneFour, groundFour, airFour, statusFour, refusedFour, fourOf, fourIn, meRow, rowInto};
+ghost use Rattle.entries.specs.Arrays.{filled};
+ghost use Rattle.rows.specs.Rows.{identificationFour, surfaceFour, airborneFour, groundFour, airFour, statusFour, coarseFour, refusedFour, fourOf, fourIn, fourValues, meRow, rowInto};
 
 // The readings of a layout.
 pub struct Four {
@@ -124,6 +127,20 @@ fn status_four(m: StatusReadings) -> Four
     }
 }
 
+fn coarse_four(m: CoarseReadings) -> Four
+    ensures { λ r. ⌜ r ≡ coarseFour m ⌝ }
+{
+    let altitude = m.altitude;
+    let angle = m.angle;
+    let speed = m.speed;
+    Four {
+        first: altitude_reading(altitude),
+        second: step_reading(altitude),
+        third: heading_reading(angle),
+        fourth: coarse_speed_reading(speed),
+    }
+}
+
 fn refused_four() -> Four
     ensures { λ r. ⌜ r ≡ refusedFour ⌝ }
 {
@@ -147,6 +164,7 @@ fn four_of(b: Body, traffic: bool) -> Four
         Readings::Ground(x) => ground_four(x),
         Readings::Air(x) => air_four(x),
         Readings::Status(x) => status_four(x),
+        Readings::Coarse(x) => coarse_four(x),
         Readings::Refused(_) => refused_four(),
     }
 }
@@ -160,33 +178,11 @@ fn four_in(taken: Taken, traffic: bool) -> Four
     }
 }
 
-// What the 56 bits of ME say in a layout, as 28 numbers.
-fn me_values(layout: Layout, me: u64, traffic: bool) -> [u64; 28]
-    ensures { λ r. ⌜ r ≡ meRow layout me traffic ⌝ }
+// Fills an array with four readings.
+fn put_four(out: &mut [u64], r: Four)
+    ensures { λ _. ⌜ now (out .exit) ≡ filled (length (now (out .entry))) (fourValues r) ⌝ }
 {
-    let f = fields_in(layout, me);
-    let r = four_in(layouts::body_as(layout, me), traffic);
-    [
-        number_of(layout),
-        0,
-        0,
-        0,
-        0,
-        f[0],
-        f[1],
-        f[2],
-        f[3],
-        f[4],
-        f[5],
-        f[6],
-        f[7],
-        f[8],
-        f[9],
-        f[10],
-        f[11],
-        f[12],
-        f[13],
-        f[14],
+    let values = [
         r.first.what,
         r.first.value,
         r.second.what,
@@ -195,7 +191,8 @@ fn me_values(layout: Layout, me: u64, traffic: bool) -> [u64; 28]
         r.third.value,
         r.fourth.what,
         r.fourth.value,
-    ]
+    ];
+    entries::fill(out, &values);
 }
 
 // Fills an array of 28 entries, and says whether it is one; another it leaves as it was.
@@ -205,7 +202,9 @@ pub fn put_me(out: &mut [u64], layout: Layout, me: u64, traffic: bool) -> bool
     if out.len() != 28 {
         return false;
     }
-    let row = me_values(layout, me, traffic);
-    entries::fill(out, &row);
+    entries::fill(&mut out[0..5], &[number_of(layout)]);
+    put_fields(&mut out[5..20], layout, me);
+    let four = four_in(layouts::body_as(layout, me), traffic);
+    put_four(&mut out[20..28], four);
     true
 }

@@ -21,6 +21,8 @@ const VELOCITY: [u8; 15] = [5, 3, 1, 1, 3, 1, 10, 1, 10, 1, 1, 9, 2, 1, 7];
 
 const STATUS: [u8; 14] = [5, 3, 11, 1, 4, 16, 3, 1, 4, 2, 2, 1, 1, 2];
 
+const COARSE: [u8; 10] = [1, 2, 4, 12, 1, 5, 6, 1, 12, 12];
+
 pub(crate) fn number_of(layout: Layout) -> u64
     ensures { λ r. ⌜ r ≡ layoutNumber layout ⌝ }
 {
@@ -32,6 +34,7 @@ pub(crate) fn number_of(layout: Layout) -> u64
         Layout::Ground => 4,
         Layout::Air => 5,
         Layout::Status => 6,
+        Layout::Coarse => 7,
     }
 }
 
@@ -56,6 +59,9 @@ pub(crate) fn layout_at(number: u64) -> Layout
     }
     if number == 6 {
         return Layout::Status;
+    }
+    if number == 7 {
+        return Layout::Coarse;
     }
     Layout::NotTaken
 }
@@ -91,18 +97,28 @@ fn cut(widths: &[u8], me: u64) -> [u64; 15]
     out
 }
 
-// The fields of ME in a layout.
-pub(crate) fn fields_in(layout: Layout, me: u64) -> [u64; 15]
-    ensures { λ r. ⌜ r ≡ filled 15 (unpack (layoutWidths layout) me) ⌝ }
+// Fills an array with them.
+fn put_cut(out: &mut [u64], widths: &[u8], me: u64)
+    requires { ⌜ (length (now widths) ≤ 15) × (total (now widths) ≡ 56) ⌝ }
+    ensures { λ _. ⌜ now (out .exit) ≡ filled (length (now (out .entry))) (filled 15 (unpack (now (widths .entry)) me)) ⌝ }
+{
+    let f = cut(widths, me);
+    entries::fill(out, &f);
+}
+
+// Fills an array with the fields of ME in a layout, 15 at most, in an arm of its own for each: so they go where they stand.
+pub(crate) fn put_fields(out: &mut [u64], layout: Layout, me: u64)
+    ensures { λ _. ⌜ now (out .exit) ≡ filled (length (now (out .entry))) (filled 15 (unpack (layoutWidths layout) me)) ⌝ }
 {
     match layout {
-        Layout::Identification => cut(&IDENTIFICATION, me),
-        Layout::Surface => cut(&SURFACE, me),
-        Layout::Airborne => cut(&AIRBORNE, me),
-        Layout::Ground => cut(&VELOCITY, me),
-        Layout::Air => cut(&VELOCITY, me),
-        Layout::Status => cut(&STATUS, me),
-        Layout::NotTaken => [0u64; 15],
+        Layout::Identification => put_cut(out, &IDENTIFICATION, me),
+        Layout::Surface => put_cut(out, &SURFACE, me),
+        Layout::Airborne => put_cut(out, &AIRBORNE, me),
+        Layout::Ground => put_cut(out, &VELOCITY, me),
+        Layout::Air => put_cut(out, &VELOCITY, me),
+        Layout::Status => put_cut(out, &STATUS, me),
+        Layout::Coarse => put_cut(out, &COARSE, me),
+        Layout::NotTaken => entries::fill(out, &[0u64; 15]),
     }
 }
 
@@ -151,6 +167,7 @@ pub(crate) fn packed_as(layout: Layout, fields: &[u64]) -> Written
         Layout::Ground => packed(&VELOCITY, fields),
         Layout::Air => packed(&VELOCITY, fields),
         Layout::Status => packed(&STATUS, fields),
+        Layout::Coarse => packed(&COARSE, fields),
         Layout::NotTaken => Written::Refused(Refusal::Field),
     }
 }

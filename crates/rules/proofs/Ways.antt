@@ -16,7 +16,7 @@ use Rattle.refusals.specs.Numbers.{numberOf}
 use Rattle.fields.specs.Bytes.{number as numeral}
 use Rattle.fields.proofs.Bools.{by-test}
 use Rattle.parity.specs.Parity.{remainder}
-use Rattle.layouts.specs.Bodies.{typeIn, layoutOf, flagIn, takenAs, taken, bodyFits}
+use Rattle.layouts.specs.Bodies.{layoutBy, takenAs, takenBy, bodyFits}
 use Rattle.layouts.specs.declared.bodies.Layout.{Layout}
 use Rattle.layouts.specs.declared.bodies.Layout.the-variants as layout
 use Rattle.layouts.specs.declared.bodies.Taken.{Taken}
@@ -25,7 +25,7 @@ use Rattle.layouts.proofs.BothWays.{read-good}
 use Rattle.messages.specs.declared.Message.{Message}
 use Rattle.messages.specs.declared.Decoded.{Decoded}
 use Rattle.messages.specs.declared.Decoded.the-variants as decode
-use Rattle.messages.specs.Message.{bits, formatTaken, isReserved, withBody, opened, decoded}
+use Rattle.messages.specs.Message.{bits, formatTaken, coarseBy, reservedIn, withBody, opened, decoded}
 use Rattle.messages.proofs.Keys.{decoded-from}
 use Rattle.rules.specs.Form.{Form}
 use Rattle.rules.specs.Rules.{After, after, delivered, received}
@@ -81,6 +81,7 @@ body-refuses layout.Airborne n = tt
 body-refuses layout.Ground n = tt
 body-refuses layout.Air n = tt
 body-refuses layout.Status n = tt
+body-refuses layout.Coarse n = tt
 body-refuses layout.NotTaken n = refl
 
 abbrev ByDecoder : Decoded → Type 0
@@ -96,9 +97,10 @@ module _ (message : List ℕ) where
   unfolding opened
   opened-refuses =
       let n : ℕ = bits 33 88 message in
+      let coarse : Bool = coarseBy (bits 1 5 message) (bits 6 8 message) in
       by-test ByDecoder (not (formatTaken (bits 1 5 message) (bits 6 8 message))) _ _ (λ _. inr (inl refl))
-      (λ _. by-test ByDecoder (isReserved (bits 1 5 message) (bits 6 8 message) (typeIn n) (flagIn n)) _ _ (λ _. inr (inr refl))
-      (λ _. with-body (bits 1 5 message) (bits 6 8 message) (bits 9 32 message) (taken n) (body-refuses (layoutOf n) n)))
+      (λ _. by-test ByDecoder (reservedIn (bits 1 5 message) (bits 6 8 message) n) _ _ (λ _. inr (inr refl))
+      (λ _. with-body (bits 1 5 message) (bits 6 8 message) (bits 9 32 message) (takenBy coarse n) (body-refuses (layoutBy coarse n) n)))
 
   pub decoder-refuses : (r : Refusal) → length message ≡ 14 → decoded message ≡ decode.Refused r → Undecoded r
   decoder-refuses r l d =
@@ -115,7 +117,7 @@ module _ (message : List ℕ) where
 
   -- what it takes fits: each field is cut from its bits
   pub decoded-fits : (m : Message) → decoded message ≡ decode.Message m → bodyFits (m .body) ≡ true
-  decoded-fits m d = read-good (bits 33 88 message) (m .body) (mod-lt (numeral message / 2 ^ 24) (lit< tt)) (decoded-from message m d .0) .0
+  decoded-fits m d = read-good (coarseBy (bits 1 5 message) (bits 6 8 message)) (bits 33 88 message) (m .body) (mod-lt (numeral message / 2 ^ 24) (lit< tt)) (decoded-from message m d .0) .0
 
 -- ---- a call
 

@@ -4,8 +4,9 @@ use mathlib.Core.Bool.{Bool, _&&_}
 use lib.Dec.{ltb}
 use lib.ListN.{getD}
 use Rattle.keys.specs.Keys.{isKey}
-use Rattle.positions.specs.declared.Counts.{Counts}
-use Rattle.positions.specs.Positions.{poleToPole}
+use Rattle.positions.specs.Positions.{countSize, poleToPole}
+use Rattle.whereabouts.specs.declared.Saved.{Saved}
+use Rattle.whereabouts.specs.Located.{sizeOf}
 use Rattle.track.specs.declared.Groups.{Groups}
 use Rattle.track.specs.declared.Track.{Track}
 use Rattle.track.specs.Track.{newTrack, noSaved}
@@ -33,17 +34,17 @@ groupsFit g =
     && ltb (g .height) 4096
     && ltb (g .typecode) 32
 
--- two counts of 17 bits
-unfoldable pub countsFit : Counts → Bool
-countsFit c = ltb (c .latitude .0) 131072 && ltb (c .longitude .0) 131072
+-- two counts of 17 bits, or of 12 if they are coarse
+unfoldable pub countsFit : Saved → Bool
+countsFit v = ltb (v .counts .latitude .0) (countSize (sizeOf (v .coarse))) && ltb (v .counts .longitude .0) (countSize (sizeOf (v .coarse)))
 
 -- .. a latitude from pole to pole, and the counts of the two saved positions
 unfoldable pub trackFits : Track → Bool
 trackFits t =
     groupsFit (t .groups)
     && poleToPole (t .position .spot .latitude)
-    && countsFit (getD (t .saved) 0 noSaved .counts)
-    && countsFit (getD (t .saved) 1 noSaved .counts)
+    && countsFit (getD (t .saved) 0 noSaved)
+    && countsFit (getD (t .saved) 1 noSaved)
 
 -- .. and the key is one
 unfoldable pub inRange : Place → Bool

@@ -6,7 +6,7 @@
 // the two altitude codes                 below 2^12
 // TYPE of the latest position message    below 2^5
 // latitude of the position               from -2^30 to 2^30
-// counts of the two saved positions      below 2^17
+// counts of the two saved positions      below 2^17, below 2^12 if they are coarse
 // all else                               any
 //
 // A place with any value out of its range is free. An ME whose TYPE is not of its group says 'none heard', and what has no mark is none. A site whose latitude is out of its range counts as none.

@@ -1,9 +1,11 @@
 // Whether a place is held: each of its values in its range, and its track in date.
 use crate::Place;
-use positions::Counts;
 use track::Groups;
 use track::Track;
+use whereabouts::Saved;
 ghost use mathlib.Core.Path.{_≡_};
+ghost use Rattle.positions.specs.Positions.{countSize};
+ghost use Rattle.whereabouts.specs.Located.{sizeOf};
 ghost use Rattle.slice_places.specs.Ranges.{groupsFit, countsFit, trackFits, inRange, isHeld, holds};
 
 fn groups_fit(g: Groups) -> bool
@@ -18,10 +20,17 @@ fn groups_fit(g: Groups) -> bool
         & (g.typecode < 32)
 }
 
-fn counts_fit(c: Counts) -> bool
-    ensures { λ r. ⌜ r ≡ countsFit c ⌝ }
+fn count_size(coarse: bool) -> u32
+    ensures { λ r. ⌜ r ≡ countSize (sizeOf coarse) ⌝ }
 {
-    (c.latitude.0 < 131072) & (c.longitude.0 < 131072)
+    if coarse { 4096 } else { 131072 }
+}
+
+fn counts_fit(v: Saved) -> bool
+    ensures { λ r. ⌜ r ≡ countsFit v ⌝ }
+{
+    let size = count_size(v.coarse);
+    (v.counts.latitude.0 < size) & (v.counts.longitude.0 < size)
 }
 
 fn track_fits(t: Track) -> bool
@@ -33,9 +42,7 @@ fn track_fits(t: Track) -> bool
     let saved = t.saved;
     let even = saved[0];
     let odd = saved[1];
-    let first = even.counts;
-    let second = odd.counts;
-    groups_fit(g) & whereabouts::pole_to_pole(spot) & counts_fit(first) & counts_fit(second)
+    groups_fit(g) & whereabouts::pole_to_pole(spot) & counts_fit(even) & counts_fit(odd)
 }
 
 fn in_range(p: Place) -> bool

@@ -8,10 +8,10 @@ use lib.ListN.{length, getD, set, replicate, length-set, length-replicate}
 use lib.Seq.{getD-set-same, getD-set-other}
 use borrow.Author.Tests.{lt-ltb}
 use Rattle.fields.proofs.Bools.{both}
-use Rattle.positions.specs.Positions.{poleToPole}
+use Rattle.positions.specs.Positions.{countSize, poleToPole}
 use Rattle.whereabouts.specs.declared.Saved.{Saved}
 use Rattle.whereabouts.specs.declared.Site.{Site}
-use Rattle.whereabouts.specs.Located.{noSite}
+use Rattle.whereabouts.specs.Located.{noSite, sizeOf}
 use Rattle.track.specs.declared.Groups.{Groups}
 use Rattle.track.specs.declared.Track.{Track}
 use Rattle.track.specs.Track.{noSaved}
@@ -44,9 +44,11 @@ groups-in g f =
     (lt-ltb (g .height) 4096 (f .height)))
     (lt-ltb (g .typecode) 32 (f .typecode))
 
-counts-in : (v : Saved) → FitsSaved v → countsFit (v .counts) ≡ true
+counts-in : (v : Saved) → FitsSaved v → countsFit v ≡ true
 unfolding countsFit
-counts-in v f = both (lt-ltb (v .counts .latitude .0) 131072 (f .latitude)) (lt-ltb (v .counts .longitude .0) 131072 (f .longitude))
+counts-in v f =
+    let size : ℕ = countSize (sizeOf (v .coarse)) in
+    both (lt-ltb (v .counts .latitude .0) size (f .latitude)) (lt-ltb (v .counts .longitude .0) size (f .longitude))
 
 track-in : (t : Track) → Fits t → trackFits t ≡ true
 unfolding trackFits

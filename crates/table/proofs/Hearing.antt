@@ -10,7 +10,8 @@ use lib.ListN.{length}
 use Rattle.refusals.specs.declared.Refusal.{Refusal}
 use Rattle.refusals.specs.declared.Refusal.the-variants.{Length, Late, Places, Field}
 use Rattle.fields.proofs.Bools.{by-test}
-use Rattle.layouts.specs.Bodies.{bodyMe, bodyFits}
+use Rattle.layouts.specs.Bodies.{takenBy, bodyMe, bodyFits}
+use Rattle.layouts.specs.declared.bodies.Taken.the-variants as read
 use Rattle.messages.specs.declared.Decoded.{Decoded}
 use Rattle.messages.specs.declared.Decoded.the-variants as decode
 use Rattle.messages.specs.declared.Message.{Message}
@@ -30,11 +31,11 @@ use Rattle.table.proofs.Answers.{placed}
 
 -- ---- a message whose fields fit, by its ME
 
-pub placed-by-me : (s : List ℕ) (n i k time me : ℕ) (t : Track) (m : Message) {l : List ℕ} → bodyFits (m .body) ≡ true → bodyMe (m .body) ≡ me
-    → l ≡ stored s n i k (stepMe t me (siteOf s) time) → after (decode.Message m) l ≡ placed s n i k (stepped t (decode.Message m) (siteOf s) time)
-placed-by-me s n i k time me t m f e h =
-    ap (after (decode.Message m)) (h ∙ ap (λ (x : ℕ). stored s n i k (stepMe t x (siteOf s) time)) (sym e))
-    ∙ sym (ap (placed s n i k) (stepped-by-me t (siteOf s) time m f))
+pub placed-by-me : (s : List ℕ) (n i k time me : ℕ) (coarse : Bool) (t : Track) (m : Message) {l : List ℕ}
+    → takenBy coarse me ≡ read.Body (m .body) → bodyFits (m .body) ≡ true → bodyMe (m .body) ≡ me
+    → l ≡ stored s n i k (stepMe t coarse me (siteOf s) time) → after (decode.Message m) l ≡ placed s n i k (stepped t (decode.Message m) (siteOf s) time)
+placed-by-me s n i k time me coarse t m r f e h =
+    ap (after (decode.Message m)) h ∙ sym (ap (placed s n i k) (stepped-by-me t (siteOf s) time m coarse me r f e))
 
 -- ---- done, or the same number
 

@@ -19,7 +19,7 @@ ghost use mathlib.Core.Bool.{true, cond};
 ghost use lib.ListN.{length};
 ghost use Rattle.memory.specs.Offsets.{Room, wholePlaces};
 ghost use Rattle.messages.specs.declared.Accepted.the-variants as accept;
-ghost use Rattle.messages.specs.Accepted.{IsAccepted, openedAs};
+ghost use Rattle.messages.specs.Accepted.{IsAccepted, frameCoarse, openedAs};
 ghost use Rattle.track.specs.Track.{newTrack, stepMe};
 ghost use Rattle.place.specs.Place.{trackOf};
 ghost use Rattle.table_bytes.specs.Layout.{siteOf, bodyAt, stored};
@@ -64,13 +64,20 @@ fn start_of(table: &[u8], n: usize, target: Target) -> Track
     }
 }
 
-// The step of a track by an ME, stored at the place i.
-fn step_at(table: &mut [u8], n: usize, i: usize, key: u32, t: Track, me: u64, time: u64)
+// The step of a track by a frame, stored at the place i.
+fn step_at(table: &mut [u8], n: usize, i: usize, key: u32, t: Track, f: Frame, time: u64)
     requires { ⌜ (i < n) × Room n (now table) ⌝ }
-    ensures { λ _. ⌜ now (table .exit) ≡ stored (now (table .entry)) n i key (stepMe t me (siteOf (now (table .entry))) time) ⌝ }
+    ensures { λ _. ⌜ now (table .exit) ≡ stored (now (table .entry)) n i key (stepMe t (frameCoarse f) (f .me) (siteOf (now (table .entry))) time) ⌝ }
 {
     let site = table_bytes::site_of(table);
-    table_bytes::store(table, n, i, key, track::step_me(t, me, site, time));
+    let coarse = messages::frame_coarse(f);
+    table_bytes::store(
+        table,
+        n,
+        i,
+        key,
+        track::step_me(t, coarse, f.me, site, time),
+    );
 }
 
 // An acceptable message reaches the table. The clock is already at the time. A free place is only for one that may start a track.
@@ -85,7 +92,7 @@ fn deliver(table: &mut [u8], f: Frame, time: u64) -> Heard
     // tested here and not in the search, where it would cost every message more
     if (target.held | starts) & (target.at < n) {
         let t = start_of(table, n, target);
-        step_at(table, n, target.at, key, t, f.me, time);
+        step_at(table, n, target.at, key, t, f, time);
         return Heard::Done;
     }
     Heard::Refused(rules::turned_away(starts))

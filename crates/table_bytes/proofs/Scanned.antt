@@ -6,7 +6,7 @@ use native.Mathlib.Nat.{eq-or-lt-of-le, add-zero}
 use native.Mathlib.Numerals.{add-one}
 use mathlib.Core.Bool.{Bool, true, false, not, _&&_}
 use mathlib.Core.Logic.{⊎-elim}
-use mathlib.Core.Path.{_≡_, refl, sym, ap, _∙_}
+use mathlib.Core.Path.{_≡_, refl, sym, ap, subst, _∙_}
 use mathlib.Core.List.{List}
 use lib.Dec.{eqb, ltb}
 use borrow.Author.Tests.{lt-ltb, le-ltb, ltb-true, ltb-false, eq-eqb, ne-eqb, not-true, not-false}
@@ -20,7 +20,7 @@ use Rattle.rules.specs.Form as form
 use Rattle.rules.specs.Search.{beats}
 use Rattle.rules.specs.Search as search
 use Rattle.table_bytes.specs.Layout.{Place, keyAt, bodyAt, placeAt, isHeld, holds}
-use Rattle.table_bytes.specs.Scan.{lowest, noneOf, allHeld, isFirst, targetOf}
+use Rattle.table_bytes.specs.Scan.{lowest, noneOf, NoneBelow, allHeld, isFirst, targetOf}
 use Rattle.table_bytes.specs.Walk.{better, smallest}
 
 -- none below i, and then one at i, whose test was h
@@ -41,7 +41,11 @@ pub all-fail : (p : ℕ → Bool) (r : ℕ) → ((j : ℕ) → j < r → p j ≡
 all-fail p zero h = refl
 all-fail p (suc r) h = rw (add-one r) at (lowest-none p r (all-fail p r (λ j g. h j (omega arith))) refl (h r (omega arith)))
 
--- ---- the keys, 8 and 16 at a time
+-- ---- the keys, 4, 8 and 16 at a time
+
+-- a key as it was read
+pub same : (key : ℕ) {g k : ℕ} → g ≡ k → eqb g key ≡ eqb k key
+same key e = ap (λ (x : ℕ). eqb x key) e
 
 -- 8 tests, one for each key
 pub none-8 : (p : ℕ → Bool) (s : List ℕ) (at : ℕ) {t₀ t₁ t₂ t₃ t₄ t₅ t₆ t₇ : Bool}
@@ -49,6 +53,12 @@ pub none-8 : (p : ℕ → Bool) (s : List ℕ) (at : ℕ) {t₀ t₁ t₂ t₃ t
     → t₄ ≡ p (numberAt 4 s (at + 16)) → t₅ ≡ p (numberAt 4 s (at + 20)) → t₆ ≡ p (numberAt 4 s (at + 24)) → t₇ ≡ p (numberAt 4 s (at + 28))
     → not t₀ && not t₁ && not t₂ && not t₃ && not t₄ && not t₅ && not t₆ && not t₇ ≡ noneOf p 8 s at
 none-8 p s at e₀ e₁ e₂ e₃ e₄ e₅ e₆ e₇ = rw (add-zero at, e₀, e₁, e₂, e₃, e₄, e₅, e₆, e₇) refl
+
+-- and 4
+pub none-4 : (p : ℕ → Bool) (s : List ℕ) (at : ℕ) {t₀ t₁ t₂ t₃ : Bool}
+    → t₀ ≡ p (numberAt 4 s at) → t₁ ≡ p (numberAt 4 s (at + 4)) → t₂ ≡ p (numberAt 4 s (at + 8)) → t₃ ≡ p (numberAt 4 s (at + 12))
+    → not t₀ && not t₁ && not t₂ && not t₃ ≡ noneOf p 4 s at
+none-4 p s at e₀ e₁ e₂ e₃ = rw (add-zero at, e₀, e₁, e₂, e₃) refl
 
 none-each : (p : ℕ → Bool) (m : ℕ) (s : List ℕ) (at : ℕ) → noneOf p m s at ≡ true → (k : ℕ) → k < m → p (numberAt 4 s (at + keySize * k)) ≡ false
 none-each p zero s at h k g = absurd (omega arith)
@@ -58,25 +68,25 @@ none-each p (suc m) s at h k g =
     (λ (e : k < m). none-each p m s at (and-left (noneOf p m s at) _ h) k e)
     (eq-or-lt-of-le {n = k} {m = m} (omega arith))
 
-pub skip-more : (s : List ℕ) (key i : ℕ) {x y : Bool} → ((j : ℕ) → j < i → eqb (numberAt 4 s (keyStart j)) key ≡ false)
-    → x ≡ noneOf (λ k. eqb k key) 8 s (keyStart i) → y ≡ noneOf (λ k. eqb k key) 8 s (keyStart i + 32) → not (x && y) ≡ false
-    → (j : ℕ) → j < i + 16 → eqb (numberAt 4 s (keyStart j)) key ≡ false
-skip-more s key i {x} {y} below p q h j g = by-cases (ltb j i) (ltb j (i + 8)) refl refl
+pub more : (s : List ℕ) (key m i : ℕ) → NoneBelow s key i → noneOf (λ k. eqb k key) m s (keyStart i) ≡ true → NoneBelow s key (i + m)
+more s key m i below h j g = by-cases (ltb j i) refl
   where
-    two : x && y ≡ true
-    two = not-false (x && y) h
-
-    by-cases : (a b : Bool) → ltb j i ≡ a → ltb j (i + 8) ≡ b → eqb (numberAt 4 s (keyStart j)) key ≡ false
-    by-cases true b e f = below j (ltb-true _ _ e)
-    by-cases false true e f =
+    by-cases : (a : Bool) → ltb j i ≡ a → eqb (numberAt 4 s (keyStart j)) key ≡ false
+    by-cases true e = below j (ltb-true _ _ e)
+    by-cases false e =
         let o : keyStart i + keySize * (j - i) ≡ keyStart j = omega (arith, ltb-false j i e) in
-        rw o at (none-each (λ k. eqb k key) 8 s (keyStart i) (sym p ∙ and-left x y two) (j - i) (omega (arith, ltb-true j (i + 8) f, ltb-false j i e)))
-    by-cases false false e f =
-        let o : keyStart i + 32 + keySize * (j - (i + 8)) ≡ keyStart j = omega (arith, ltb-false j (i + 8) f) in
-        rw o at (none-each (λ k. eqb k key) 8 s (keyStart i + 32) (sym q ∙ and-right x y two) (j - (i + 8)) (omega (arith, ltb-false j (i + 8) f)))
+        rw o at (none-each (λ k. eqb k key) m s (keyStart i) h (j - i) (omega (arith, ltb-false j i e)))
+
+pub skip-more : (s : List ℕ) (key i : ℕ) {x y : Bool} → NoneBelow s key i
+    → x ≡ noneOf (λ k. eqb k key) 8 s (keyStart i) → y ≡ noneOf (λ k. eqb k key) 8 s (keyStart i + 32) → not (x && y) ≡ false → NoneBelow s key (i + 16)
+skip-more s key i {x} {y} below p q h =
+    let two : x && y ≡ true = not-false (x && y) h in
+    let o : keyStart (i + 8) ≡ keyStart i + 32 = omega arith in
+    let w : i + 8 + 8 ≡ i + 16 = omega arith in
+    subst (NoneBelow s key) w (more s key 8 (i + 8) (more s key 8 i below (sym p ∙ and-left x y two)) (rw o (sym q ∙ and-right x y two)))
 
 -- what was skipped is not held with the key
-pub skipped : (s : List ℕ) (n clock key r : ℕ) → ((j : ℕ) → j < r → eqb (numberAt 4 s (keyStart j)) key ≡ false) → lowest (λ j. holds clock key (placeAt s n j)) r ≡ r
+pub skipped : (s : List ℕ) (n clock key r : ℕ) → NoneBelow s key r → lowest (λ j. holds clock key (placeAt s n j)) r ≡ r
 unfolding form.holds keyAt
 skipped s n clock key r h = all-fail (λ j. holds clock key (placeAt s n j)) r (λ j g. rw (h j g))
 
@@ -95,18 +105,27 @@ module _ (f : ℕ → Place) (clock : ℕ) where
       (λ (e : k < m). held-each m i (and-left (allHeld m f i clock) _ h) k e)
       (eq-or-lt-of-le {n = k} {m = m} (omega arith))
 
-  pub held-more : (i : ℕ) {x : Bool} → ((j : ℕ) → j < i → isHeld clock (f j) ≡ true) → x ≡ allHeld 4 f i clock → not x ≡ false
-      → (j : ℕ) → j < i + 4 → isHeld clock (f j) ≡ true
-  held-more i {x} below e h j g = by-cases (ltb j i) refl
+  -- each of the first r places is held
+  abbrev pub HeldBelow : ℕ → Type 0
+  HeldBelow r = (j : ℕ) → j < r → isHeld clock (f j) ≡ true
+
+  four-more : (i : ℕ) → HeldBelow i → allHeld 4 f i clock ≡ true → HeldBelow (i + 4)
+  four-more i below h j g = by-cases (ltb j i) refl
     where
       by-cases : (b : Bool) → ltb j i ≡ b → isHeld clock (f j) ≡ true
       by-cases true l = below j (ltb-true _ _ l)
       by-cases false l =
           let o : i + (j - i) ≡ j = omega (arith, ltb-false j i l) in
-          rw o at (held-each 4 i (sym e ∙ not-false x h) (j - i) (omega (arith, ltb-false j i l)))
+          rw o at (held-each 4 i h (j - i) (omega (arith, ltb-false j i l)))
+
+  pub held-more : (i : ℕ) {x y : Bool} → HeldBelow i → x ≡ allHeld 4 f i clock → y ≡ allHeld 4 f (i + 4) clock → not (x && y) ≡ false → HeldBelow (i + 8)
+  held-more i {x} {y} below p q h =
+      let two : x && y ≡ true = not-false (x && y) h in
+      let w : i + 4 + 4 ≡ i + 8 = omega arith in
+      subst HeldBelow w (four-more (i + 4) (four-more i below (sym p ∙ and-left x y two)) (sym q ∙ and-right x y two))
 
   -- what was skipped is not free
-  pub none-free : (r : ℕ) → ((j : ℕ) → j < r → isHeld clock (f j) ≡ true) → lowest (λ j. not (isHeld clock (f j))) r ≡ r
+  pub none-free : (r : ℕ) → HeldBelow r → lowest (λ j. not (isHeld clock (f j))) r ≡ r
   none-free r h = all-fail (λ j. not (isHeld clock (f j))) r (λ j g. rw (h j g))
 
 -- ---- one place: its key as it was read, and its body

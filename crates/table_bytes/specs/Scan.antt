@@ -1,9 +1,10 @@
 -- What the scan tests, some places at a time, and where a message goes.
-use Prim.Native.Nat.{ℕ, zero, suc, _+_, _*_}
+use Prim.Native.Nat.{ℕ, zero, suc, _+_, _*_, _<_}
+use mathlib.Core.Path.{_≡_}
 use mathlib.Core.Bool.{Bool, true, false, cond, not, _&&_}
 use mathlib.Core.List.{List}
 use lib.Dec.{eqb, ltb}
-use Rattle.memory.specs.Offsets.{keySize}
+use Rattle.memory.specs.Offsets.{keySize, keyStart}
 use Rattle.memory.specs.Bytes.{numberAt}
 pub use Rattle.rules.specs.Search.{lowest}
 use Rattle.table_bytes.specs.declared.scan.Target.{Target}
@@ -13,6 +14,10 @@ use Rattle.table_bytes.specs.Layout.{Place, isHeld, holds}
 abbrev pub noneOf : (ℕ → Bool) → ℕ → List ℕ → ℕ → Bool
 noneOf p zero s at = true
 noneOf p (suc m) s at = noneOf p m s at && not (p (numberAt 4 s (at + keySize * m)))
+
+-- none of the first r keys is the key
+abbrev pub NoneBelow : List ℕ → ℕ → ℕ → Type 0
+NoneBelow s key r = (i : ℕ) → i < r → eqb (numberAt 4 s (keyStart i)) key ≡ false
 
 -- each of m places from i on is held
 abbrev pub allHeld : ℕ → (ℕ → Place) → ℕ → ℕ → Bool

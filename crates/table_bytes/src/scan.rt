@@ -4,14 +4,13 @@ use memory::HEAD;
 use memory::KEY;
 use memory::get4;
 ghost use mathlib.Core.Path.{_≡_};
-ghost use mathlib.Core.Bool.{true, false, not};
+ghost use mathlib.Core.Bool.{true, false, not, _&&_};
 ghost use Prim.Native.Nat.{ℕ, _+_, _≤_, _<_};
 ghost use lib.Dec.{eqb};
 ghost use lib.ListN.{length};
-ghost use Rattle.memory.specs.Offsets.{Room, keyStart};
-ghost use Rattle.memory.specs.Bytes.{numberAt};
+ghost use Rattle.memory.specs.Offsets.{Room};
 ghost use Rattle.table_bytes.specs.Layout.{placeAt, isHeld, holds};
-ghost use Rattle.table_bytes.specs.Scan.{lowest, noneOf, allHeld, isFirst, targetOf};
+ghost use Rattle.table_bytes.specs.Scan.{lowest, noneOf, NoneBelow, allHeld, isFirst, targetOf};
 
 // A place, and whether it holds the key.
 pub struct Target {
@@ -34,16 +33,49 @@ fn none_of_8(s: &[u8], at: usize, key: u32) -> bool
         & (get4(s, at + 7 * KEY) != key)
 }
 
-// How many places can be passed, 16 at a time, before one with the key.
+// .. and of the first 4.
+fn none_of_4(s: &[u8], at: usize, key: u32) -> bool
+    requires { ⌜ (at < 5000) × (at + 16 ≤ length (now s)) ⌝ }
+    ensures { λ r. ⌜ r ≡ noneOf (λ k. eqb k key) 4 (now (s .entry)) at ⌝ }
+{
+    (get4(s, at) != key)
+        & (get4(s, at + KEY) != key)
+        & (get4(s, at + 2 * KEY) != key)
+        & (get4(s, at + 3 * KEY) != key)
+}
+
+// 8 places are passed if none of them has the key.
+fn past_8(s: &[u8], n: usize, from: usize, key: u32) -> usize
+    requires { ⌜ (from + 8 ≤ n) × Room n (now s) × NoneBelow (now s) key from ⌝ }
+    ensures { λ r. ⌜ (r ≤ from + 8) × NoneBelow (now (s .entry)) key r ⌝ }
+{
+    if none_of_8(s, HEAD + KEY * from, key) {
+        return from + 8;
+    }
+    from
+}
+
+// .. and 4.
+fn past_4(s: &[u8], n: usize, from: usize, key: u32) -> usize
+    requires { ⌜ (from + 4 ≤ n) × Room n (now s) × NoneBelow (now s) key from ⌝ }
+    ensures { λ r. ⌜ (r ≤ from + 4) × NoneBelow (now (s .entry)) key r ⌝ }
+{
+    if none_of_4(s, HEAD + KEY * from, key) {
+        return from + 4;
+    }
+    from
+}
+
+// How many places can be passed, 16 at a time, before one with the key; of those 16 the first 8 or 12 too.
 fn skip(s: &[u8], n: usize, key: u32) -> usize
     requires { ⌜ Room n (now s) ⌝ }
-    ensures { λ r. ⌜ (r ≤ n) × ((i : ℕ) → i < r → eqb (numberAt 4 (now (s .entry)) (keyStart i)) key ≡ false) ⌝ }
+    ensures { λ r. ⌜ (r ≤ n) × NoneBelow (now (s .entry)) key r ⌝ }
 {
     let mut i = 0;
     while i + 16 <= n {
         let at = HEAD + KEY * i;
         if !(none_of_8(s, at, key) & none_of_8(s, at + 32, key)) {
-            return i;
+            return past_4(s, n, past_8(s, n, i, key), key);
         }
         i += 16;
     }
@@ -106,17 +138,17 @@ fn held_4(s: &[u8], n: usize, i: usize, clock: u64) -> bool
         & is_held(s, n, i + 3, clock)
 }
 
-// How many places can be passed, 4 at a time, before 4 of which one is free, or fewer than 4.
+// How many places can be passed, 8 at a time, before 8 of which one is free, or fewer than 8.
 fn skip_held(s: &[u8], n: usize, clock: u64) -> usize
     requires { ⌜ Room n (now s) ⌝ }
-    ensures { λ r. ⌜ (r ≤ n) × (((i : ℕ) → i < r → isHeld clock (placeAt (now (s .entry)) n i) ≡ true) × (r + 4 ≤ n → allHeld 4 (placeAt (now (s .entry)) n) r clock ≡ false)) ⌝ }
+    ensures { λ r. ⌜ (r ≤ n) × (((i : ℕ) → i < r → isHeld clock (placeAt (now (s .entry)) n i) ≡ true) × (r + 8 ≤ n → allHeld 4 (placeAt (now (s .entry)) n) r clock && allHeld 4 (placeAt (now (s .entry)) n) (r + 4) clock ≡ false)) ⌝ }
 {
     let mut i = 0;
-    while i + 4 <= n {
-        if !held_4(s, n, i, clock) {
+    while i + 8 <= n {
+        if !(held_4(s, n, i, clock) & held_4(s, n, i + 4, clock)) {
             return i;
         }
-        i += 4;
+        i += 8;
     }
     i
 }

@@ -4,9 +4,10 @@
 //   S length: set up. A length latitude longitude: set up with a site. L length: lent as it is. F length seed: lent, and filled.
 //   P offset count bytes: other bytes in the buffer. R time count bytes: receive. K key: look up. N key: the next key.
 //   W: the clock, the site and each key with its track. B: the parity remainder of the whole table.
-//   J length kind address known latitude longitude: the first bytes of the buffer replayed as a log; kind and known have one byte.
+//   J length kind flag station address known latitude longitude: the first bytes of the buffer replayed as a log; kind, flag, station and known have one byte.
 // `reference/vectors/bench.py` has what each writes.
 use encoder::Encoded;
+use keys::Kind;
 use libc::STDIN_FILENO;
 use libc::STDOUT_FILENO;
 use messages::Decoded;
@@ -151,6 +152,7 @@ fn say_told(g: Groups) {
     say(g.status);
     say(g.typecode as u64);
     say_flag(g.bit8);
+    say_flag(g.coarse);
 }
 
 fn say_position(p: Position) {
@@ -166,6 +168,7 @@ fn say_saved(v: Saved) {
     say(v.counts.latitude.0 as u64);
     say(v.counts.longitude.0 as u64);
     say(v.time);
+    say_flag(v.coarse);
 }
 
 fn say_track(t: Track) {
@@ -299,9 +302,19 @@ fn look_up(buf: &[u8], n: usize) {
     }
 }
 
+fn read_kind() -> Kind {
+    let number = byte();
+    let flag = byte();
+    let station = byte();
+    if number == 6 {
+        return Kind::C(flag, station);
+    }
+    keys::kind_at(number as u32)
+}
+
 fn work_out(buf: &[u8]) {
     let n = length();
-    let kind = keys::kind_at(byte() as u32);
+    let kind = read_kind();
     let address = word();
     let known = byte() == 1;
     let spot = read_spot();

@@ -54,6 +54,17 @@ pub decimal-most : (n : ℕ) → length (decimal n) ≤ 20
 unfolding decimal
 decimal-most n = most 20 n
 
+-- a number below 100 has at most two digits
+two-by : (n : ℕ) (t : Bool) → ltb n 10 ≡ t → n < 100 → length (decimalIn 20 n) ≤ 2
+two-by n true e h = omega (arith, ap length (small 19 n (ltb-true n 10 e)))
+two-by n false e h =
+    let one = ap length (small 18 (n / 10) (omega arith)) in
+    omega (arith, ap length (large 19 n (ltb-false n 10 e)), length-append (decimalIn 19 (n / 10)) ((48 + n % 10) ∷ []))
+
+pub decimal-two : (n : ℕ) → n < 100 → length (decimal n) ≤ 2
+unfolding decimal
+decimal-two n h = two-by n (ltb n 10) refl h
+
 pub hex-length : (k n : ℕ) → length (hex k n) ≡ k
 unfolding hex
 hex-length zero n = refl

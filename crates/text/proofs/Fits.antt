@@ -1,24 +1,24 @@
 -- Every line fits into its 128 bytes, and its first bytes are its text: each number has at most 20 digits, and the lengths are added.
 -- Assumes nothing.
-use Prim.Native.Nat.{ℕ, _+_, _-_, _≤_}
+use Prim.Native.Nat.{ℕ, _+_, _-_, _≤_, _<_}
 use mathlib.Core.Path.{_≡_, sym, ap, ap₂, _∙_}
 use mathlib.Core.Bool.{Bool, true, false, cond}
-use mathlib.Core.List.{List, _++_}
+use mathlib.Core.List.{List, [], _∷_, _++_}
 use native.Mathlib.Omega.{arith}
 use lib.IntN.{ℤ, pos, natAbs}
 use lib.Signed.{ltZ}
 use lib.ListN.{length, drop, replicate, length-append, length-replicate, replicate-append-replicate}
 use lib.Seq.{take-append-seam, drop-at}
-use Rattle.keys.specs.Keys.{addressIn}
-use Rattle.text.specs.Numbers.{decimal, minus, signed}
-use Rattle.text.specs.Lines.{space, newline, field, figure, clockLabel, tracksLabel, badLabel, headerText, keyText, rowText, lineRoom, lineOf, textIn}
+use Rattle.keys.specs.Keys.{letterIn, addressIn, coarseIn, flagIn, stationIn}
+use Rattle.text.specs.Numbers.{decimal, hex, minus, signed}
+use Rattle.text.specs.Lines.{space, newline, field, figure, clockLabel, tracksLabel, badLabel, headerText, senderText, keyText, rowText, lineRoom, lineOf, textIn}
 use Rattle.text.specs.Wrote.{Wrote}
 use Rattle.text.specs.declared.Figure.{Figure}
 use Rattle.text.specs.declared.Figure.the-variants.{Unknown, Known}
 use Rattle.text.specs.declared.Line.{Line}
 use Rattle.text.specs.declared.Row.{Row}
 use Rattle.text.proofs.Buffer.{text-first}
-use Rattle.text.proofs.Digits.{decimal-most, hex-length}
+use Rattle.text.proofs.Digits.{decimal-most, decimal-two, hex-length}
 
 field-most : (label : List ℕ) (n : ℕ) → length (field label n) ≤ length label + 20
 unfolding field
@@ -37,9 +37,37 @@ unfolding figure
 figure-most Unknown = omega arith
 figure-most (Known z) = omega (arith, length-append space (signed z), signed-most z)
 
-key-length : (key : ℕ) → length (keyText key) ≡ 8
+-- a flag or a station behind a space has at most two digits
+short-most : (n : ℕ) → n < 100 → length (field space n) ≤ 3
+unfolding field
+short-most n h = omega (arith, length-append space (decimal n), decimal-two n h)
+
+sender-most : (key : ℕ) → length (senderText key) ≤ 6
+unfolding senderText
+sender-most key = by (coarseIn key)
+  where
+    by : (t : Bool) → length (cond t (field space (flagIn key) ++ field space (stationIn key)) []) ≤ 6
+    by true =
+        omega (
+          arith,
+          length-append (field space (flagIn key)) (field space (stationIn key)),
+          short-most (flagIn key) (omega arith),
+          short-most (stationIn key) (omega arith),
+        )
+    by false = omega arith
+
+key-most : (key : ℕ) → length (keyText key) ≤ 14
 unfolding keyText
-key-length key = omega (arith, hex-length 6 (addressIn key))
+key-most key =
+    let l : List ℕ = letterIn key ∷ [] in
+    let h : List ℕ = hex 6 (addressIn key) in
+    omega (
+      arith,
+      length-append (l ++ space ++ h) (senderText key),
+      length-append (l ++ space) h,
+      hex-length 6 (addressIn key),
+      sender-most key,
+    )
 
 -- the header has at most 87 bytes
 pub header-most : (clock tracks bad : ℕ) → length (headerText clock tracks bad) ≤ 87
@@ -58,8 +86,8 @@ header-most clock tracks bad =
       field-most badLabel bad,
     )
 
--- a track's line has at most 118
-pub row-most : (r : Row) → length (rowText r) ≤ 118
+-- a track's line has at most 124
+pub row-most : (r : Row) → length (rowText r) ≤ 124
 unfolding rowText
 row-most r =
     let k : List ℕ = keyText (r .key) in
@@ -76,7 +104,7 @@ row-most r =
       length-append (k ++ h ++ y) x,
       length-append (k ++ h) y,
       length-append k h,
-      key-length (r .key),
+      key-most (r .key),
       field-most space (r .heard),
       figure-most (r .latitude),
       figure-most (r .longitude),

@@ -1,8 +1,9 @@
--- A line of the listing as text, in ASCII, as document 01 has it under 'Captures and the listing', with the step of R-4 of document 02.
+-- A line of the listing as text, in ASCII, as document 01 has it under 'Captures and the listing', with the step of R-4 of document 02 and the kind C of its R-12.
 use Prim.Native.Nat.{ℕ, _-_}
+use mathlib.Core.Bool.{cond}
 use mathlib.Core.List.{List, [], _∷_, _++_}
 use lib.ListN.{length, take, replicate}
-use Rattle.keys.specs.Keys.{letterIn, addressIn}
+use Rattle.keys.specs.Keys.{letterIn, addressIn, coarseIn, flagIn, stationIn}
 use Rattle.text.specs.Numbers.{decimal, hex, minus, signed}
 use Rattle.text.specs.declared.Figure.{Figure}
 use Rattle.text.specs.declared.Figure.the-variants.{Unknown, Known}
@@ -40,11 +41,15 @@ badLabel = 32 ∷ 98 ∷ 97 ∷ 100 ∷ 45 ∷ 98 ∷ 108 ∷ 111 ∷ 99 ∷ 107
 unfoldable pub headerText : ℕ → ℕ → ℕ → List ℕ
 headerText clock tracks bad = field clockLabel clock ++ field tracksLabel tracks ++ field badLabel bad ++ newline
 
--- kind, address in six hex digits
-unfoldable pub keyText : ℕ → List ℕ
-keyText key = (letterIn key ∷ []) ++ space ++ hex 6 (addressIn key)
+-- of C the flag and the station
+unfoldable pub senderText : ℕ → List ℕ
+senderText key = cond (coarseIn key) (field space (flagIn key) ++ field space (stationIn key)) []
 
--- kind, address, last heard, latitude, longitude, pressure altitude, its step
+-- kind, address in six hex digits, of C flag and station
+unfoldable pub keyText : ℕ → List ℕ
+keyText key = (letterIn key ∷ []) ++ space ++ hex 6 (addressIn key) ++ senderText key
+
+-- kind, address, of C flag and station, last heard, latitude, longitude, pressure altitude, its step
 unfoldable pub rowText : Row → List ℕ
 rowText r = keyText (r .key) ++ field space (r .heard) ++ figure (r .latitude) ++ figure (r .longitude) ++ figure (r .altitude) ++ figure (r .step) ++ newline
 

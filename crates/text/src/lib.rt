@@ -6,7 +6,7 @@ ghost use mathlib.Core.Path.{_≡_};
 ghost use Prim.Native.Nat.{_+_, _≤_, _<_, _^_};
 ghost use lib.ListN.{length};
 ghost use Rattle.text.specs.Wrote.{Wrote};
-ghost use Rattle.text.specs.Lines.{field, figure, keyText, headerText, rowText, lineOf};
+ghost use Rattle.text.specs.Lines.{field, figure, senderText, keyText, headerText, rowText, lineOf};
 
 // How many bytes a line has room for: every line fits.
 pub const LINE: usize = 128;
@@ -54,14 +54,28 @@ fn put_field(out: &mut [u8], at: usize, label: &[u8], n: u64) -> usize
     numbers::put_decimal(out, a, n)
 }
 
+// Of a key of C its flag and its station.
+fn put_sender(out: &mut [u8], at: usize, key: u32) -> usize
+    requires { ⌜ at + 42 < 2 ^ 64 ⌝ }
+    ensures { λ r. ⌜ Wrote (now (out .entry)) at (senderText key) r (now (out .exit)) ⌝ }
+    ensures { λ r. ⌜ r ≤ at + 42 ⌝ }
+{
+    if !keys::coarse_in(key) {
+        return at;
+    }
+    let a = put_field(out, at, b" ", keys::flag_in(key) as u64);
+    put_field(out, a, b" ", keys::station_in(key) as u64)
+}
+
 fn put_key(out: &mut [u8], at: usize, key: u32) -> usize
-    requires { ⌜ at + 8 < 2 ^ 64 ⌝ }
+    requires { ⌜ at + 50 < 2 ^ 64 ⌝ }
     ensures { λ r. ⌜ Wrote (now (out .entry)) at (keyText key) r (now (out .exit)) ⌝ }
-    ensures { λ r. ⌜ r ≡ at + 8 ⌝ }
+    ensures { λ r. ⌜ r ≤ at + 50 ⌝ }
 {
     let a = write::put_byte(out, at, keys::letter_in(key));
     let a = write::put_byte(out, a, b' ');
-    numbers::put_hex(out, a, 6, keys::address_in(key))
+    let a = numbers::put_hex(out, a, 6, keys::address_in(key));
+    put_sender(out, a, key)
 }
 
 fn put_row(out: &mut [u8], row: Row) -> usize

@@ -48,7 +48,7 @@ module _ {A : Type 0} (counts : A → Bool) (none x : A) where
 pub groups-twice : (g : Groups) → meantGroups (meantGroups g) ≡ meantGroups g
 unfolding meantGroups
 groups-twice g =
-    rw (chosen-twice givesIdentification 0 (g .identification) _ refl, chosen-twice givesVelocity 0 (g .velocity) _ refl, chosen-twice givesSurface 0 (g .surface) _ refl, chosen-twice givesStatus 0 (g .status) _ refl)
+    rw (chosen-twice givesIdentification 0 (g .identification) _ refl, chosen-twice (givesVelocity (g .coarse)) 0 (g .velocity) _ refl, chosen-twice givesSurface 0 (g .surface) _ refl, chosen-twice givesStatus 0 (g .status) _ refl)
 
 pub position-twice : (p : Position) → meantPosition (meantPosition p) ≡ meantPosition p
 unfolding meantPosition
@@ -70,7 +70,7 @@ unfolding meant meantGroups meantPosition meantSaved
 meant-nothing-foreign t =
     record {
       identification = none-else givesIdentification 0 (t .groups .identification) _ refl;
-      velocity = none-else givesVelocity 0 (t .groups .velocity) _ refl;
+      velocity = none-else (givesVelocity (t .groups .coarse)) 0 (t .groups .velocity) _ refl;
       surface = none-else givesSurface 0 (t .groups .surface) _ refl;
       status = none-else givesStatus 0 (t .groups .status) _ refl;
       position = none-else (λ (x : Position). x .known) noPosition (t .position) _ refl;
@@ -94,12 +94,12 @@ either-way : (a : Bool) → a || true ≡ true
 either-way true = refl
 either-way false = refl
 
-pub gives-ground : (b : Ground) → bodyFits (body.Ground b) ≡ true → givesVelocity (bodyMe (body.Ground b)) ≡ true
+pub gives-ground : (b : Ground) → bodyFits (body.Ground b) ≡ true → givesVelocity false (bodyMe (body.Ground b)) ≡ true
 gives-ground b e =
     ap (λ (l : List ℕ). isGround (getD l 0 0) (getD l 1 0) || isAir (getD l 0 0) (getD l 1 0)) (layout.unpacked layout.ground b (fitting (body.Ground b) e))
     ∙ ap (λ (x : Bool). x || isAir (b .typecode) (b .subtype)) (agreeing (body.Ground b) e)
 
-pub gives-air : (b : Air) → bodyFits (body.Air b) ≡ true → givesVelocity (bodyMe (body.Air b)) ≡ true
+pub gives-air : (b : Air) → bodyFits (body.Air b) ≡ true → givesVelocity false (bodyMe (body.Air b)) ≡ true
 gives-air b e =
     ap (λ (l : List ℕ). isGround (getD l 0 0) (getD l 1 0) || isAir (getD l 0 0) (getD l 1 0)) (layout.unpacked layout.air b (fitting (body.Air b) e))
     ∙ ap (λ (x : Bool). isGround (b .typecode) (b .subtype) || x) (agreeing (body.Air b) e)
@@ -117,9 +117,9 @@ module _ (g : Groups) (e : meantGroups g ≡ g) where
   unfolding meantGroups
   identified-meant me h = ap₂ identified e (ap (λ (b : Bool). cond b me 0) h)
 
-  pub moving-meant : (me : ℕ) → givesVelocity me ≡ true → meantGroups (moving g me) ≡ moving g me
+  pub moving-meant : (coarse : Bool) (me : ℕ) → givesVelocity coarse me ≡ true → meantGroups (moving g coarse me) ≡ moving g coarse me
   unfolding meantGroups
-  moving-meant me h = ap₂ moving e (ap (λ (b : Bool). cond b me 0) h)
+  moving-meant coarse me h = ap₂ (λ (x : Groups). moving x coarse) e (ap (λ (b : Bool). cond b me 0) h)
 
   pub surface-meant : (me : ℕ) → givesSurface me ≡ true → meantGroups (onSurface g me) ≡ onSurface g me
   unfolding meantGroups

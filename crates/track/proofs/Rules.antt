@@ -3,7 +3,7 @@
 use Prim.Native.Nat.{ℕ, _-_, _≤_, _<_}
 use native.Mathlib.Omega.{arith}
 use mathlib.Core.Path.{_≡_, refl, sym, ap, subst, _∙_}
-use mathlib.Core.Bool.{Bool, true, false, cond, _&&_}
+use mathlib.Core.Bool.{Bool, true, false, cond, not, _&&_}
 use mathlib.Core.List.{List, [], _∷_}
 use lib.Dec.{leb, eqb}
 use lib.ListN.{length, getD}
@@ -18,15 +18,18 @@ use Rattle.positions.specs.declared.Spot.{Spot}
 use Rattle.positions.specs.declared.Turn.{Turn}
 use Rattle.positions.specs.declared.Turn.the-variants as turn
 use Rattle.positions.specs.declared.Format.{Format}
+use Rattle.positions.specs.declared.Size.{Size}
+use Rattle.positions.specs.declared.Size.the-variants.{Fine, Coarse}
 use Rattle.positions.specs.declared.Found.{Found}
 use Rattle.positions.specs.declared.Found.the-variants as find
-use Rattle.positions.specs.Positions.{singly}
+use Rattle.positions.specs.Positions.{countSize, singly}
 use Rattle.layouts.specs.declared.identification.Identification.{Identification}
 use Rattle.layouts.specs.declared.surface.Surface.{Surface}
 use Rattle.layouts.specs.declared.airborne.Airborne.{Airborne}
 use Rattle.layouts.specs.declared.velocity.Ground.{Ground}
 use Rattle.layouts.specs.declared.velocity.Air.{Air}
 use Rattle.layouts.specs.declared.status.Status.{Status}
+use Rattle.layouts.specs.declared.coarse.Coarse as layout
 use Rattle.layouts.specs.declared.bodies.Body.{Body}
 use Rattle.layouts.specs.declared.bodies.Body.the-variants as body
 use Rattle.layouts.specs.Bodies.{bodyMe, bodyFits}
@@ -37,6 +40,7 @@ use Rattle.messages.specs.declared.Decoded.the-variants as decode
 use Rattle.messages.proofs.BothWays.{decoded-good}
 use Rattle.messages.proofs.Fitting.{fits-body}
 use Rattle.whereabouts.specs.declared.Saved.{Saved}
+use Rattle.whereabouts.specs.declared.Placed.{Placed}
 use Rattle.whereabouts.specs.declared.Placed.the-variants as placed
 use Rattle.whereabouts.specs.declared.Position.{Position}
 use Rattle.whereabouts.specs.declared.Site.{Site}
@@ -45,6 +49,9 @@ use Rattle.track.specs.declared.Stepped.{Stepped}
 use Rattle.track.specs.Groups.{identified, moving, onSurface, atPressure, reported, atHeight, positioned}
 use Rattle.whereabouts.specs.Located.{
   isFresh,
+  sizeOf,
+  sameSize,
+  isPartner,
   passedOn,
   settled,
   readNear,
@@ -54,7 +61,8 @@ use Rattle.whereabouts.specs.Located.{
   airbornePosition,
   surfacePosition,
 }
-use Rattle.track.specs.Track.{formatOf, placedOr, countsIn, newTrack, noSaved, groupTrack, airborneTrack, surfaceTrack, stepBody, stepped}
+use Rattle.whereabouts.proofs.Promised.{sizes-never-paired}
+use Rattle.track.specs.Track.{formatOf, placedOr, countsIn, coarseCounts, newTrack, noSaved, groupTrack, savedTrack, airborneTrack, surfaceTrack, stepBody, stepped}
 
 -- ---- a new track
 
@@ -87,13 +95,14 @@ pub answer-passed-on : (t : Track) (s : List ℕ) (site : Site) (time : ℕ) →
 answer-passed-on t s site time h = passed-on t s (decoded s) site time h refl
 
 pub heard-at-its-time : (t : Track) (b : Body) (me : ℕ) (site : Site) (time : ℕ) → stepBody t b me site time .heard ≡ time
-unfolding groupTrack airborneTrack surfaceTrack
+unfolding groupTrack savedTrack surfaceTrack
 heard-at-its-time t (body.Identification b) me site time = refl
 heard-at-its-time t (body.Surface b) me site time = refl
 heard-at-its-time t (body.Airborne b) me site time = by-test (λ (x : Track). x .heard ≡ time) (eqb (b .typecode) 0) _ _ (λ _. refl) (λ _. refl)
 heard-at-its-time t (body.Ground b) me site time = refl
 heard-at-its-time t (body.Air b) me site time = refl
 heard-at-its-time t (body.Status b) me site time = refl
+heard-at-its-time t (body.Coarse b) me site time = refl
 
 -- ---- a message replaces its own group whole, but for an altitude that a TYPE 0 leaves out, and one with no position leaves where the aircraft is
 
@@ -112,6 +121,7 @@ pub record NoPosition (altitude time : ℕ) (t n : Track) : Type 0 where
   pub height : n .groups .height ≡ t .groups .height
   pub typecode : n .groups .typecode ≡ t .groups .typecode
   pub bit8 : n .groups .bit8 ≡ t .groups .bit8
+  pub coarse : n .groups .coarse ≡ t .groups .coarse
   pub position : n .position ≡ t .position
   pub saved : n .saved ≡ t .saved
 
@@ -126,19 +136,33 @@ pub record OnlyStatus (me time : ℕ) (t n : Track) : Type 0 where
   pub height : n .groups .height ≡ t .groups .height
   pub typecode : n .groups .typecode ≡ t .groups .typecode
   pub bit8 : n .groups .bit8 ≡ t .groups .bit8
+  pub coarse : n .groups .coarse ≡ t .groups .coarse
   pub position : n .position ≡ t .position
   pub saved : n .saved ≡ t .saved
+
+-- what a coarse message leaves of a track: its altitude, itself as the velocity, and of the other groups what they were
+pub record Coarsely (altitude me time : ℕ) (t n : Track) : Type 0 where
+  pub heard : n .heard ≡ time
+  pub pressure : n .groups .pressure ≡ altitude
+  pub velocity : n .groups .velocity ≡ me
+  pub coarse : n .groups .coarse ≡ true
+  pub identification : n .groups .identification ≡ t .groups .identification
+  pub surface : n .groups .surface ≡ t .groups .surface
+  pub status : n .groups .status ≡ t .groups .status
+  pub height : n .groups .height ≡ t .groups .height
+  pub typecode : n .groups .typecode ≡ t .groups .typecode
+  pub bit8 : n .groups .bit8 ≡ t .groups .bit8
 
 module _ (t : Track) (me : ℕ) (site : Site) (time : ℕ) where
   pub identification-replaces : (b : Identification) → stepBody t (body.Identification b) me site time .groups ≡ identified (t .groups) me
   unfolding groupTrack
   identification-replaces b = refl
 
-  pub ground-replaces : (b : Ground) → stepBody t (body.Ground b) me site time .groups ≡ moving (t .groups) me
+  pub ground-replaces : (b : Ground) → stepBody t (body.Ground b) me site time .groups ≡ moving (t .groups) false me
   unfolding groupTrack
   ground-replaces b = refl
 
-  pub air-replaces : (b : Air) → stepBody t (body.Air b) me site time .groups ≡ moving (t .groups) me
+  pub air-replaces : (b : Air) → stepBody t (body.Air b) me site time .groups ≡ moving (t .groups) false me
   unfolding groupTrack
   air-replaces b = refl
 
@@ -156,13 +180,13 @@ module _ (t : Track) (me : ℕ) (site : Site) (time : ℕ) where
   -- TYPE 9-18
   pub pressure-replaces : (b : Airborne) → 9 ≤ b .typecode → b .typecode ≤ 18
       → stepBody t (body.Airborne b) me site time .groups ≡ positioned (atPressure (t .groups) (b .altitude)) (b .typecode) (eqb (b .bit8) 1)
-  unfolding airborneTrack
+  unfolding savedTrack
   pressure-replaces b l h = ap (λ (x : Track). x .groups) (located b (omega arith)) ∙ simp (le-leb (b .typecode) 18 h)
 
   -- TYPE 20-22
   pub height-replaces : (b : Airborne) → 18 < b .typecode
       → stepBody t (body.Airborne b) me site time .groups ≡ positioned (atHeight (t .groups) (b .altitude)) (b .typecode) (eqb (b .bit8) 1)
-  unfolding airborneTrack
+  unfolding savedTrack
   height-replaces b h = ap (λ (x : Track). x .groups) (located b (omega arith)) ∙ simp (lt-leb (b .typecode) 18 h)
 
   -- TYPE 0: it is heard, a field unlike zero replaces the pressure altitude, and nothing else of the track changes, whatever its F and its counts
@@ -180,6 +204,7 @@ module _ (t : Track) (me : ℕ) (site : Site) (time : ℕ) where
         height = refl;
         typecode = refl;
         bit8 = refl;
+        coarse = refl;
         position = refl;
         saved = refl;
       })
@@ -198,8 +223,26 @@ module _ (t : Track) (me : ℕ) (site : Site) (time : ℕ) where
         height = refl;
         typecode = refl;
         bit8 = refl;
+        coarse = refl;
         position = refl;
         saved = refl;
+      }
+
+  -- CF 3
+  pub coarse-replaces : (b : layout.Coarse) → Coarsely (b .altitude) me time t (stepBody t (body.Coarse b) me site time)
+  unfolding savedTrack
+  coarse-replaces b =
+      record {
+        heard = refl;
+        pressure = refl;
+        velocity = refl;
+        coarse = refl;
+        identification = refl;
+        surface = refl;
+        status = refl;
+        height = refl;
+        typecode = refl;
+        bit8 = refl;
       }
 
   pub identification-stays : (b : Identification) → Unmoved t (stepBody t (body.Identification b) me site time)
@@ -222,21 +265,51 @@ module _ (t : Track) (me : ℕ) (site : Site) (time : ℕ) where
 
   -- of a message with a position, so not of TYPE 0
   pub airborne-saved : (b : Airborne) → 0 < b .typecode → b .f < length (t .saved)
-      → getD (stepBody t (body.Airborne b) me site time .saved) (b .f) noSaved ≡ record { known = true; counts = countsIn b; time = time }
-  unfolding airborneTrack
+      → getD (stepBody t (body.Airborne b) me site time .saved) (b .f) noSaved ≡ record { known = true; coarse = false; counts = countsIn b; time = time }
+  unfolding savedTrack
   airborne-saved b n h = ap (λ (x : Track). getD (x .saved) (b .f) noSaved) (located b n) ∙ getD-set-same (t .saved) (b .f) _ noSaved h
 
   pub airborne-leaves : (b : Airborne) → 0 < b .typecode → (i : ℕ) → (i ≡ b .f → ⊥)
       → getD (stepBody t (body.Airborne b) me site time .saved) i noSaved ≡ getD (t .saved) i noSaved
-  unfolding airborneTrack
+  unfolding savedTrack
   airborne-leaves b n i h = ap (λ (x : Track). getD (x .saved) i noSaved) (located b n) ∙ getD-set-other (t .saved) (b .f) i _ noSaved h
 
   -- the partner is the one of the other F, as it was saved before
   pub airborne-located : (b : Airborne) → 0 < b .typecode
       → stepBody t (body.Airborne b) me site time .position
-      ≡ placedOr (airbornePosition (t .position) (getD (t .saved) (1 - b .f) noSaved) (countsIn b) (formatOf (b .f)) time) (t .position)
-  unfolding airborneTrack
+      ≡ placedOr (airbornePosition (t .position) (getD (t .saved) (1 - b .f) noSaved) Fine (countsIn b) (formatOf (b .f)) time) (t .position)
+  unfolding savedTrack
   airborne-located b n = ap (λ (x : Track). x .position) (located b n)
+
+  -- the same of a coarse message
+  pub coarse-saved : (b : layout.Coarse) → b .f < length (t .saved)
+      → getD (stepBody t (body.Coarse b) me site time .saved) (b .f) noSaved
+      ≡ record { known = true; coarse = true; counts = coarseCounts b; time = time }
+  unfolding savedTrack
+  coarse-saved b h = getD-set-same (t .saved) (b .f) _ noSaved h
+
+  pub coarse-leaves : (b : layout.Coarse) (i : ℕ) → (i ≡ b .f → ⊥) → getD (stepBody t (body.Coarse b) me site time .saved) i noSaved ≡ getD (t .saved) i noSaved
+  unfolding savedTrack
+  coarse-leaves b i h = getD-set-other (t .saved) (b .f) i _ noSaved h
+
+  pub coarse-located : (b : layout.Coarse)
+      → stepBody t (body.Coarse b) me site time .position
+      ≡ placedOr (airbornePosition (t .position) (getD (t .saved) (1 - b .f) noSaved) Coarse (coarseCounts b) (formatOf (b .f)) time) (t .position)
+  unfolding savedTrack
+  coarse-located b = refl
+
+  -- a fine message is no partner of a coarse one, and a coarse one none of a fine one: it is read as if the other F had not been heard
+  pub coarse-never-paired : (b : layout.Coarse) → getD (t .saved) (1 - b .f) noSaved .coarse ≡ false
+      → stepBody t (body.Coarse b) me site time .position
+      ≡ placedOr (readSingly (t .position) Coarse (coarseCounts b) (formatOf (b .f)) time) (t .position)
+  coarse-never-paired b e =
+      coarse-located b ∙ ap (λ (x : Placed). placedOr x (t .position)) (sizes-never-paired (t .position) (getD (t .saved) (1 - b .f) noSaved) Coarse _ (formatOf (b .f)) time e)
+
+  pub fine-never-paired : (b : Airborne) → 0 < b .typecode → getD (t .saved) (1 - b .f) noSaved .coarse ≡ true
+      → stepBody t (body.Airborne b) me site time .position ≡ placedOr (readSingly (t .position) Fine (countsIn b) (formatOf (b .f)) time) (t .position)
+  fine-never-paired b n e =
+      airborne-located b n
+      ∙ ap (λ (x : Placed). placedOr x (t .position)) (sizes-never-paired (t .position) (getD (t .saved) (1 - b .f) noSaved) Fine _ (formatOf (b .f)) time (ap not e))
 
   pub surface-located : (b : Surface)
       → stepBody t (body.Surface b) me site time .position
@@ -253,42 +326,69 @@ beyond : (known : Bool) (age most : ℕ) → most < age → known && leb age mos
 beyond true age most h = lt-leb age most h
 beyond false age most h = refl
 
-module _ (p : Position) (counts : Counts) (format : Format) (time : ℕ) where
-  pub paired-within : (partner : Saved) → partner .known ≡ true → time - partner .time ≤ 10000
-      → airbornePosition p partner counts format time ≡ afterPair (pairedWith (partner .counts) counts format) p counts format time
-  unfolding airbornePosition
-  paired-within partner k h = rw (within (partner .known) (time - partner .time) 10000 k h)
+module _ (p : Position) (size : Size) (counts : Counts) (format : Format) (time : ℕ) where
+  pub paired-within : (partner : Saved) → partner .known ≡ true → sameSize (partner .coarse) size ≡ true → time - partner .time ≤ 10000
+      → airbornePosition p partner size counts format time ≡ afterPair (pairedWith (partner .counts) size counts format) p size counts format time
+  unfolding airbornePosition isPartner
+  paired-within partner k e h = rw (within (partner .known && sameSize (partner .coarse) size) (time - partner .time) 10000 (both k e) h)
 
   pub unpaired-beyond : (partner : Saved) → 10000 < time - partner .time
-      → airbornePosition p partner counts format time ≡ readSingly p counts format time
-  unfolding airbornePosition
-  unpaired-beyond partner h = rw (beyond (partner .known) (time - partner .time) 10000 h)
+      → airbornePosition p partner size counts format time ≡ readSingly p size counts format time
+  unfolding airbornePosition isPartner
+  unpaired-beyond partner h = rw (beyond (partner .known && sameSize (partner .coarse) size) (time - partner .time) 10000 h)
 
   pub unpaired-alone : (partner : Saved) → partner .known ≡ false
-      → airbornePosition p partner counts format time ≡ readSingly p counts format time
-  unfolding airbornePosition
+      → airbornePosition p partner size counts format time ≡ readSingly p size counts format time
+  unfolding airbornePosition isPartner
   unpaired-alone partner k = rw k
 
   pub read-within : p .known ≡ true → time - p .time ≤ 120000
-      → readSingly p counts format time ≡ readNear (p .spot) p counts turn.Airborne format time
+      → readSingly p size counts format time ≡ readNear (p .spot) p size counts turn.Airborne format time
   unfolding readSingly
   read-within k h = rw (within (p .known) (time - p .time) 120000 k h)
 
-  pub stays-beyond : 120000 < time - p .time → readSingly p counts format time ≡ placed.At p
+  pub stays-beyond : 120000 < time - p .time → readSingly p size counts format time ≡ placed.At p
   unfolding readSingly
   stays-beyond h = rw (beyond (p .known) (time - p .time) 120000 h)
 
-  pub stays-unknown : p .known ≡ false → readSingly p counts format time ≡ placed.At p
+  pub stays-unknown : p .known ≡ false → readSingly p size counts format time ≡ placed.At p
   unfolding readSingly
   stays-unknown k = rw k
 
+  -- ---- a position found takes the message's time; on 9 or 10 a pair is read singly, and what is read singly stays; 8 is passed on
+
+  pub pair-found : (found : Found) (spot : Spot) → found ≡ find.At spot
+      → afterPair found p size counts format time ≡ placed.At (record { known = true; spot = spot; time = time })
+  pair-found found spot e = rw e
+
+  pub pair-refused : (found : Found) (r : Refusal) → found ≡ find.Refused r
+      → afterPair found p size counts format time ≡ passedOn r (readSingly p size counts format time)
+  pair-refused found r e = rw e
+
+  pub pair-nine : (found : Found) → found ≡ find.Refused Latitude → afterPair found p size counts format time ≡ readSingly p size counts format time
+  pair-nine found e = pair-refused found Latitude e
+
+  pub pair-ten : (found : Found) → found ≡ find.Refused Zones → afterPair found p size counts format time ≡ readSingly p size counts format time
+  pair-ten found e = pair-refused found Zones e
+
+  pub near-found : (reference : Spot) (turn : Turn) (spot : Spot) → singly (countSize size) reference counts turn format ≡ find.At spot
+      → readNear reference p size counts turn format time ≡ placed.At (record { known = true; spot = spot; time = time })
+  unfolding readNear
+  near-found reference turn spot e = ap (λ (x : Found). settled x p time) e
+
+  pub near-refused : (reference : Spot) (turn : Turn) (r : Refusal) → singly (countSize size) reference counts turn format ≡ find.Refused r
+      → readNear reference p size counts turn format time ≡ passedOn r (placed.At p)
+  unfolding readNear
+  near-refused reference turn r e = ap (λ (x : Found). settled x p time) e
+
+module _ (p : Position) (counts : Counts) (format : Format) (time : ℕ) where
   pub surface-within : (site : Site) → p .known ≡ true → time - p .time ≤ 120000
-      → surfacePosition p site counts format time ≡ readNear (p .spot) p counts turn.Surface format time
+      → surfacePosition p site counts format time ≡ readNear (p .spot) p Fine counts turn.Surface format time
   unfolding surfacePosition
   surface-within site k h = rw (within (p .known) (time - p .time) 120000 k h)
 
   pub surface-by-site : (site : Site) → isFresh p time ≡ false → site .known ≡ true
-      → surfacePosition p site counts format time ≡ readNear (site .spot) p counts turn.Surface format time
+      → surfacePosition p site counts format time ≡ readNear (site .spot) p Fine counts turn.Surface format time
   unfolding surfacePosition
   surface-by-site site e k = rw (e, k)
 
@@ -296,31 +396,6 @@ module _ (p : Position) (counts : Counts) (format : Format) (time : ℕ) where
   unfolding surfacePosition
   surface-by-none site e k = rw (e, k)
 
-  -- so a position of 120,001 is none: the site is used
-  pub stale-beyond : 120000 < time - p .time → isFresh p time ≡ false
-  stale-beyond h = beyond (p .known) (time - p .time) 120000 h
-
-  -- ---- a position found takes the message's time; on 9 or 10 a pair is read singly, and what is read singly stays; 8 is passed on
-
-  pub pair-found : (found : Found) (spot : Spot) → found ≡ find.At spot
-      → afterPair found p counts format time ≡ placed.At (record { known = true; spot = spot; time = time })
-  pair-found found spot e = rw e
-
-  pub pair-refused : (found : Found) (r : Refusal) → found ≡ find.Refused r → afterPair found p counts format time ≡ passedOn r (readSingly p counts format time)
-  pair-refused found r e = rw e
-
-  pub pair-nine : (found : Found) → found ≡ find.Refused Latitude → afterPair found p counts format time ≡ readSingly p counts format time
-  pair-nine found e = pair-refused found Latitude e
-
-  pub pair-ten : (found : Found) → found ≡ find.Refused Zones → afterPair found p counts format time ≡ readSingly p counts format time
-  pair-ten found e = pair-refused found Zones e
-
-  pub near-found : (reference : Spot) (turn : Turn) (spot : Spot) → singly 131072 reference counts turn format ≡ find.At spot
-      → readNear reference p counts turn format time ≡ placed.At (record { known = true; spot = spot; time = time })
-  unfolding readNear
-  near-found reference turn spot e = ap (λ (x : Found). settled x p time) e
-
-  pub near-refused : (reference : Spot) (turn : Turn) (r : Refusal) → singly 131072 reference counts turn format ≡ find.Refused r
-      → readNear reference p counts turn format time ≡ passedOn r (placed.At p)
-  unfolding readNear
-  near-refused reference turn r e = ap (λ (x : Found). settled x p time) e
+-- so a position of 120,001 is none: the site is used
+pub stale-beyond : (p : Position) (time : ℕ) → 120000 < time - p .time → isFresh p time ≡ false
+stale-beyond p time h = beyond (p .known) (time - p .time) 120000 h

@@ -14,6 +14,7 @@ noGroups = record {
   height = 0;
   typecode = 0;
   bit8 = false;
+  coarse = false;
 }
 
 -- identification, TYPE 1-4
@@ -27,11 +28,12 @@ identified g me = record {
   height = g .height;
   typecode = g .typecode;
   bit8 = g .bit8;
+  coarse = g .coarse;
 }
 
--- velocity, TYPE 19
-abbrev pub moving : Groups → ℕ → Groups
-moving g me = record {
+-- velocity, TYPE 19; and a coarse message, which is its own
+abbrev pub moving : Groups → Bool → ℕ → Groups
+moving g coarse me = record {
   identification = g .identification;
   velocity = me;
   surface = g .surface;
@@ -40,6 +42,7 @@ moving g me = record {
   height = g .height;
   typecode = g .typecode;
   bit8 = g .bit8;
+  coarse = coarse;
 }
 
 -- surface fields, TYPE 5-8
@@ -53,6 +56,7 @@ onSurface g me = record {
   height = g .height;
   typecode = g .typecode;
   bit8 = g .bit8;
+  coarse = g .coarse;
 }
 
 -- operational status, TYPE 31
@@ -66,9 +70,10 @@ stating g me = record {
   height = g .height;
   typecode = g .typecode;
   bit8 = g .bit8;
+  coarse = g .coarse;
 }
 
--- pressure altitude, of TYPE 9-18 and of a TYPE 0 that reports one
+-- pressure altitude, of TYPE 9-18, of a TYPE 0 that reports one and of a coarse message
 abbrev pub atPressure : Groups → ℕ → Groups
 atPressure g altitude = record {
   identification = g .identification;
@@ -79,6 +84,7 @@ atPressure g altitude = record {
   height = g .height;
   typecode = g .typecode;
   bit8 = g .bit8;
+  coarse = g .coarse;
 }
 
 -- the pressure altitude that a TYPE 0 reports: a field of zero leaves the one before, any other code replaces it, unknown included
@@ -96,6 +102,7 @@ atHeight g altitude = record {
   height = altitude;
   typecode = g .typecode;
   bit8 = g .bit8;
+  coarse = g .coarse;
 }
 
 abbrev pub high : Groups → ℕ → ℕ → Groups
@@ -112,4 +119,5 @@ positioned g type bit8 = record {
   height = g .height;
   typecode = type;
   bit8 = bit8;
+  coarse = g .coarse;
 }

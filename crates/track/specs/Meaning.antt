@@ -15,13 +15,13 @@ use Rattle.track.specs.declared.Groups.{Groups}
 use Rattle.track.specs.declared.Track.{Track}
 use Rattle.track.specs.Track.{noSaved}
 
--- ---- whether an ME gives a group: by its TYPE, bits 1-5, and of velocity and status by its subtype, bits 6-8
+-- ---- whether an ME gives a group: by its TYPE, bits 1-5, and of velocity and status by its subtype, bits 6-8; a coarse message is a velocity whatever its bits
 
 abbrev pub givesIdentification : ℕ → Bool
 givesIdentification n = isIdentification (me 1 5 n)
 
-abbrev pub givesVelocity : ℕ → Bool
-givesVelocity n = isGround (me 1 5 n) (me 6 8 n) || isAir (me 1 5 n) (me 6 8 n)
+abbrev pub givesVelocity : Bool → ℕ → Bool
+givesVelocity coarse n = coarse || (isGround (me 1 5 n) (me 6 8 n) || isAir (me 1 5 n) (me 6 8 n))
 
 abbrev pub givesSurface : ℕ → Bool
 givesSurface n = isSurface (me 1 5 n)
@@ -35,13 +35,14 @@ unfoldable pub meantGroups : Groups → Groups
 meantGroups g =
     record {
       identification = cond (givesIdentification (g .identification)) (g .identification) 0;
-      velocity = cond (givesVelocity (g .velocity)) (g .velocity) 0;
+      velocity = cond (givesVelocity (g .coarse) (g .velocity)) (g .velocity) 0;
       surface = cond (givesSurface (g .surface)) (g .surface) 0;
       status = cond (givesStatus (g .status)) (g .status) 0;
       pressure = g .pressure;
       height = g .height;
       typecode = g .typecode;
       bit8 = g .bit8;
+      coarse = g .coarse;
     }
 
 unfoldable pub meantPosition : Position → Position
@@ -62,7 +63,7 @@ meant t =
 -- what every track means has: an ME that does not give its group is 0, and what has no mark is all zeros
 pub record NothingForeign (t : Track) : Type 0 where
   pub identification : givesIdentification (t .groups .identification) ≡ false → t .groups .identification ≡ 0
-  pub velocity : givesVelocity (t .groups .velocity) ≡ false → t .groups .velocity ≡ 0
+  pub velocity : givesVelocity (t .groups .coarse) (t .groups .velocity) ≡ false → t .groups .velocity ≡ 0
   pub surface : givesSurface (t .groups .surface) ≡ false → t .groups .surface ≡ 0
   pub status : givesStatus (t .groups .status) ≡ false → t .groups .status ≡ 0
   pub position : t .position .known ≡ false → t .position ≡ noPosition

@@ -9,6 +9,7 @@ pub use held::Holding;
 pub use held::Looked;
 pub use held::is_in_date;
 use layouts::Airborne;
+use layouts::Coarse;
 use layouts::Layout;
 use layouts::Surface;
 use layouts::Written;
@@ -16,17 +17,23 @@ pub use meaning::meant;
 use messages::Decoded;
 use positions::Counts;
 use positions::Format;
+use positions::Size;
 use refusals::Refusal;
 use whereabouts::Placed;
 use whereabouts::Position;
 use whereabouts::Saved;
 use whereabouts::Site;
 ghost use mathlib.Core.Path.{_≡_};
-ghost use Prim.Native.Nat.{_<_};
-ghost use Rattle.track.specs.Track.{formatOf, placedOr, airborneTrack, airborneStep, surfaceTrack, groupTrack, stepMe, stepped, newTrack, noSaved};
+ghost use mathlib.Core.Bool.{cond};
+ghost use Rattle.layouts.specs.Layouts.{airborneOf};
+ghost use Rattle.layouts.specs.Coarse.{coarseOf};
+ghost use Prim.Native.Nat.{_-_, _<_};
+ghost use lib.ListN.{getD, set};
+ghost use Rattle.track.specs.Track.{formatOf, placedOr, wayOf, airborneAloft, coarseAloft, savedTrack, airborneStep, coarseTrack, surfaceTrack, groupTrack, stepMe, stepped, newTrack, noSaved};
+ghost use Rattle.whereabouts.specs.Located.{sizeOf};
 
 // What was last heard of each group: of four the ME that gave it, 0 where none did; of two the code of 12 bits, 0 where it is unknown. Of the latest position message its TYPE, 0 where none was heard,
-// and bit 8 of ME, which one on the surface does not have.
+// and bit 8 of ME, which one on the surface does not have; a coarse one has neither, and leaves both. Whether the velocity is a coarse message, which its bits do not tell.
 pub struct Groups {
     pub identification: u64,
     pub velocity: u64,
@@ -36,6 +43,7 @@ pub struct Groups {
     pub height: u16,
     pub typecode: u8,
     pub bit8: bool,
+    pub coarse: bool,
 }
 
 pub struct Track {
@@ -46,17 +54,26 @@ pub struct Track {
     pub saved: [Saved; 2],
 }
 
+// What a message from the air says: its F and counts, and the groups after it.
+struct Aloft {
+    groups: Groups,
+    coarse: bool,
+    f: u8,
+    counts: Counts,
+}
+
 // The decoder's answer passed on, and the track after it: a refusal leaves the track.
 pub struct Stepped {
     pub answer: Decoded,
     pub track: Track,
 }
 
-fn no_saved() -> Saved
+pub(crate) fn no_saved() -> Saved
     ensures { λ r. ⌜ r ≡ noSaved ⌝ }
 {
     Saved {
         known: false,
+        coarse: false,
         counts: Counts {
             latitude: LatitudeCount(0),
             longitude: LongitudeCount(0),
@@ -95,33 +112,98 @@ fn placed_or(placed: Placed, p: Position) -> Position
     }
 }
 
-// An airborne message is saved by its F, and paired with the other one.
-fn airborne_track(t: Track, b: Airborne, time: u64) -> Track
-    requires { ⌜ b .f < 2 ⌝ }
-    ensures { λ r. ⌜ r ≡ airborneTrack t b time ⌝ }
+fn size_of(coarse: bool) -> Size
+    ensures { λ r. ⌜ r ≡ sizeOf coarse ⌝ }
 {
-    let own = b.f as usize;
-    let other = (1 - b.f) as usize;
-    let mut saved = t.saved;
-    let partner = saved[other];
+    if coarse { Size::Coarse } else { Size::Fine }
+}
+
+fn airborne_aloft(g: Groups, b: Airborne) -> Aloft
+    ensures { λ r. ⌜ r ≡ airborneAloft g b ⌝ }
+{
     let latitude = b.latitude;
     let longitude = b.longitude;
-    let counts = Counts {
-        latitude: latitude,
-        longitude: longitude,
-    };
-    saved[own] = Saved {
+    Aloft {
+        groups: replaced::with_altitude(g, b.typecode, b.bit8, b.altitude),
+        coarse: false,
+        f: b.f,
+        counts: Counts {
+            latitude: latitude,
+            longitude: longitude,
+        },
+    }
+}
+
+fn coarse_aloft(g: Groups, b: Coarse, me: u64) -> Aloft
+    ensures { λ r. ⌜ r ≡ coarseAloft g b me ⌝ }
+{
+    let latitude = b.latitude;
+    let longitude = b.longitude;
+    Aloft {
+        groups: replaced::with_coarse(g, me, b.altitude),
+        coarse: true,
+        f: b.f,
+        counts: Counts {
+            latitude: latitude,
+            longitude: longitude,
+        },
+    }
+}
+
+fn aloft_in(g: Groups, coarse: bool, me: u64) -> Aloft
+    ensures { λ r. ⌜ (r ≡ cond coarse (coarseAloft g (coarseOf me) me) (airborneAloft g (airborneOf me))) × (r .f < 2) ⌝ }
+{
+    if coarse {
+        coarse_aloft(g, layouts::coarse_of(me), me)
+    } else {
+        airborne_aloft(g, layouts::airborne_of(me))
+    }
+}
+
+// The saved one of the other F. A branch costs less than an index, for which both are laid out in memory.
+fn other_of(both: [Saved; 2], f: u8) -> Saved
+    requires { ⌜ f < 2 ⌝ }
+    ensures { λ r. ⌜ r ≡ getD both (1 - f) noSaved ⌝ }
+{
+    let even = both[0];
+    let odd = both[1];
+    if f == 0 { odd } else { even }
+}
+
+// The two saved ones, with another for that of its F.
+fn with_own(both: [Saved; 2], f: u8, own: Saved) -> [Saved; 2]
+    requires { ⌜ f < 2 ⌝ }
+    ensures { λ r. ⌜ r ≡ set both f own ⌝ }
+{
+    let even = both[0];
+    let odd = both[1];
+    if f == 0 { [own, odd] } else { [even, own] }
+}
+
+// A position in the air, fine or coarse, is saved by its F, and paired with the other one.
+fn saved_track(t: Track, a: Aloft, time: u64) -> Track
+    requires { ⌜ a .f < 2 ⌝ }
+    ensures { λ r. ⌜ r ≡ savedTrack t (a .groups) (a .coarse) (a .f) (a .counts) time ⌝ }
+{
+    let counts = a.counts;
+    let own = Saved {
         known: true,
+        coarse: a.coarse,
         counts: counts,
         time: time,
     };
+    let both = t.saved;
+    let partner = other_of(both, a.f);
+    let saved = with_own(both, a.f, own);
+    let g = a.groups;
     let p = t.position;
-    let g = t.groups;
+    let size = size_of(a.coarse);
+    let format = format_of(a.f);
     Track {
         heard: time,
-        groups: replaced::with_altitude(g, b.typecode, b.bit8, b.altitude),
+        groups: g,
         position: placed_or(
-            whereabouts::airborne_position(p, partner, counts, format_of(b.f), time),
+            whereabouts::airborne_position(p, partner, size, counts, format, time),
             p,
         ),
         saved: saved,
@@ -167,32 +249,44 @@ fn group_track(t: Track, g: Groups, time: u64) -> Track
     }
 }
 
-// A message of the airborne layout: one of TYPE 0 has no position, so its counts are no one's.
-fn airborne_step(t: Track, b: Airborne, time: u64) -> Track
-    requires { ⌜ b .f < 2 ⌝ }
-    ensures { λ r. ⌜ r ≡ airborneStep t b time ⌝ }
+// A message of the airborne layout, or a coarse one. One of TYPE 0 has no position, so its counts are no one's.
+fn air_step(t: Track, coarse: bool, me: u64, time: u64) -> Track
+    ensures { λ r. ⌜ r ≡ cond coarse (coarseTrack t (coarseOf me) me time) (airborneStep t (airborneOf me) time) ⌝ }
 {
-    if b.typecode == 0 {
-        let g = t.groups;
+    let g = t.groups;
+    let b = layouts::airborne_of(me);
+    if !coarse & (b.typecode == 0) {
         return group_track(t, replaced::with_reported(g, b.altitude), time);
     }
-    airborne_track(t, b, time)
+    saved_track(t, aloft_in(g, coarse, me), time)
 }
 
-// What the ME of a message does to its track, by its layout: one that is not taken leaves it. Of the number 56 bits are read.
-pub fn step_me(t: Track, number: u64, site: Site, time: u64) -> Track
-    ensures { λ r. ⌜ r ≡ stepMe t number site time ⌝ }
+// By which arm a message goes: a coarse one by that of the airborne layout, so that one place of the code calls what both need.
+fn way_of(coarse: bool, me: u64) -> Layout
+    ensures { λ r. ⌜ r ≡ wayOf coarse me ⌝ }
+{
+    if coarse {
+        return Layout::Airborne;
+    }
+    layouts::layout_of(me)
+}
+
+// What the ME of a message, coarse or not, does to its track, by its layout: one that is not taken leaves it. Of the number 56 bits are read.
+pub fn step_me(t: Track, coarse: bool, number: u64, site: Site, time: u64) -> Track
+    ensures { λ r. ⌜ r ≡ stepMe t coarse number site time ⌝ }
 {
     let g = t.groups;
     let me = number % 0x100_0000_0000_0000;
-    let layout = layouts::layout_of(me);
+    let layout = way_of(coarse, me);
     match layout {
         Layout::Identification => group_track(t, replaced::with_identification(g, me), time),
         Layout::Surface => surface_track(t, layouts::surface_of(me), me, site, time),
-        Layout::Airborne => airborne_step(t, layouts::airborne_of(me), time),
+        Layout::Airborne => air_step(t, coarse, me, time),
         Layout::Ground => group_track(t, replaced::with_velocity(g, me), time),
         Layout::Air => group_track(t, replaced::with_velocity(g, me), time),
         Layout::Status => group_track(t, replaced::with_status(g, me), time),
+        // no TYPE says so
+        Layout::Coarse => t,
         Layout::NotTaken => t,
     }
 }
@@ -216,6 +310,6 @@ pub fn step(t: Track, answer: Decoded, site: Site, time: u64) -> Stepped
     };
     Stepped {
         answer: answer,
-        track: step_me(t, me, site, time),
+        track: step_me(t, layouts::is_coarse(body), me, site, time),
     }
 }

@@ -2,9 +2,7 @@
 // TYPE is tested here and not by `layout_of`, which branches: a message pays for it.
 use crate::Groups;
 use crate::Track;
-use counts::LatitudeCount;
-use counts::LongitudeCount;
-use positions::Counts;
+use crate::no_saved;
 use positions::Spot;
 use whereabouts::Position;
 use whereabouts::Saved;
@@ -20,12 +18,12 @@ fn gives_identification(me: u64) -> bool
     (1 <= t) & (t <= 4)
 }
 
-// TYPE 19 and a subtype of 1-4, in one number.
-fn gives_velocity(me: u64) -> bool
-    ensures { λ r. ⌜ r ≡ givesVelocity me ⌝ }
+// TYPE 19 and a subtype of 1-4, in one number; a coarse message's whatever its bits.
+fn gives_velocity(coarse: bool, me: u64) -> bool
+    ensures { λ r. ⌜ r ≡ givesVelocity coarse me ⌝ }
 {
     let both = me / 0x1_0000_0000_0000 % 256;
-    (8 * 19 + 1 <= both) & (both <= 8 * 19 + 4)
+    coarse | ((8 * 19 + 1 <= both) & (both <= 8 * 19 + 4))
 }
 
 fn gives_surface(me: u64) -> bool
@@ -42,7 +40,7 @@ fn gives_status(me: u64) -> bool
     me / 0x2_0000_0000_0000 % 128 == 4 * 31
 }
 
-// Each value is chosen by itself, which compiles to no branch.
+// Each value is chosen by itself, which compiles to no branch; an encoded position has so many that a branch costs less.
 fn or_zero(counts: bool, n: u64) -> u64
     ensures { λ r. ⌜ r ≡ cond counts n 0 ⌝ }
 {
@@ -66,13 +64,14 @@ fn meant_groups(g: Groups) -> Groups
 {
     Groups {
         identification: or_zero(gives_identification(g.identification), g.identification),
-        velocity: or_zero(gives_velocity(g.velocity), g.velocity),
+        velocity: or_zero(gives_velocity(g.coarse, g.velocity), g.velocity),
         surface: or_zero(gives_surface(g.surface), g.surface),
         status: or_zero(gives_status(g.status), g.status),
         pressure: g.pressure,
         height: g.height,
         typecode: g.typecode,
         bit8: g.bit8,
+        coarse: g.coarse,
     }
 }
 
@@ -92,14 +91,10 @@ fn meant_position(p: Position) -> Position
 fn meant_saved(v: Saved) -> Saved
     ensures { λ r. ⌜ r ≡ meantSaved v ⌝ }
 {
-    Saved {
-        known: v.known,
-        counts: Counts {
-            latitude: LatitudeCount(or_zero_u32(v.known, v.counts.latitude.0)),
-            longitude: LongitudeCount(or_zero_u32(v.known, v.counts.longitude.0)),
-        },
-        time: or_zero(v.known, v.time),
+    if v.known {
+        return v;
     }
+    no_saved()
 }
 
 // An ME whose TYPE is not of its group says 'none heard', and what has no mark is none.

@@ -1,9 +1,9 @@
 // The groups of a track: a message replaces its own whole, unknown included; only the altitude of a TYPE 0 may be left out. A position message leaves its TYPE and, in the air, bit 8 too.
 use crate::Groups;
 ghost use mathlib.Core.Path.{_≡_};
-ghost use mathlib.Core.Bool.{false};
+ghost use mathlib.Core.Bool.{true, false};
 ghost use lib.Dec.{eqb};
-ghost use Rattle.track.specs.Groups.{noGroups, identified, moving, onSurface, stating, reported, high, positioned};
+ghost use Rattle.track.specs.Groups.{noGroups, identified, moving, onSurface, stating, atPressure, reported, high, positioned};
 
 pub(crate) fn no_groups() -> Groups
     ensures { λ r. ⌜ r ≡ noGroups ⌝ }
@@ -17,6 +17,7 @@ pub(crate) fn no_groups() -> Groups
         height: 0,
         typecode: 0,
         bit8: false,
+        coarse: false,
     }
 }
 
@@ -32,11 +33,12 @@ pub(crate) fn with_identification(g: Groups, me: u64) -> Groups
         height: g.height,
         typecode: g.typecode,
         bit8: g.bit8,
+        coarse: g.coarse,
     }
 }
 
 pub(crate) fn with_velocity(g: Groups, me: u64) -> Groups
-    ensures { λ r. ⌜ r ≡ moving g me ⌝ }
+    ensures { λ r. ⌜ r ≡ moving g false me ⌝ }
 {
     Groups {
         identification: g.identification,
@@ -47,6 +49,24 @@ pub(crate) fn with_velocity(g: Groups, me: u64) -> Groups
         height: g.height,
         typecode: g.typecode,
         bit8: g.bit8,
+        coarse: false,
+    }
+}
+
+// A coarse message is its own velocity, and gives a pressure altitude.
+pub(crate) fn with_coarse(g: Groups, me: u64, altitude: u16) -> Groups
+    ensures { λ r. ⌜ r ≡ atPressure (moving g true me) altitude ⌝ }
+{
+    Groups {
+        identification: g.identification,
+        velocity: me,
+        surface: g.surface,
+        status: g.status,
+        pressure: altitude,
+        height: g.height,
+        typecode: g.typecode,
+        bit8: g.bit8,
+        coarse: true,
     }
 }
 
@@ -62,6 +82,7 @@ pub(crate) fn with_status(g: Groups, me: u64) -> Groups
         height: g.height,
         typecode: g.typecode,
         bit8: g.bit8,
+        coarse: g.coarse,
     }
 }
 
@@ -79,6 +100,7 @@ pub(crate) fn with_surface(g: Groups, typecode: u8, me: u64) -> Groups
         height: g.height,
         typecode: typecode,
         bit8: none,
+        coarse: g.coarse,
     }
 }
 
@@ -95,6 +117,7 @@ pub(crate) fn with_reported(g: Groups, altitude: u16) -> Groups
         height: g.height,
         typecode: g.typecode,
         bit8: g.bit8,
+        coarse: g.coarse,
     }
 }
 
@@ -111,6 +134,7 @@ pub(crate) fn with_altitude(g: Groups, typecode: u8, bit8: u8, altitude: u16) ->
             height: g.height,
             typecode: typecode,
             bit8: bit8 == 1,
+            coarse: g.coarse,
         }
     } else {
         Groups {
@@ -122,6 +146,7 @@ pub(crate) fn with_altitude(g: Groups, typecode: u8, bit8: u8, altitude: u16) ->
             height: altitude,
             typecode: typecode,
             bit8: bit8 == 1,
+            coarse: g.coarse,
         }
     }
 }

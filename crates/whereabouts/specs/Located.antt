@@ -1,9 +1,10 @@
 -- Where a message puts its aircraft: by its partner, by one reference, or nowhere new. Values out of their range earn 8 where they are read, and it is passed on.
 use Prim.Native.Nat.{ℕ, _-_}
-use mathlib.Core.Bool.{Bool, true, false, cond, _&&_}
+use mathlib.Core.Bool.{Bool, true, false, cond, not, _&&_}
 use lib.Dec.{leb, eqb}
 use lib.IntN.{pos}
 use Rattle.refusals.specs.declared.Refusal.{Refusal}
+use Rattle.refusals.specs.declared.Refusal.the-variants.{Zones}
 use Rattle.refusals.specs.Numbers.{numberOf}
 use Rattle.positions.specs.declared.Counts.{Counts}
 use Rattle.positions.specs.declared.Spot.{Spot}
@@ -11,9 +12,11 @@ use Rattle.positions.specs.declared.Turn.{Turn}
 use Rattle.positions.specs.declared.Turn.the-variants.{Airborne, Surface}
 use Rattle.positions.specs.declared.Format.{Format}
 use Rattle.positions.specs.declared.Format.the-variants.{Even, Odd}
+use Rattle.positions.specs.declared.Size.{Size}
+use Rattle.positions.specs.declared.Size.the-variants.{Fine, Coarse}
 use Rattle.positions.specs.declared.Found.{Found}
 use Rattle.positions.specs.declared.Found.the-variants.{At, Refused}
-use Rattle.positions.specs.Positions.{paired, singly}
+use Rattle.positions.specs.Positions.{countSize, paired, singly}
 use Rattle.whereabouts.specs.declared.Saved.{Saved}
 use Rattle.whereabouts.specs.declared.Position.{Position}
 use Rattle.whereabouts.specs.declared.Site.{Site}
@@ -51,33 +54,50 @@ settled (At spot) p time = placed.At (foundAt spot time)
 settled (Refused r) p time = passedOn r (placed.At p)
 
 -- read singly against a reference
-unfoldable pub readNear : Spot → Position → Counts → Turn → Format → ℕ → Placed
-readNear reference p counts turn format time = settled (singly 131072 reference counts turn format) p time
+unfoldable pub readNear : Spot → Position → Size → Counts → Turn → Format → ℕ → Placed
+readNear reference p size counts turn format time = settled (singly (countSize size) reference counts turn format) p time
 
 -- an airborne message is read singly against the track's position if at most 120,000 old; otherwise the position stays
-unfoldable pub readSingly : Position → Counts → Format → ℕ → Placed
-readSingly p counts format time = cond (isFresh p time) (readNear (p .spot) p counts Airborne format time) (placed.At p)
+unfoldable pub readSingly : Position → Size → Counts → Format → ℕ → Placed
+readSingly p size counts format time = cond (isFresh p time) (readNear (p .spot) p size counts Airborne format time) (placed.At p)
 
 -- the later message is the one being processed
-unfoldable pub pairedWith : Counts → Counts → Format → Found
-pairedWith partner counts Even = paired 131072 counts partner Even
-pairedWith partner counts Odd = paired 131072 partner counts Odd
+unfoldable pub pairedWith : Counts → Size → Counts → Format → Found
+pairedWith partner size counts Even = paired (countSize size) counts partner Even
+pairedWith partner size counts Odd = paired (countSize size) partner counts Odd
 
 -- on 9 or 10 it is read singly
-abbrev pub afterPair : Found → Position → Counts → Format → ℕ → Placed
-afterPair (At spot) p counts format time = placed.At (foundAt spot time)
-afterPair (Refused r) p counts format time = passedOn r (readSingly p counts format time)
+abbrev pub afterPair : Found → Position → Size → Counts → Format → ℕ → Placed
+afterPair (At spot) p size counts format time = placed.At (foundAt spot time)
+afterPair (Refused r) p size counts format time = passedOn r (readSingly p size counts format time)
 
--- an airborne message is paired with the other one if that is at most 10,000 old; failing that it is read singly
-unfoldable pub airbornePosition : Position → Saved → Counts → Format → ℕ → Placed
-airbornePosition p partner counts format time =
-    cond (partner .known && isWithin 10000 time (partner .time))
-    (afterPair (pairedWith (partner .counts) counts format) p counts format time)
-    (readSingly p counts format time)
+-- the size of a saved position's counts
+abbrev pub sizeOf : Bool → Size
+sizeOf coarse = cond coarse Coarse Fine
 
--- a surface message is read singly against the track's position within 120,000, else the site, else not at all; on 9 the position stays
+-- coarse counts go with a coarse message, fine ones with a fine one
+abbrev pub sameSize : Bool → Size → Bool
+sameSize coarse Fine = not coarse
+sameSize coarse Coarse = coarse
+
+-- the other message is a message's partner if it is known, of its size and at most 10,000 old
+unfoldable pub isPartner : Saved → Size → ℕ → Bool
+isPartner saved size time = saved .known && sameSize (saved .coarse) size && isWithin 10000 time (saved .time)
+
+-- an airborne message is paired with its partner; failing that it is read singly
+unfoldable pub airbornePosition : Position → Saved → Size → Counts → Format → ℕ → Placed
+airbornePosition p partner size counts format time =
+    cond (isPartner partner size time)
+    (afterPair (pairedWith (partner .counts) size counts format) p size counts format time)
+    (readSingly p size counts format time)
+
+-- the same in the code's order: what is found by the partner, and 10 where there is none
+abbrev pub triedWith : Saved → Size → Counts → Format → ℕ → Found
+triedWith partner size counts format time = cond (isPartner partner size time) (pairedWith (partner .counts) size counts format) (Refused Zones)
+
+-- a surface message, which is never coarse, is read singly against the track's position within 120,000, else the site, else not at all; on 9 the position stays
 unfoldable pub surfacePosition : Position → Site → Counts → Format → ℕ → Placed
 surfacePosition p site counts format time =
-    cond (isFresh p time) (readNear (p .spot) p counts Surface format time)
-    (cond (site .known) (readNear (site .spot) p counts Surface format time)
+    cond (isFresh p time) (readNear (p .spot) p Fine counts Surface format time)
+    (cond (site .known) (readNear (site .spot) p Fine counts Surface format time)
     (placed.At p))

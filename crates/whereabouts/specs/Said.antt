@@ -3,12 +3,13 @@ use mathlib.Core.Path.{_≡_}
 use mathlib.Core.Bool.{Bool, true}
 use Rattle.refusals.specs.Numbers.{numberOf}
 use Rattle.refusals.specs.Said.{Said, number, gives}
-use Rattle.positions.specs.declared.Counts.{Counts}
 use Rattle.positions.specs.declared.Spot.{Spot}
-use Rattle.positions.specs.Positions.{fit, poleToPole}
+use Rattle.positions.specs.Positions.{countSize, fit, poleToPole}
+use Rattle.whereabouts.specs.declared.Saved.{Saved}
 use Rattle.whereabouts.specs.declared.Position.{Position}
 use Rattle.whereabouts.specs.declared.Placed.{Placed}
 use Rattle.whereabouts.specs.declared.Placed.the-variants as placed
+use Rattle.whereabouts.specs.Located.{sizeOf}
 
 abbrev pub placedSaid : Placed → Said Position
 placedSaid (placed.At p) = gives p
@@ -24,9 +25,9 @@ abbrev pub NoNumber : Said Position → Type 0
 NoNumber (gives p) = Unit
 NoNumber (number n) = ⊥
 
--- what is marked as known is in its range: both counts of an encoded position, the latitude of a spot
-abbrev pub CountsFit : Bool → Counts → Type 0
-CountsFit known c = known ≡ true → fit 131072 c ≡ true
+-- what is marked as known is in its range: both counts of an encoded position, by their size; the latitude of a spot
+abbrev pub SavedFits : Saved → Type 0
+SavedFits s = s .known ≡ true → fit (countSize (sizeOf (s .coarse))) (s .counts) ≡ true
 
 abbrev pub LatitudeFits : Bool → Spot → Type 0
 LatitudeFits known s = known ≡ true → poleToPole (s .latitude) ≡ true

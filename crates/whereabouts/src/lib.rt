@@ -8,11 +8,12 @@ use positions::Turn;
 use refusals::Refusal;
 ghost use mathlib.Core.Path.{_≡_};
 ghost use Rattle.positions.specs.Positions.{poleToPole};
-ghost use Rattle.whereabouts.specs.Located.{noPosition, noSite, isWithin, isFresh, foundAt, passedOn, settled, readNear, readSingly, afterPair, pairedWith, airbornePosition, surfacePosition};
+ghost use Rattle.whereabouts.specs.Located.{noPosition, noSite, isWithin, isFresh, foundAt, passedOn, settled, readNear, readSingly, afterPair, pairedWith, sameSize, isPartner, triedWith, airbornePosition, surfacePosition};
 
-// An encoded position, airborne, with its time.
+// An encoded position, airborne, with its time; whether its counts are coarse.
 pub struct Saved {
     pub known: bool,
+    pub coarse: bool,
     pub counts: Counts,
     pub time: u64,
 }
@@ -117,65 +118,97 @@ fn settle(found: Found, p: Position, time: u64) -> Placed
 fn read_near(
     reference: Spot,
     p: Position,
+    size: Size,
     counts: Counts,
     turn: Turn,
     format: Format,
     time: u64,
 ) -> Placed
-    ensures { λ r. ⌜ r ≡ readNear reference p counts turn format time ⌝ }
+    ensures { λ r. ⌜ r ≡ readNear reference p size counts turn format time ⌝ }
 {
     settle(
-        positions::single(Size::Fine, reference, counts, turn, format),
+        positions::single(size, reference, counts, turn, format),
         p,
         time,
     )
 }
 
 // An airborne message without its partner.
-fn read_singly(p: Position, counts: Counts, format: Format, time: u64) -> Placed
-    ensures { λ r. ⌜ r ≡ readSingly p counts format time ⌝ }
+fn read_singly(p: Position, size: Size, counts: Counts, format: Format, time: u64) -> Placed
+    ensures { λ r. ⌜ r ≡ readSingly p size counts format time ⌝ }
 {
     if is_fresh(p, time) {
         let spot = p.spot;
-        read_near(spot, p, counts, Turn::Airborne, format, time)
+        read_near(spot, p, size, counts, Turn::Airborne, format, time)
     } else {
         Placed::At(p)
     }
 }
 
-fn paired_with(partner: Counts, counts: Counts, format: Format) -> Found
-    ensures { λ r. ⌜ r ≡ pairedWith partner counts format ⌝ }
+fn paired_with(partner: Counts, size: Size, counts: Counts, format: Format) -> Found
+    ensures { λ r. ⌜ r ≡ pairedWith partner size counts format ⌝ }
 {
     match format {
-        Format::Even => positions::pair(Size::Fine, counts, partner, Format::Even),
-        Format::Odd => positions::pair(Size::Fine, partner, counts, Format::Odd),
+        Format::Even => positions::pair(size, counts, partner, Format::Even),
+        Format::Odd => positions::pair(size, partner, counts, Format::Odd),
     }
 }
 
-fn after_pair(found: Found, p: Position, counts: Counts, format: Format, time: u64) -> Placed
-    ensures { λ r. ⌜ r ≡ afterPair found p counts format time ⌝ }
+fn after_pair(
+    found: Found,
+    p: Position,
+    size: Size,
+    counts: Counts,
+    format: Format,
+    time: u64,
+) -> Placed
+    ensures { λ r. ⌜ r ≡ afterPair found p size counts format time ⌝ }
 {
     match found {
         Found::At(spot) => Placed::At(found_at(spot, time)),
-        Found::Refused(r) => pass_on(r, read_singly(p, counts, format, time)),
+        Found::Refused(r) => pass_on(r, read_singly(p, size, counts, format, time)),
     }
+}
+
+// Counts of one size are never paired with counts of the other.
+fn same_size(coarse: bool, size: Size) -> bool
+    ensures { λ r. ⌜ r ≡ sameSize coarse size ⌝ }
+{
+    match size {
+        Size::Fine => !coarse,
+        Size::Coarse => coarse,
+    }
+}
+
+fn is_partner(saved: Saved, size: Size, time: u64) -> bool
+    ensures { λ r. ⌜ r ≡ isPartner saved size time ⌝ }
+{
+    saved.known & same_size(saved.coarse, size) & is_within(10000, time, saved.time)
+}
+
+// Without a partner 10, so that one place of the code reads singly.
+fn tried_with(partner: Saved, size: Size, counts: Counts, format: Format, time: u64) -> Found
+    ensures { λ r. ⌜ r ≡ triedWith partner size counts format time ⌝ }
+{
+    if is_partner(partner, size, time) {
+        let other = partner.counts;
+        return paired_with(other, size, counts, format);
+    }
+    Found::Refused(Refusal::Zones)
 }
 
 pub fn airborne_position(
     p: Position,
     partner: Saved,
+    size: Size,
     counts: Counts,
     format: Format,
     time: u64,
 ) -> Placed
-    ensures { λ r. ⌜ r ≡ airbornePosition p partner counts format time ⌝ }
+    ensures { λ r. ⌜ r ≡ airbornePosition p partner size counts format time ⌝ }
 {
-    if partner.known & is_within(10000, time, partner.time) {
-        let other = partner.counts;
-        after_pair(paired_with(other, counts, format), p, counts, format, time)
-    } else {
-        read_singly(p, counts, format, time)
-    }
+    let found = tried_with(partner, size, counts, format, time);
+    after_pair(found, p, size, counts, format, time)
 }
 
 pub fn surface_position(
@@ -189,11 +222,11 @@ pub fn surface_position(
 {
     if is_fresh(p, time) {
         let spot = p.spot;
-        return read_near(spot, p, counts, Turn::Surface, format, time);
+        return read_near(spot, p, Size::Fine, counts, Turn::Surface, format, time);
     }
     if site.known {
         let spot = site.spot;
-        return read_near(spot, p, counts, Turn::Surface, format, time);
+        return read_near(spot, p, Size::Fine, counts, Turn::Surface, format, time);
     }
     Placed::At(p)
 }

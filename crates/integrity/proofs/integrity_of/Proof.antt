@@ -1,6 +1,7 @@
 -- `integrity::integrity_of` meets its contract: a code wider than its bits is refused, and the rest goes by the version.
 -- Assumes nothing.
 use Prim.Native.Nat.{_^_}
+use mathlib.Core.Path.{sym, _∙_}
 use lib.Dec.{leb}
 use borrow.Author.Tests.{leb-false}
 use Rattle.fields.proofs.Bools.{neither}
@@ -13,6 +14,13 @@ returns : tie.Need-returns
 unfolding integrityOf
 returns c = rw (c .if1 .taken)
 
+is-coarse-requires : tie.Need-is-coarse-requires
+is-coarse-requires c κs = search needs
+
+returns-2 : tie.Need-returns-2
+unfolding integrityOf
+returns-2 c = rw (c .before .before .if1 .left, sym (c .before .is-coarse .ensures) ∙ c .if2 .taken)
+
 version-in-requires : tie.Need-version-in-requires
 version-in-requires c κs = search needs
 
@@ -21,14 +29,18 @@ bits-in-requires c κs = search needs
 
 integrity-by-requires : tie.Need-integrity-by-requires
 integrity-by-requires c κs =
-    let a = c .before .before .before .args in
-    leb-false 32 (a .typecode) (neither (leb 32 (a .typecode)) (leb (2 ^ 56) (a .status)) (c .before .before .if1 .left) .0)
+    let t = c .before .before .before .before in
+    let a = t .before .args in
+    leb-false 32 (a .typecode) (neither (leb 32 (a .typecode)) (leb (2 ^ 56) (a .status)) (t .if1 .left) .0)
 
-returns-2 : tie.Need-returns-2
+returns-3 : tie.Need-returns-3
 unfolding integrityOf
-returns-2 c = rw (c .before .before .before .if1 .left) (rw (c .before .before .version-in .ensures, c .before .bits-in .ensures) at (c .integrity-by .ensures))
+returns-3 c =
+    let t = c .before .before .before in
+    rw (t .before .before .if1 .left, sym (t .before .is-coarse .ensures) ∙ t .if2 .left)
+    (rw (c .before .before .version-in .ensures, c .before .bits-in .ensures) at (c .integrity-by .ensures))
 
 pub integrity-of-spec : {M : Type 1} → statement M
 integrity-of-spec =
     tie.close
-    (tie.spec returns version-in-requires bits-in-requires integrity-by-requires returns-2)
+    (tie.spec returns is-coarse-requires returns-2 version-in-requires bits-in-requires integrity-by-requires returns-3)

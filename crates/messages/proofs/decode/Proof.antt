@@ -1,6 +1,8 @@
--- `messages::decode` meets its contract: what `frame_in` refuses is refused, and a frame says what `body_of` reads.
+-- `messages::decode` meets its contract: what `frame_in` refuses is refused, and a frame says what `body_by` reads.
 -- Assumes nothing.
+use mathlib.Core.Bool.{Bool}
 use mathlib.Core.Path.{sym, ap, _∙_}
+use Rattle.layouts.specs.Bodies.{takenBy}
 use Rattle.messages.specs.Message.{withBody}
 use Rattle.messages.specs.Accepted.{decodedBy}
 use Rattle.messages.proofs.Acceptance.{frame-says}
@@ -14,8 +16,11 @@ frame-in-requires c κs = search needs
 enum-known-opened : tie.Need-enum-known-opened
 enum-known-opened c = search needs
 
-body-of-requires : tie.Need-body-of-requires
-body-of-requires c κs = search needs
+frame-coarse-requires : tie.Need-frame-coarse-requires
+frame-coarse-requires c κs = search needs
+
+body-by-requires : tie.Need-body-by-requires
+body-by-requires c κs = search needs
 
 with-body-requires : tie.Need-with-body-requires
 with-body-requires c κs = search needs
@@ -25,11 +30,13 @@ enum-known-opened-2 c = search needs
 
 returns : tie.Need-returns
 returns c =
-    let p = c .before .before .before in
+    let p = c .before .before .before .before in
     let q = p .before .before in
     let f = p .opened .given .0 .0 in
-    c .with-body .ensures ∙ ap (withBody (f .format) (f .control) (f .address)) (c .before .body-of .ensures)
-    ∙ ap decodedBy (sym (p .opened .given .1) ∙ q .frame-in .ensures) ∙ sym (frame-says (q .before .before .args .s .now))
+    c .with-body .ensures
+    ∙ ap (withBody (f .format) (f .control) (f .address)) (c .before .body-by .ensures ∙ ap (λ (k : Bool). takenBy k (f .me)) (c .before .before .frame-coarse .ensures))
+    ∙ ap decodedBy (sym (p .opened .given .1) ∙ q .frame-in .ensures)
+    ∙ sym (frame-says (q .before .before .args .s .now))
 
 returns-2 : tie.Need-returns-2
 returns-2 c =
@@ -39,4 +46,4 @@ returns-2 c =
 pub decode-spec : {M : Type 1} → statement M
 decode-spec =
     tie.close
-    (tie.spec frame-in-requires enum-known-opened body-of-requires with-body-requires enum-known-opened-2 returns returns-2)
+    (tie.spec frame-in-requires enum-known-opened frame-coarse-requires body-by-requires with-body-requires enum-known-opened-2 returns returns-2)

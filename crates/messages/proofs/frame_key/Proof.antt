@@ -1,28 +1,52 @@
--- `messages::frame_key` meets its contract: the flag that is not asked for decides nothing.
+-- `messages::frame_key` meets its contract: of another DF than 18 the kind is I, whatever the flag.
 -- Assumes nothing.
 use Prim.Native.Nat.{ℕ}
-use mathlib.Core.Path.{ap, _∙_}
-use Rattle.keys.specs.Keys.{keyFor}
-use Rattle.keys.specs.declared.Kind.{Kind}
-use Rattle.layouts.specs.Bodies.{flagIn}
-use Rattle.messages.specs.Message.{keyBy}
-use Rattle.messages.proofs.Flags.{kind-asked}
+use mathlib.Core.Bool.{Bool}
+use mathlib.Core.Path.{ap, ap₂, _∙_}
+use Rattle.layouts.specs.Bodies.{flagIn, stationIn}
+use Rattle.messages.specs.Message.{kindOf, keyBy}
 use borrow.Author.Needs.{needs}
+use borrow.Author.Tests.{ne-eqb}
 use Rattle.messages.proofs.frame_key.Statement.{statement}
 use Rattle.messages.proofs.frame_key.Tie as tie
 
-frame-flag-requires : tie.Need-frame-flag-requires
-frame-flag-requires c κs = search needs
+key-for-requires : tie.Need-key-for-requires
+key-for-requires c κs = search needs
+
+returns : tie.Need-returns
+unfolding kindOf
+returns c = rw (ne-eqb _ 18 (c .before .if1 .taken)) (c .key-for .ensures)
+
+frame-coarse-requires : tie.Need-frame-coarse-requires
+frame-coarse-requires c κs = search needs
+
+flag-in-requires : tie.Need-flag-in-requires
+flag-in-requires c κs = search needs
+
+station-in-requires : tie.Need-station-in-requires
+station-in-requires c κs = search needs
 
 key-by-requires : tie.Need-key-by-requires
 key-by-requires c κs = search needs
 
-returns : tie.Need-returns
-returns c =
-    let f = c .before .before .args .f in
+returns-2 : tie.Need-returns-2
+returns-2 c =
+    let p = c .before .before .before in
+    let f = p .before .before .before .args .f in
+    let k = p .frame-coarse .ensures in
     c .key-by .ensures
-    ∙ ap (λ (k : ℕ). keyBy (f .format) (f .control) k (f .address)) (c .before .frame-flag .ensures)
-    ∙ ap (λ (k : Kind). keyFor k (f .address)) (kind-asked (f .format) (f .control) (flagIn (f .me)))
+    ∙ ap₂ (λ (g s : ℕ). keyBy (f .format) (f .control) g s (f .address))
+    (c .before .before .flag-in .ensures ∙ ap (λ (b : Bool). flagIn b (f .me)) k)
+    (c .before .station-in .ensures ∙ ap (λ (b : Bool). stationIn b (f .me)) k)
 
 pub frame-key-spec : {M : Type 1} → statement M
-frame-key-spec = tie.close (tie.spec frame-flag-requires key-by-requires returns)
+frame-key-spec =
+    tie.close
+    (tie.spec
+    key-for-requires
+    returns
+    frame-coarse-requires
+    flag-in-requires
+    station-in-requires
+    key-by-requires
+    returns-2)

@@ -1,8 +1,8 @@
--- `messages::head_taken` meets its contract: DF and CF are taken, and neither TYPE nor the flag of its body is reserved.
+-- `messages::head_taken` meets its contract: DF and CF are taken, neither TYPE nor the flag of its body is reserved, and both are coarse or neither.
 -- Assumes nothing.
 use mathlib.Core.Bool.{Bool, not, _&&_}
 use mathlib.Core.Path.{ap₂, _∙_}
-use Rattle.messages.specs.Message.{isReserved}
+use Rattle.messages.specs.Message.{isReserved, agree}
 use borrow.Author.Needs.{needs}
 use Rattle.messages.proofs.head_taken.Statement.{statement}
 use Rattle.messages.proofs.head_taken.Tie as tie
@@ -16,14 +16,36 @@ flag-of-requires c κs = search needs
 is-reserved-requires : tie.Need-is-reserved-requires
 is-reserved-requires c κs = search needs
 
+coarse-by-requires : tie.Need-coarse-by-requires
+coarse-by-requires c κs = search needs
+
+is-coarse-requires : tie.Need-is-coarse-requires
+is-coarse-requires c κs = search needs
+
+agree-requires : tie.Need-agree-requires
+agree-requires c κs = search needs
+
 format-taken-requires : tie.Need-format-taken-requires
 format-taken-requires c κs = search needs
 
 returns : tie.Need-returns
 returns c =
-    let m = c .before .before .before .before .args .m in
-    ap₂ (λ (t r : Bool). t && not r) (c .format-taken .ensures)
-    (c .before .is-reserved .ensures ∙ ap₂ (isReserved (m .format) (m .control)) (c .before .before .before .type-of .ensures) (c .before .before .flag-of .ensures))
+    let g = c .before in
+    let r = g .before .before .before in
+    let m = r .before .before .before .args .m in
+    ap₂ (λ (t a : Bool). t && a)
+    (ap₂ (λ (t r : Bool). t && not r) (c .format-taken .ensures) (r .is-reserved .ensures ∙ ap₂ (isReserved (m .format) (m .control)) (r .before .before .type-of .ensures) (r .before .flag-of .ensures)))
+    (g .agree .ensures ∙ ap₂ agree (g .before .before .coarse-by .ensures) (g .before .is-coarse .ensures))
 
 pub head-taken-spec : {M : Type 1} → statement M
-head-taken-spec = tie.close (tie.spec type-of-requires flag-of-requires is-reserved-requires format-taken-requires returns)
+head-taken-spec =
+    tie.close
+    (tie.spec
+    type-of-requires
+    flag-of-requires
+    is-reserved-requires
+    coarse-by-requires
+    is-coarse-requires
+    agree-requires
+    format-taken-requires
+    returns)

@@ -1,4 +1,4 @@
--- `messages::headed_as` meets its contract: its tests are those of `format_taken` and `decoder_reserves`.
+-- `messages::headed_as` meets its contract: its tests are those of `format_taken` and `frame_reserved`.
 -- Assumes nothing.
 use Rattle.messages.specs.Accepted.{headed}
 use borrow.Author.Needs.{needs}
@@ -12,17 +12,17 @@ returns : tie.Need-returns
 unfolding headed
 returns c = rw (← c .before .format-taken .ensures, c .if1 .taken)
 
-decoder-reserves-requires : tie.Need-decoder-reserves-requires
-decoder-reserves-requires c κs = search needs
+frame-reserved-requires : tie.Need-frame-reserved-requires
+frame-reserved-requires c κs = search needs
 
 returns-2 : tie.Need-returns-2
 unfolding headed
-returns-2 c = rw (← c .before .before .before .format-taken .ensures, c .before .before .if1 .left, ← c .before .decoder-reserves .ensures, c .if2 .taken)
+returns-2 c = rw (← c .before .before .before .format-taken .ensures, c .before .before .if1 .left, ← c .before .frame-reserved .ensures, c .if2 .taken)
 
 returns-3 : tie.Need-returns-3
 unfolding headed
-returns-3 c = rw (← c .before .before .before .format-taken .ensures, c .before .before .if1 .left, ← c .before .decoder-reserves .ensures, c .if2 .left)
+returns-3 c = rw (← c .before .before .before .format-taken .ensures, c .before .before .if1 .left, ← c .before .frame-reserved .ensures, c .if2 .left)
 
 pub headed-as-spec : {M : Type 1} → statement M
 headed-as-spec =
-    tie.close (tie.spec format-taken-requires returns decoder-reserves-requires returns-2 returns-3)
+    tie.close (tie.spec format-taken-requires returns frame-reserved-requires returns-2 returns-3)

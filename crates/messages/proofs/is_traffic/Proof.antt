@@ -10,7 +10,7 @@ traffic-by-requires : tie.Need-traffic-by-requires
 traffic-by-requires c κs = search needs
 
 returns : tie.Need-returns
-returns c = let m = c .before .args .m in c .traffic-by .ensures ∙ sym (traffic-is (m .format) (m .control) _)
+returns c = let m = c .before .args .m in c .traffic-by .ensures ∙ sym (traffic-is (m .format) (m .control) _ _)
 
 pub is-traffic-spec : {M : Type 1} → statement M
 is-traffic-spec = tie.close (tie.spec traffic-by-requires returns)

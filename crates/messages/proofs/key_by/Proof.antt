@@ -1,4 +1,4 @@
--- `messages::key_by` meets its contract: the key of the kind that DF, CF and the flag say.
+-- `messages::key_by` meets its contract: the key of the kind that DF, CF, the flag and the station say.
 -- Assumes nothing.
 use mathlib.Core.Path.{ap, _∙_}
 use Rattle.keys.specs.Keys.{keyFor}

@@ -1,7 +1,7 @@
--- `messages::key_of` meets its contract: by the flag of its body.
+-- `messages::key_of` meets its contract: by the flag and the station of its body.
 -- Assumes nothing.
 use Prim.Native.Nat.{ℕ}
-use mathlib.Core.Path.{ap, _∙_}
+use mathlib.Core.Path.{ap₂, _∙_}
 use Rattle.messages.specs.Message.{keyBy}
 use borrow.Author.Needs.{needs}
 use Rattle.messages.proofs.key_of.Statement.{statement}
@@ -10,13 +10,16 @@ use Rattle.messages.proofs.key_of.Tie as tie
 flag-of-requires : tie.Need-flag-of-requires
 flag-of-requires c κs = search needs
 
+station-of-requires : tie.Need-station-of-requires
+station-of-requires c κs = search needs
+
 key-by-requires : tie.Need-key-by-requires
 key-by-requires c κs = search needs
 
 returns : tie.Need-returns
 returns c =
-    let m = c .before .before .args .m in
-    c .key-by .ensures ∙ ap (λ (k : ℕ). keyBy (m .format) (m .control) k (m .address)) (c .before .flag-of .ensures)
+    let m = c .before .before .before .args .m in
+    c .key-by .ensures ∙ ap₂ (λ (g s : ℕ). keyBy (m .format) (m .control) g s (m .address)) (c .before .before .flag-of .ensures) (c .before .station-of .ensures)
 
 pub key-of-spec : {M : Type 1} → statement M
-key-of-spec = tie.close (tie.spec flag-of-requires key-by-requires returns)
+key-of-spec = tie.close (tie.spec flag-of-requires station-of-requires key-by-requires returns)

@@ -23,6 +23,9 @@ returns c =
     let a = c .before .before .before .before .args in
     c .not-looked .ensures ∙ no-log (a .log .now) (a .kind) (a .address) (a .site) (c .before .before .is-log .ensures) (c .before .if1 .taken)
 
+is-wide-requires : tie.Need-is-wide-requires
+is-wide-requires c κs = search needs
+
 bad-site-requires : tie.Need-bad-site-requires
 bad-site-requires c κs = search needs
 
@@ -31,8 +34,11 @@ not-looked-requires-2 c κs = search needs
 
 returns-2 : tie.Need-returns-2
 returns-2 c =
-    let a = c .before .before .before .before .before .before .args in
-    c .not-looked2 .ensures ∙ no-field (a .log .now) (a .kind) (a .address) (a .site) (c .before .before .before .before .is-log .ensures) (c .before .before .before .if1 .left) (c .before .before .bad-site .ensures) (c .before .if2 .taken)
+    let site = c .before .before in
+    let kind = site .before in
+    let log = kind .before .before in
+    let a = log .before .before .args in
+    c .not-looked2 .ensures ∙ no-field (a .log .now) (a .kind) (a .address) (a .site) (log .is-log .ensures) (kind .before .if1 .left) (kind .is-wide .ensures) (site .bad-site .ensures) (c .before .if2 .taken)
 
 key-for-requires : tie.Need-key-for-requires
 key-for-requires c κs = search needs
@@ -48,8 +54,11 @@ look-requires c κs = search needs
 
 returns-3 : tie.Need-returns-3
 returns-3 c =
-    let a = c .before .before .before .before .before .before .before .before .before .args in
-    all-heard (a .log .now) (a .kind) (a .address) (a .site) (c .before .before .before .before .before .before .before .is-log .ensures) (c .before .before .before .before .before .before .if1 .left) (c .before .before .before .before .before .bad-site .ensures) (c .before .before .before .before .if2 .left)
+    let site = c .before .before .before .before .before in
+    let kind = site .before in
+    let log = kind .before .before in
+    let a = log .before .before .args in
+    all-heard (a .log .now) (a .kind) (a .address) (a .site) (log .is-log .ensures) (kind .before .if1 .left) (kind .is-wide .ensures) (site .bad-site .ensures) (c .before .before .before .before .if2 .left)
     (c .look .ensures
     ∙ ap (λ (o : Own). lookedAs (o .track)) (c .before .hear-all .ensures)
     ∙ ap₂ (λ (z : Site) (k : ℕ). lookedAs (ownAt z k unheard (a .log .now) (length (a .log .now) / 22) .track)) (c .before .before .site-of .ensures) (c .before .before .before .key-for .ensures))
@@ -61,6 +70,7 @@ replay-spec =
     is-log-requires
     not-looked-requires
     returns
+    is-wide-requires
     bad-site-requires
     not-looked-requires-2
     returns-2

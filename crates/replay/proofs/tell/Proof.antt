@@ -29,15 +29,20 @@ returns-2 c =
 start-of-requires : tie.Need-start-of-requires
 start-of-requires c κs = search needs
 
+frame-coarse-requires : tie.Need-frame-coarse-requires
+frame-coarse-requires c κs = search needs
+
 step-me-requires : tie.Need-step-me-requires
 step-me-requires c κs = search needs
 
 returns-3 : tie.Need-returns-3
 returns-3 c =
-    let a = c .before .before .before .before .before .before .before .args in
-    told-step (a .f) (frame-opens (a .f) (c .before .before .before .before .before .before .before .pre)) (a .key) (a .site) (a .own .clock) (a .own .held) (a .own .track) (sym (c .before .before .before .before .before .before .frame-key .ensures) ∙ c .before .before .before .before .before .if1 .left)
-    (ap (λ (x : Bool). a .own .held || x) (sym (c .before .before .before .before .frame-starts .ensures)) ∙ not-false _ (c .before .before .if2 .left))
-    (rw (← c .before .start-of .ensures) (c .step-me .ensures))
+    let p = c .before .before .before .before .before in
+    let start = p .before .before .before in
+    let a = start .args in
+    told-step (a .f) (frame-opens (a .f) (start .pre)) (a .key) (a .site) (a .own .clock) (a .own .held) (a .own .track) (sym (p .before .before .frame-key .ensures) ∙ p .before .if1 .left)
+    (ap (λ (x : Bool). a .own .held || x) (sym (p .frame-starts .ensures)) ∙ not-false _ (c .before .before .before .if2 .left))
+    (rw (← c .before .before .start-of .ensures, ← c .before .frame-coarse .ensures) (c .step-me .ensures))
 
 pub tell-spec : {M : Type 1} → statement M
 tell-spec =
@@ -48,5 +53,6 @@ tell-spec =
     frame-starts-requires
     returns-2
     start-of-requires
+    frame-coarse-requires
     step-me-requires
     returns-3)

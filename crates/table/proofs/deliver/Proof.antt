@@ -2,6 +2,7 @@
 -- Assumes nothing.
 use mathlib.Core.Path.{ap, _∙_}
 use mathlib.Core.Bool.{_||_}
+use Rattle.messages.specs.Accepted.{frameCoarse}
 use Rattle.messages.proofs.Acceptance.{messageOf, Opens, frame-opens}
 use Rattle.messages.proofs.Keys.{frame-key}
 use Rattle.messages.proofs.Starting.{frame-starts}
@@ -47,7 +48,7 @@ returns c =
     let o : Opens (a .f) = frame-opens (a .f) (q .before .before .pre .1) in
     ap heard
     (deliver-on (a .table .now) (a .time) (o .message) (q .frame-key .ensures ∙ frame-key (a .f) o) (p .before .before .before .places-in .ensures .0) (p .before .before .frame-starts .ensures ∙ frame-starts (a .f) o) (p .target-of .ensures) (c .before .before .before .before .before .before .if1 .taken) (c .before .before .before .before .start-of .ensures)
-    (placed-by-me (a .table .now) _ _ _ (a .time) (a .f .me) _ (messageOf (a .f) (o .body)) (o .fits) (o .same) (c .before .before .step-at .ensures)))
+    (placed-by-me (a .table .now) _ _ _ (a .time) (a .f .me) (frameCoarse (a .f)) _ (messageOf (a .f) (o .body)) (o .reads) (o .fits) (o .same) (c .before .before .step-at .ensures)))
 
 same-length-2 : tie.Need-same-length-2
 same-length-2 c = search needs

@@ -1,6 +1,7 @@
--- `table::step_at` meets its contract: a step by ME and a store, with the site that the head has.
+-- `table::step_at` meets its contract: a step by the frame and a store, with the site that the head has.
 -- Assumes nothing.
-use mathlib.Core.Path.{ap, _∙_}
+use mathlib.Core.Path.{ap₂, ap, _∙_}
+use mathlib.Core.Bool.{Bool}
 use Rattle.whereabouts.specs.declared.Site.{Site}
 use Rattle.track.specs.Track.{stepMe}
 use Rattle.table_bytes.specs.Layout.{stored}
@@ -10,6 +11,9 @@ use Rattle.table.proofs.step_at.Tie as tie
 
 site-of-requires : tie.Need-site-of-requires
 site-of-requires c κs = search needs
+
+frame-coarse-requires : tie.Need-frame-coarse-requires
+frame-coarse-requires c κs = search needs
 
 step-me-requires : tie.Need-step-me-requires
 step-me-requires c κs = search needs
@@ -22,16 +26,19 @@ same-length c = search needs
 
 returns : tie.Need-returns
 returns c =
-    let a = c .before .before .before .before .before .before .before .before .args in
+    let step = c .before .before .before in
+    let site = step .before .before .before in
+    let a = site .before .before .before .args in
     c .before .before .store .ensures
     ∙ ap (stored (a .table .now) (a .n) (a .i) (a .key))
-    (c .before .before .before .step-me .ensures ∙ ap (λ (x : Site). stepMe (a .t) (a .me) x (a .time)) (c .before .before .before .before .before .site-of .ensures))
+    (step .step-me .ensures ∙ ap₂ (λ (k : Bool) (x : Site). stepMe (a .t) k (a .f .me) x (a .time)) (step .before .before .frame-coarse .ensures) (site .site-of .ensures))
 
 pub step-at-spec : {M : Type 1} → statement M
 step-at-spec =
     tie.close
     (tie.spec
     site-of-requires
+    frame-coarse-requires
     step-me-requires
     store-requires
     same-length

@@ -1,4 +1,4 @@
--- `text::put_key` meets its contract: three texts, one after the other.
+-- `text::put_key` meets its contract: four texts, one after the other.
 -- Assumes nothing.
 use native.Mathlib.Omega.{arith}
 use mathlib.Core.Path.{ap}
@@ -26,17 +26,20 @@ address-in-requires c κs = search needs
 put-hex-requires : tie.Need-put-hex-requires
 put-hex-requires c κs = search needs
 
+put-sender-requires : tie.Need-put-sender-requires
+put-sender-requires c κs = search needs
+
 same-length : tie.Need-same-length
 same-length c = search needs
 
 returns : tie.Need-returns
 unfolding keyText
 returns c =
-    let begun = c .before .before .before .before .before .before .before .before .before .before .before in
+    let begun = c .before .before .before .before .before .before .before .before .before .before .before .before .before .before .before in
     let k = wrote-as (begun .put-byte .ensures) (ap (λ (x : ℕ). x ∷ []) (begun .before .letter-in .ensures)) in
-    let s = c .before .before .before .before .before .before .before .put-byte2 .ensures in
-    let a = wrote-as (c .before .before .put-hex .ensures .0) (ap (hex 6) (c .before .before .before .address-in .ensures)) in
-    (wrote-then (wrote-then k s) a, omega (arith, k .next, s .next))
+    let s = c .before .before .before .before .before .before .before .before .before .before .before .put-byte2 .ensures in
+    let a = wrote-as (c .before .before .before .before .before .before .put-hex .ensures .0) (ap (hex 6) (c .before .before .before .before .before .before .before .address-in .ensures)) in
+    (wrote-then (wrote-then (wrote-then k s) a) (c .before .before .put-sender .ensures .0), omega (arith, k .next, s .next))
 
 pub put-key-spec : {M : Type 1} → statement M
 put-key-spec =
@@ -47,5 +50,6 @@ put-key-spec =
     put-byte-requires-2
     address-in-requires
     put-hex-requires
+    put-sender-requires
     same-length
     returns)

@@ -27,7 +27,7 @@ returns : tie.Need-returns
 returns c =
     let a = c .before .before .before .before .args in
     ap placed.At (c .found-at .ensures)
-    ∙ sym (ap (λ (x : Found). afterPair x (a .p) (a .counts) (a .format) (a .time)) (c .before .before .found .given .1))
+    ∙ sym (ap (λ (x : Found). afterPair x (a .p) (a .size) (a .counts) (a .format) (a .time)) (c .before .before .found .given .1))
 
 returns-2 : tie.Need-returns-2
 returns-2 c = rw (c .pass-on .ensures, c .before .read-singly .ensures, c .before .before .before .found2 .given .1)

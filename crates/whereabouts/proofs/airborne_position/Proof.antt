@@ -1,52 +1,39 @@
--- `whereabouts::airborne_position` meets its contract: its test is that of `is_within`, and what is paired is that of `paired_with`.
+-- `whereabouts::airborne_position` meets its contract: after 10 a message is read singly, as one without a partner is.
 -- Assumes nothing.
-use mathlib.Core.Path.{_≡_, sym, ap, _∙_}
-use mathlib.Core.Bool.{Bool, true, false, _&&_}
+use Prim.Native.Nat.{ℕ}
+use mathlib.Core.Path.{_≡_, refl, ap, _∙_}
+use mathlib.Core.Bool.{Bool, true, false, cond}
+use Rattle.refusals.specs.declared.Refusal.the-variants.{Zones}
+use Rattle.positions.specs.declared.Counts.{Counts}
+use Rattle.positions.specs.declared.Format.{Format}
+use Rattle.positions.specs.declared.Size.{Size}
 use Rattle.positions.specs.declared.Found.{Found}
-use Rattle.whereabouts.specs.Located.{isWithin, afterPair, airbornePosition}
+use Rattle.positions.specs.declared.Found.the-variants.{Refused}
+use Rattle.whereabouts.specs.declared.Position.{Position}
+use Rattle.whereabouts.specs.Located.{isPartner, readSingly, afterPair, airbornePosition}
 use borrow.Author.Needs.{needs}
 use Rattle.whereabouts.proofs.airborne_position.Statement.{statement}
 use Rattle.whereabouts.proofs.airborne_position.Tie as tie
 
-is-within-requires : tie.Need-is-within-requires
-is-within-requires c κs = search needs
+-- by whether there is a partner
+by-partner : (p : Position) (size : Size) (counts : Counts) (format : Format) (time : ℕ) (b : Bool) (found : Found)
+    → afterPair (cond b found (Refused Zones)) p size counts format time ≡ cond b (afterPair found p size counts format time) (readSingly p size counts format time)
+by-partner p size counts format time true found = refl
+by-partner p size counts format time false found = refl
 
-paired-with-requires : tie.Need-paired-with-requires
-paired-with-requires c κs = search needs
+tried-with-requires : tie.Need-tried-with-requires
+tried-with-requires c κs = search needs
 
 after-pair-requires : tie.Need-after-pair-requires
 after-pair-requires c κs = search needs
 
-read-singly-requires : tie.Need-read-singly-requires
-read-singly-requires c κs = search needs
-
 returns : tie.Need-returns
 unfolding airbornePosition
 returns c =
-    let p = c .before .before .before .before .before in
-    let a = p .before .args in
-    let t : a .partner .known && isWithin 10000 (a .time) (a .partner .time) ≡ true =
-    ap (λ (x : Bool). a .partner .known && x) (sym (p .is-within .ensures)) ∙ c .before .before .before .if1 .taken in
-    rw t
-    (c .after-pair .ensures
-    ∙ ap (λ (x : Found). afterPair x (a .p) (a .counts) (a .format) (a .time)) (c .before .paired-with .ensures))
-
-returns-2 : tie.Need-returns-2
-unfolding airbornePosition
-returns-2 c =
-    let p = c .before .before .before in
-    let a = p .before .args in
-    let t : a .partner .known && isWithin 10000 (a .time) (a .partner .time) ≡ false =
-    ap (λ (x : Bool). a .partner .known && x) (sym (p .is-within .ensures)) ∙ c .before .if1 .left in
-    rw t (c .read-singly .ensures)
+    let a = c .before .before .args in
+    c .after-pair .ensures
+    ∙ ap (λ (x : Found). afterPair x (a .p) (a .size) (a .counts) (a .format) (a .time)) (c .before .tried-with .ensures)
+    ∙ by-partner (a .p) (a .size) (a .counts) (a .format) (a .time) (isPartner (a .partner) (a .size) (a .time)) _
 
 pub airborne-position-spec : {M : Type 1} → statement M
-airborne-position-spec =
-    tie.close
-    (tie.spec
-    is-within-requires
-    paired-with-requires
-    after-pair-requires
-    read-singly-requires
-    returns
-    returns-2)
+airborne-position-spec = tie.close (tie.spec tried-with-requires after-pair-requires returns)

@@ -22,13 +22,13 @@ returns : tie.Need-returns
 unfolding pairedWith
 returns c =
     let a = c .before .before .before .args in
-    c .pair .ensures ∙ sym (ap (pairedWith (a .partner) (a .counts)) (c .before .enum-told .given .1))
+    c .pair .ensures ∙ sym (ap (pairedWith (a .partner) (a .size) (a .counts)) (c .before .enum-told .given .1))
 
 returns-2 : tie.Need-returns-2
 unfolding pairedWith
 returns-2 c =
     let a = c .before .before .before .args in
-    c .pair2 .ensures ∙ sym (ap (pairedWith (a .partner) (a .counts)) (c .before .enum-told2 .given .1))
+    c .pair2 .ensures ∙ sym (ap (pairedWith (a .partner) (a .size) (a .counts)) (c .before .enum-told2 .given .1))
 
 pub paired-with-spec : {M : Type 1} → statement M
 paired-with-spec =

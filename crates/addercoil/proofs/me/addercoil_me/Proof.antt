@@ -4,9 +4,9 @@ use mathlib.Core.Bool.{Bool, not, _||_}
 use mathlib.Core.Path.{sym, ap, ap₂, _∙_}
 use Rattle.refusals.specs.Said.{number, gives}
 use Rattle.fields.specs.Packing.{wider}
-use Rattle.keys.specs.Keys.{isKey, trafficIn}
+use Rattle.keys.specs.Keys.{isKey, coarseIn, trafficIn}
 use Rattle.layouts.specs.declared.bodies.Layout.{Layout}
-use Rattle.layouts.specs.Bodies.{layoutOf, isTaken}
+use Rattle.layouts.specs.Bodies.{layoutBy, isTaken}
 use Rattle.rows.specs.Rows.{meRow, rowInto}
 use Rattle.addercoil.specs.Me.{meSaid}
 use Rattle.addercoil.proofs.Framed.{row-given, row-in, me-length}
@@ -29,8 +29,11 @@ returns-2 c =
     into-given 28 (a .fields .now) (meSaid (a .me) (a .key)) (p .before .if1 .left)
     (stopped (a .fields .now) (wider 56 (a .me) || not (isKey (a .key))) 8 _ (sym (ap (λ (b : Bool). wider 56 (a .me) || not b) (p .is-key .ensures)) ∙ c .if2 .taken))
 
-layout-of-requires : tie.Need-layout-of-requires
-layout-of-requires c κs = search needs
+coarse-in-requires : tie.Need-coarse-in-requires
+coarse-in-requires c κs = search needs
+
+layout-by-requires : tie.Need-layout-by-requires
+layout-by-requires c κs = search needs
 
 is-layout-requires : tie.Need-is-layout-requires
 is-layout-requires c κs = search needs
@@ -39,14 +42,16 @@ returns-3 : tie.Need-returns-3
 unfolding meSaid
 returns-3 c =
     let x = c .before in
-    let q = x .before .before in
+    let q = x .before .before .before in
     let p = q .before in
     let a = p .before .before .before .args in
     let out = a .fields .now in
+    let l = layoutBy (coarseIn (a .key)) (a .me) in
+    let layout = x .before .layout-by .ensures ∙ ap (λ (b : Bool). layoutBy b (a .me)) (x .before .before .coarse-in .ensures) in
     let key = sym (ap (λ (b : Bool). wider 56 (a .me) || not b) (p .is-key .ensures)) ∙ q .if2 .left in
-    let type = sym (ap not (x .is-layout .ensures ∙ ap isTaken (x .before .layout-of .ensures))) ∙ c .if3 .taken in
+    let type = sym (ap not (x .is-layout .ensures ∙ ap isTaken layout)) ∙ c .if3 .taken in
     into-given 28 out (meSaid (a .me) (a .key)) (p .before .if1 .left)
-    (stopped out (not (isTaken (layoutOf (a .me)))) 5 (gives (meRow (layoutOf (a .me)) (a .me) (trafficIn (a .key)))) type
+    (stopped out (not (isTaken l)) 5 (gives (meRow l (a .me) (trafficIn (a .key)))) type
     ∙ passed out (wider 56 (a .me) || not (isKey (a .key))) (number 8) _ key)
 
 traffic-in-requires : tie.Need-traffic-in-requires
@@ -64,18 +69,20 @@ returns-4 c =
     let m = c .before .before in
     let e = m .before .before .before in
     let x = e .before in
-    let q = x .before .before in
+    let q = x .before .before .before in
     let p = q .before in
     let a = p .before .before .before .args in
     let out = a .fields .now in
     let h = p .before .if1 .left in
-    let row = meRow (layoutOf (a .me)) (a .me) (trafficIn (a .key)) in
+    let l = layoutBy (coarseIn (a .key)) (a .me) in
+    let row = meRow l (a .me) (trafficIn (a .key)) in
+    let layout = x .before .layout-by .ensures ∙ ap (λ (b : Bool). layoutBy b (a .me)) (x .before .before .coarse-in .ensures) in
     let key = sym (ap (λ (b : Bool). wider 56 (a .me) || not b) (p .is-key .ensures)) ∙ q .if2 .left in
-    let type = sym (ap not (x .is-layout .ensures ∙ ap isTaken (x .before .layout-of .ensures))) ∙ e .if3 .left in
+    let type = sym (ap not (x .is-layout .ensures ∙ ap isTaken layout)) ∙ e .if3 .left in
     into-given 28 out (meSaid (a .me) (a .key)) h
-    (row-given out row _ h (me-length (layoutOf (a .me)) (a .me) (trafficIn (a .key)))
-    (row-in out row _ h (m .put-me .ensures .1 ∙ ap₂ (λ (l : Layout) (t : Bool). rowInto out (meRow l (a .me) t)) (x .before .layout-of .ensures) (m .before .traffic-in .ensures)))
-    ∙ passed out (not (isTaken (layoutOf (a .me)))) (number 5) (gives row) type
+    (row-given out row _ h (me-length l (a .me) (trafficIn (a .key)))
+    (row-in out row _ h (m .put-me .ensures .1 ∙ ap₂ (λ (l : Layout) (t : Bool). rowInto out (meRow l (a .me) t)) layout (m .before .traffic-in .ensures)))
+    ∙ passed out (not (isTaken l)) (number 5) (gives row) type
     ∙ passed out (wider 56 (a .me) || not (isKey (a .key))) (number 8) _ key)
 
 pub addercoil-me-spec : {M : Type 1} → statement M
@@ -85,7 +92,8 @@ addercoil-me-spec =
     returns
     is-key-requires
     returns-2
-    layout-of-requires
+    coarse-in-requires
+    layout-by-requires
     is-layout-requires
     returns-3
     traffic-in-requires

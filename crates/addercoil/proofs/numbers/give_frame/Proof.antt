@@ -1,19 +1,23 @@
 -- `addercoil::numbers::give_frame` meets its contract: an ME without a layout is 5, and what stands before ME is set before its row.
 -- Assumes nothing.
 use mathlib.Core.Path.{refl, sym, ap, _∙_}
+use mathlib.Core.Bool.{Bool}
 use native.Mathlib.Omega.{arith}
 use lib.ListN.{length-set}
 use borrow.Author.Tests.{not-true, not-false}
 use Rattle.layouts.specs.declared.bodies.Layout.{Layout}
-use Rattle.layouts.specs.Bodies.{isTaken}
+use Rattle.layouts.specs.Bodies.{layoutBy, isTaken}
 use Rattle.rows.specs.Rows.{meRow}
 use Rattle.addercoil.proofs.Framed.{row-in, frame-refused, frame-given}
 use borrow.Author.Needs.{needs}
 use Rattle.addercoil.proofs.numbers.give_frame.Statement.{statement}
 use Rattle.addercoil.proofs.numbers.give_frame.Tie as tie
 
-layout-of-requires : tie.Need-layout-of-requires
-layout-of-requires c κs = search needs
+frame-coarse-requires : tie.Need-frame-coarse-requires
+frame-coarse-requires c κs = search needs
+
+layout-by-requires : tie.Need-layout-by-requires
+layout-by-requires c κs = search needs
 
 is-layout-requires : tie.Need-is-layout-requires
 is-layout-requires c κs = search needs
@@ -21,8 +25,9 @@ is-layout-requires c κs = search needs
 returns : tie.Need-returns
 returns c =
     let p = c .before in
-    let a = p .before .before .before .args in
-    frame-refused (a .f) (a .out .now) (sym (p .is-layout .ensures ∙ ap isTaken (p .before .layout-of .ensures)) ∙ not-true _ (c .if1 .taken))
+    let a = p .before .before .before .before .args in
+    let l = p .before .layout-by .ensures ∙ ap (λ (b : Bool). layoutBy b (a .f .me)) (p .before .before .frame-coarse .ensures) in
+    frame-refused (a .f) (a .out .now) (sym (p .is-layout .ensures ∙ ap isTaken l) ∙ not-true _ (c .if1 .taken))
 
 traffic-by-requires : tie.Need-traffic-by-requires
 traffic-by-requires c κs = search needs
@@ -65,20 +70,21 @@ returns-2 c =
     let m = c .before .before .before .before .before .before in
     let e = m .before .before .before in
     let x = e .before in
-    let s = x .before .before .before in
+    let s = x .before .before .before .before in
     let f = s .args .f in
     let out = s .args .out .now in
     let t = m .before .traffic-by .result in
-    let l = x .before .layout-of .ensures in
+    let l = x .before .layout-by .ensures ∙ ap (λ (b : Bool). layoutBy b (f .me)) (x .before .before .frame-coarse .ensures) in
     frame-given f out _ _ (c .frame-key .result) t (s .pre) (sym (x .is-layout .ensures ∙ ap isTaken l) ∙ not-false _ (e .if1 .left))
-    (row-in out (meRow (x .before .layout-of .result) (f .me) t) _ (s .pre) (m .put-me .ensures .1) ∙ ap (λ (k : Layout). meRow k (f .me) t) l)
+    (row-in out (meRow (x .before .layout-by .result) (f .me) t) _ (s .pre) (m .put-me .ensures .1) ∙ ap (λ (k : Layout). meRow k (f .me) t) l)
     (c .frame-key .ensures) (m .before .traffic-by .ensures) refl
 
 pub give-frame-spec : {M : Type 1} → statement M
 give-frame-spec =
     tie.close
     (tie.spec
-    layout-of-requires
+    frame-coarse-requires
+    layout-by-requires
     is-layout-requires
     returns
     traffic-by-requires

@@ -1,9 +1,12 @@
--- `addercoil::spots::addercoil_single` meets its contract: an array of a wrong length, a turn or format that is neither 0 nor 1, or what the decoder answers.
+-- `addercoil::spots::addercoil_single` meets its contract: an array of a wrong length, or what `give_single` gives of the counts.
 -- Assumes nothing.
 use mir.Facts.{toZ-ofZ}
+use mathlib.Core.Path.{ap, _∙_}
+use Rattle.positions.specs.declared.Counts.{Counts}
+use Rattle.positions.specs.declared.Size.the-variants.{Fine}
+use Rattle.entries.specs.Sent.{given}
 use Rattle.addercoil.specs.Spots.{singleSaid}
-use Rattle.addercoil.proofs.Placed.{single-said}
-use Rattle.entries.proofs.Ways.{into-wrong, into-given, stopped}
+use Rattle.entries.proofs.Ways.{into-wrong, into-given}
 use borrow.Author.Needs.{needs}
 use Rattle.addercoil.proofs.spots.addercoil_single.Statement.{statement}
 use Rattle.addercoil.proofs.spots.addercoil_single.Tie as tie
@@ -11,39 +14,22 @@ use Rattle.addercoil.proofs.spots.addercoil_single.Tie as tie
 returns : tie.Need-returns
 returns c = into-wrong 2 _ _ (c .if1 .taken)
 
-returns-2 : tie.Need-returns-2
-unfolding singleSaid
-returns-2 c = into-given 2 _ _ (c .before .if1 .left) (stopped _ _ 8 _ (c .if2 .taken))
+counts-of-requires : tie.Need-counts-of-requires
+counts-of-requires c κs = search needs
 
-turn-of-requires : tie.Need-turn-of-requires
-turn-of-requires c κs = search needs
-
-format-of-requires : tie.Need-format-of-requires
-format-of-requires c κs = search needs
-
-single-requires : tie.Need-single-requires
-single-requires c κs = search needs
-
-give-spot-requires : tie.Need-give-spot-requires
-give-spot-requires c κs = search needs
+give-single-requires : tie.Need-give-single-requires
+give-single-requires c κs = search needs
 
 same-length : tie.Need-same-length
 same-length c = search needs
 
-returns-3 : tie.Need-returns-3
-returns-3 c =
-    into-given 2 _ _ (c .before .before .before .before .before .before .before .before .if1 .left)
-    (single-said _ _ _ _ _ (c .before .before .before .before .before .before .before .if2 .left) (c .before .before .before .before .before .before .turn-of .ensures) (c .before .before .before .before .before .format-of .ensures) _ (rw (toZ-ofZ (c .before .before .before .before .before .before .before .before .before .before .fits .latitude)) at (c .before .before .before .before .single .ensures)) (c .before .before .give-spot .ensures))
+returns-2 : tie.Need-returns-2
+returns-2 c =
+    let p = c .before .before .before .before .before in
+    let a = p .before .before .args in
+    into-given 2 (a .out .now) _ (p .if1 .left)
+    (rw (toZ-ofZ (p .before .before .fits .latitude)) at (c .before .before .give-single .ensures) ∙ ap (λ (x : Counts). given (a .out .now) (singleSaid Fine (a .latitude) (a .longitude) x (a .surface) (a .odd))) (c .before .before .before .before .counts-of .ensures))
 
 pub addercoil-single-spec : {M : Type 1} → statement M
 addercoil-single-spec =
-    tie.close
-    (tie.spec
-    returns
-    returns-2
-    turn-of-requires
-    format-of-requires
-    single-requires
-    give-spot-requires
-    same-length
-    returns-3)
+    tie.close (tie.spec returns counts-of-requires give-single-requires same-length returns-2)

@@ -10,7 +10,7 @@ use Rattle.audit.proofs.replays.addercoil_replay.Statement.{statement}
 use Rattle.audit.proofs.replays.addercoil_replay.Tie as tie
 
 returns : tie.Need-returns
-returns c = into-wrong 66 _ _ (c .if1 .taken)
+returns c = into-wrong 72 _ _ (c .if1 .taken)
 
 no-site-requires : tie.Need-no-site-requires
 no-site-requires c κs = search needs
@@ -24,7 +24,7 @@ same-length c = search needs
 returns-2 : tie.Need-returns-2
 returns-2 c =
     let a = c .before .before .before .before .before .before .before .before .args in
-    into-given 66 (a .out .now) _ (c .before .before .before .before .before .if1 .left) (c .before .before .give-replay .ensures ∙ ap (λ (z : Site). given (a .out .now) (replaySaid (a .log .now) (a .kind) (a .address) z)) (c .before .before .before .no-site .ensures))
+    into-given 72 (a .out .now) _ (c .before .before .before .before .before .if1 .left) (c .before .before .give-replay .ensures ∙ ap (λ (z : Site). given (a .out .now) (replaySaid (a .log .now) (a .kind) (a .address) z)) (c .before .before .before .no-site .ensures))
 
 pub addercoil-replay-spec : {M : Type 1} → statement M
 addercoil-replay-spec =

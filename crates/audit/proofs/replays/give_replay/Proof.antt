@@ -1,9 +1,11 @@
--- `audit::replays::give_replay` meets its contract: 14, then 8 for the kind, or the row of what the plain method answers.
+-- `audit::replays::give_replay` meets its contract: 14, then 8 for a kind that is none, or what is worked out.
 -- Assumes nothing.
-use mathlib.Core.Path.{ap, _∙_}
-use Rattle.keys.specs.Keys.{keyFor}
+use mathlib.Core.Path.{sym, ap, _∙_}
+use mathlib.Core.Bool.{not}
 use Rattle.keys.specs.declared.Kind.{Kind}
-use Rattle.replay.specs.Replay.{replayed}
+use Rattle.keys.specs.Keys.{kindAt, isKind}
+use Rattle.entries.specs.Sent.{given}
+use Rattle.audit.specs.Replays.{workedOut}
 use Rattle.audit.proofs.Replaying.{no-log, no-kind, worked-out}
 use borrow.Author.Needs.{needs}
 use Rattle.audit.proofs.replays.give_replay.Statement.{statement}
@@ -15,7 +17,7 @@ is-log-requires c κs = search needs
 returns : tie.Need-returns
 returns c =
     let a = c .before .before .before .before .args in
-    no-log (a .out .now) (a .log .now) (a .kind) (a .address) (a .site) (c .before .is-log .ensures) (c .if1 .taken)
+    no-log (a .out .now) (a .log .now) (not (isKind (a .kind))) (kindAt (a .kind)) (a .address) (a .site) (c .before .is-log .ensures) (c .if1 .taken)
 
 is-kind-requires : tie.Need-is-kind-requires
 is-kind-requires c κs = search needs
@@ -23,30 +25,25 @@ is-kind-requires c κs = search needs
 returns-2 : tie.Need-returns-2
 returns-2 c =
     let a = c .before .before .before .before .before .before .args in
-    no-kind (a .out .now) (a .log .now) (a .kind) (a .address) (a .site) (c .before .before .before .is-log .ensures) (c .before .before .if1 .left) (c .before .is-kind .ensures) (c .if2 .taken)
+    no-kind (a .out .now) (a .log .now) (not (isKind (a .kind))) (kindAt (a .kind)) (a .address) (a .site) (c .before .before .before .is-log .ensures) (c .before .before .if1 .left)
+    (sym (ap not (c .before .is-kind .ensures)) ∙ c .if2 .taken)
 
 kind-at-requires : tie.Need-kind-at-requires
 kind-at-requires c κs = search needs
 
-replay-requires : tie.Need-replay-requires
-replay-requires c κs = search needs
-
-key-for-requires : tie.Need-key-for-requires
-key-for-requires c κs = search needs
-
-give-held-requires : tie.Need-give-held-requires
-give-held-requires c κs = search needs
+give-of-requires : tie.Need-give-of-requires
+give-of-requires c κs = search needs
 
 same-length : tie.Need-same-length
 same-length c = search needs
 
 returns-3 : tie.Need-returns-3
 returns-3 c =
-    let a = c .before .before .before .before .before .before .before .before .before .before .before .before .before .before .args in
-    worked-out (a .out .now) (a .log .now) (a .kind) (a .address) (a .site) (c .before .before .before .before .before .before .before .before .before .before .before .is-log .ensures) (c .before .before .before .before .before .before .before .before .before .before .if1 .left) (c .before .before .before .before .before .before .before .before .before .is-kind .ensures) (c .before .before .before .before .before .before .before .before .if2 .left)
-    (c .before .before .before .key-for .ensures ∙ ap (λ (k : Kind). keyFor k (a .address)) (c .before .before .before .before .before .before .before .kind-at .ensures))
-    (c .before .before .before .before .before .before .replay .ensures ∙ ap (λ (k : Kind). replayed (a .log .now) k (a .address) (a .site)) (c .before .before .before .before .before .before .before .kind-at .ensures))
-    (c .before .before .give-held .ensures)
+    let t = c .before .before .before .before .before in
+    let a = t .before .before .before .before .before .before .args in
+    worked-out (a .out .now) (a .log .now) (not (isKind (a .kind))) (kindAt (a .kind)) (a .address) (a .site) (t .before .before .before .is-log .ensures) (t .before .before .if1 .left)
+    (sym (ap not (t .before .is-kind .ensures)) ∙ t .if2 .left)
+    (c .before .before .give-of .ensures ∙ ap (λ (k : Kind). given (a .out .now) (workedOut (a .log .now) k (a .address) (a .site))) (c .before .before .before .kind-at .ensures))
 
 pub give-replay-spec : {M : Type 1} → statement M
 give-replay-spec =
@@ -57,8 +54,6 @@ give-replay-spec =
     is-kind-requires
     returns-2
     kind-at-requires
-    replay-requires
-    key-for-requires
-    give-held-requires
+    give-of-requires
     same-length
     returns-3)

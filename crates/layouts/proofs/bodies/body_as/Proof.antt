@@ -54,6 +54,12 @@ status-of-requires c κs = search needs
 enum-told-7 : tie.Need-enum-told-7
 enum-told-7 c = search needs
 
+coarse-of-requires : tie.Need-coarse-of-requires
+coarse-of-requires c κs = search needs
+
+enum-told-8 : tie.Need-enum-told-8
+enum-told-8 c = search needs
+
 returns : tie.Need-returns
 returns c =
     arm (c .before .before .before .args .me) (c .before .enum-told .given .1) (ap (λ b. read.Body (body.Identification b)) (c .identification-of .ensures))
@@ -79,7 +85,11 @@ returns-6 c =
     arm (c .before .before .before .args .me) (c .before .enum-told6 .given .1) (ap (λ b. read.Body (body.Status b)) (c .status-of .ensures))
 
 returns-7 : tie.Need-returns-7
-returns-7 c = arm (c .before .before .args .me) (c .enum-told7 .given .1) refl
+returns-7 c =
+    arm (c .before .before .before .args .me) (c .before .enum-told7 .given .1) (ap (λ b. read.Body (body.Coarse b)) (c .coarse-of .ensures))
+
+returns-8 : tie.Need-returns-8
+returns-8 c = arm (c .before .before .args .me) (c .enum-told8 .given .1) refl
 
 pub body-as-spec : {M : Type 1} → statement M
 body-as-spec =
@@ -98,10 +108,13 @@ body-as-spec =
     enum-told-6
     status-of-requires
     enum-told-7
+    coarse-of-requires
+    enum-told-8
     returns
     returns-2
     returns-3
     returns-4
     returns-5
     returns-6
-    returns-7)
+    returns-7
+    returns-8)

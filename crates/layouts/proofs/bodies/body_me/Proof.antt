@@ -46,6 +46,12 @@ enum-known-b-6 c = search needs
 status-me-requires : tie.Need-status-me-requires
 status-me-requires c κs = search needs
 
+enum-known-b-7 : tie.Need-enum-known-b-7
+enum-known-b-7 c = search needs
+
+coarse-me-requires : tie.Need-coarse-me-requires
+coarse-me-requires c κs = search needs
+
 returns : tie.Need-returns
 returns c = c .identification-me .ensures ∙ sym (ap bodyMe (c .before .before .b .given .1))
 
@@ -64,6 +70,9 @@ returns-5 c = c .air-me .ensures ∙ sym (ap bodyMe (c .before .before .b5 .give
 returns-6 : tie.Need-returns-6
 returns-6 c = c .status-me .ensures ∙ sym (ap bodyMe (c .before .before .b6 .given .1))
 
+returns-7 : tie.Need-returns-7
+returns-7 c = c .coarse-me .ensures ∙ sym (ap bodyMe (c .before .before .b7 .given .1))
+
 pub body-me-spec : {M : Type 1} → statement M
 body-me-spec =
     tie.close
@@ -80,9 +89,12 @@ body-me-spec =
     air-me-requires
     enum-known-b-6
     status-me-requires
+    enum-known-b-7
+    coarse-me-requires
     returns
     returns-2
     returns-3
     returns-4
     returns-5
-    returns-6)
+    returns-6
+    returns-7)

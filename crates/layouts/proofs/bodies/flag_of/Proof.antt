@@ -24,6 +24,9 @@ enum-known-b-4 c = search needs
 enum-told-2 : tie.Need-enum-told-2
 enum-told-2 c = search needs
 
+enum-known-b-5 : tie.Need-enum-known-b-5
+enum-known-b-5 c = search needs
+
 returns : tie.Need-returns
 returns c = search needs
 
@@ -42,6 +45,9 @@ returns-5 c = sym (ap flagOf (c .before .b4 .given .1))
 returns-6 : tie.Need-returns-6
 returns-6 c = search needs
 
+returns-7 : tie.Need-returns-7
+returns-7 c = sym (ap flagOf (c .before .b5 .given .1))
+
 pub flag-of-spec : {M : Type 1} → statement M
 flag-of-spec =
     tie.close
@@ -52,9 +58,11 @@ flag-of-spec =
     enum-known-b-3
     enum-known-b-4
     enum-told-2
+    enum-known-b-5
     returns
     returns-2
     returns-3
     returns-4
     returns-5
-    returns-6)
+    returns-6
+    returns-7)

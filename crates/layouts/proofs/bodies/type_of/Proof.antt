@@ -24,6 +24,9 @@ enum-known-b-5 c = search needs
 enum-known-b-6 : tie.Need-enum-known-b-6
 enum-known-b-6 c = search needs
 
+enum-told : tie.Need-enum-told
+enum-told c = search needs
+
 returns : tie.Need-returns
 returns c = sym (ap bodyType (c .before .b .given .1))
 
@@ -42,6 +45,9 @@ returns-5 c = sym (ap bodyType (c .before .b5 .given .1))
 returns-6 : tie.Need-returns-6
 returns-6 c = sym (ap bodyType (c .before .b6 .given .1))
 
+returns-7 : tie.Need-returns-7
+returns-7 c = search needs
+
 pub type-of-spec : {M : Type 1} → statement M
 type-of-spec =
     tie.close
@@ -52,9 +58,11 @@ type-of-spec =
     enum-known-b-4
     enum-known-b-5
     enum-known-b-6
+    enum-told
     returns
     returns-2
     returns-3
     returns-4
     returns-5
-    returns-6)
+    returns-6
+    returns-7)

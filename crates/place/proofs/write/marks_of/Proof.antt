@@ -50,9 +50,21 @@ mul-result-4 c = search needs
 add-result-4 : tie.Need-add-result-4
 add-result-4 c = search needs
 
+flag-requires-3 : tie.Need-flag-requires-3
+flag-requires-3 c κs = search needs
+
+cast-result-6 : tie.Need-cast-result-6
+cast-result-6 c = search needs
+
+mul-result-5 : tie.Need-mul-result-5
+mul-result-5 c = search needs
+
+add-result-5 : tie.Need-add-result-5
+add-result-5 c = search needs
+
 returns : tie.Need-returns
 unfolding marksOf
-returns c = rw (c .flag2 .ensures .0, c .before .before .flag .ensures .0)
+returns c = rw (c .flag3 .ensures .0, c .before .flag2 .ensures .0, c .before .before .before .flag .ensures .0)
 
 pub marks-of-spec : {M : Type 1} → statement M
 marks-of-spec =
@@ -73,4 +85,8 @@ marks-of-spec =
     cast-result-5
     mul-result-4
     add-result-4
+    flag-requires-3
+    cast-result-6
+    mul-result-5
+    add-result-5
     returns)

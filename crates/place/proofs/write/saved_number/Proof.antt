@@ -26,9 +26,18 @@ mul-result-2 c = search needs
 add-result-2 : tie.Need-add-result-2
 add-result-2 c = search needs
 
+flag-requires-2 : tie.Need-flag-requires-2
+flag-requires-2 c κs = search needs
+
+mul-result-3 : tie.Need-mul-result-3
+mul-result-3 c = search needs
+
+add-result-3 : tie.Need-add-result-3
+add-result-3 c = search needs
+
 returns : tie.Need-returns
 unfolding savedNumber
-returns c = rw (c .flag .ensures .0)
+returns c = rw (c .flag2 .ensures .0, c .before .flag .ensures .0)
 
 pub saved-number-spec : {M : Type 1} → statement M
 saved-number-spec =
@@ -41,4 +50,7 @@ saved-number-spec =
     flag-requires
     mul-result-2
     add-result-2
+    flag-requires-2
+    mul-result-3
+    add-result-3
     returns)

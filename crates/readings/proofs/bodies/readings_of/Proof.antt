@@ -42,6 +42,12 @@ enum-known-b-6 c = search needs
 status-readings-requires : tie.Need-status-readings-requires
 status-readings-requires c κs = search needs
 
+enum-known-b-7 : tie.Need-enum-known-b-7
+enum-known-b-7 c = search needs
+
+coarse-readings-requires : tie.Need-coarse-readings-requires
+coarse-readings-requires c κs = search needs
+
 returns : tie.Need-returns
 returns c = c .identification-readings .ensures (c .before .before .before .before .args .traffic) ∙ sym (ap (λ b. readingsOf b (c .before .before .before .before .args .traffic)) (c .before .before .b .given .1))
 
@@ -60,6 +66,9 @@ returns-5 c = c .air-readings .ensures ∙ sym (ap (λ b. readingsOf b (c .befor
 returns-6 : tie.Need-returns-6
 returns-6 c = c .status-readings .ensures (c .before .before .before .before .args .traffic) ∙ sym (ap (λ b. readingsOf b (c .before .before .before .before .args .traffic)) (c .before .before .b6 .given .1))
 
+returns-7 : tie.Need-returns-7
+returns-7 c = c .coarse-readings .ensures (c .before .before .before .before .args .traffic) ∙ sym (ap (λ b. readingsOf b (c .before .before .before .before .args .traffic)) (c .before .before .b7 .given .1))
+
 pub readings-of-spec : {M : Type 1} → statement M
 readings-of-spec =
     tie.close
@@ -76,9 +85,12 @@ readings-of-spec =
     air-readings-requires
     enum-known-b-6
     status-readings-requires
+    enum-known-b-7
+    coarse-readings-requires
     returns
     returns-2
     returns-3
     returns-4
     returns-5
-    returns-6)
+    returns-6
+    returns-7)

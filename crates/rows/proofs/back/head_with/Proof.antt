@@ -12,21 +12,21 @@ use borrow.Author.Needs.{needs}
 use Rattle.rows.proofs.back.head_with.Statement.{statement}
 use Rattle.rows.proofs.back.head_with.Tie as tie
 
-cast-message-with : tie.Need-cast-message-with
-cast-message-with c = let a = c .before .args in omega (arith, ltb-true (a .format) 32 (each (ltb (a .format) 32) (ltb (a .control) 8) (each (ltb (a .format) 32 && ltb (a .control) 8) (ltb (a .address) 16777216) (c .if1 .taken) .0) .0))
+cast-layout-with : tie.Need-cast-layout-with
+cast-layout-with c = let a = c .before .args in omega (arith, ltb-true (a .format) 32 (each (ltb (a .format) 32) (ltb (a .control) 8) (each (ltb (a .format) 32 && ltb (a .control) 8) (ltb (a .address) 16777216) (c .if1 .taken) .0) .0))
 
-cast-message-with-2 : tie.Need-cast-message-with-2
-cast-message-with-2 c = let a = c .before .args in omega (arith, ltb-true (a .control) 8 (each (ltb (a .format) 32) (ltb (a .control) 8) (each (ltb (a .format) 32 && ltb (a .control) 8) (ltb (a .address) 16777216) (c .if1 .taken) .0) .1))
+cast-layout-with-2 : tie.Need-cast-layout-with-2
+cast-layout-with-2 c = let a = c .before .args in omega (arith, ltb-true (a .control) 8 (each (ltb (a .format) 32) (ltb (a .control) 8) (each (ltb (a .format) 32 && ltb (a .control) 8) (ltb (a .address) 16777216) (c .if1 .taken) .0) .1))
 
-cast-message-with-3 : tie.Need-cast-message-with-3
-cast-message-with-3 c = let a = c .before .args in omega (arith, ltb-true (a .address) 16777216 (each (ltb (a .format) 32 && ltb (a .control) 8) (ltb (a .address) 16777216) (c .if1 .taken) .1))
+cast-layout-with-3 : tie.Need-cast-layout-with-3
+cast-layout-with-3 c = let a = c .before .args in omega (arith, ltb-true (a .address) 16777216 (each (ltb (a .format) 32 && ltb (a .control) 8) (ltb (a .address) 16777216) (c .if1 .taken) .1))
 
-message-with-requires : tie.Need-message-with-requires
-message-with-requires c κs = search needs
+layout-with-requires : tie.Need-layout-with-requires
+layout-with-requires c κs = search needs
 
 returns : tie.Need-returns
 unfolding headWith
-returns c = c .message-with .ensures ∙ sym (chosen _ _ _ (c .before .if1 .taken))
+returns c = c .layout-with .ensures ∙ sym (chosen _ _ _ (c .before .if1 .taken))
 
 returns-2 : tie.Need-returns-2
 unfolding headWith
@@ -36,9 +36,9 @@ pub head-with-spec : {M : Type 1} → statement M
 head-with-spec =
     tie.close
     (tie.spec
-    cast-message-with
-    cast-message-with-2
-    cast-message-with-3
-    message-with-requires
+    cast-layout-with
+    cast-layout-with-2
+    cast-layout-with-3
+    layout-with-requires
     returns
     returns-2)

@@ -45,6 +45,12 @@ enum-known-m-6 c = search needs
 status-four-requires : tie.Need-status-four-requires
 status-four-requires c κs = search needs
 
+enum-known-m-7 : tie.Need-enum-known-m-7
+enum-known-m-7 c = search needs
+
+coarse-four-requires : tie.Need-coarse-four-requires
+coarse-four-requires c κs = search needs
+
 enum-told : tie.Need-enum-told
 enum-told c = search needs
 
@@ -70,7 +76,10 @@ returns-6 : tie.Need-returns-6
 returns-6 c = c .status-four .ensures ∙ ap fourOf (sym (c .before .before .m6 .given .1) ∙ c .before .before .before .before .readings-of .ensures)
 
 returns-7 : tie.Need-returns-7
-returns-7 c = c .refused-four .ensures ∙ ap fourOf (sym (c .before .enum-told .given .1) ∙ c .before .before .before .readings-of .ensures)
+returns-7 c = c .coarse-four .ensures ∙ ap fourOf (sym (c .before .before .m7 .given .1) ∙ c .before .before .before .before .readings-of .ensures)
+
+returns-8 : tie.Need-returns-8
+returns-8 c = c .refused-four .ensures ∙ ap fourOf (sym (c .before .enum-told .given .1) ∙ c .before .before .before .readings-of .ensures)
 
 pub four-of-spec : {M : Type 1} → statement M
 four-of-spec =
@@ -89,6 +98,8 @@ four-of-spec =
     air-four-requires
     enum-known-m-6
     status-four-requires
+    enum-known-m-7
+    coarse-four-requires
     enum-told
     refused-four-requires
     returns
@@ -97,4 +108,5 @@ four-of-spec =
     returns-4
     returns-5
     returns-6
-    returns-7)
+    returns-7
+    returns-8)

@@ -64,6 +64,15 @@ packed-requires-6 c κs = search needs
 enum-told-7 : tie.Need-enum-told-7
 enum-told-7 c = search needs
 
+slice-aggregate-packed-7 : tie.Need-slice-aggregate-packed-7
+slice-aggregate-packed-7 c = search needs
+
+packed-requires-7 : tie.Need-packed-requires-7
+packed-requires-7 c κs = search needs
+
+enum-told-8 : tie.Need-enum-told-8
+enum-told-8 c = search needs
+
 returns : tie.Need-returns
 unfolding packedAs
 returns c =
@@ -96,7 +105,12 @@ returns-6 c =
 
 returns-7 : tie.Need-returns-7
 unfolding packedAs
-returns-7 c = ap (λ (l : Layout). packedAs l (c .before .before .before .args .fields .now)) (sym (c .enum-told7 .given .1))
+returns-7 c =
+    c .packed7 .ensures ∙ ap (λ (l : Layout). packedAs l (c .before .before .before .before .before .args .fields .now)) (sym (c .before .before .enum-told7 .given .1))
+
+returns-8 : tie.Need-returns-8
+unfolding packedAs
+returns-8 c = ap (λ (l : Layout). packedAs l (c .before .before .before .args .fields .now)) (sym (c .enum-told8 .given .1))
 
 pub packed-as-spec : {M : Type 1} → statement M
 packed-as-spec =
@@ -121,10 +135,14 @@ packed-as-spec =
     slice-aggregate-packed-6
     packed-requires-6
     enum-told-7
+    slice-aggregate-packed-7
+    packed-requires-7
+    enum-told-8
     returns
     returns-2
     returns-3
     returns-4
     returns-5
     returns-6
-    returns-7)
+    returns-7
+    returns-8)

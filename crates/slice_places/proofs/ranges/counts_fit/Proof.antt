@@ -1,13 +1,16 @@
--- `slice_places::ranges::counts_fit` meets its contract: its tests are the definition's.
+-- `slice_places::ranges::counts_fit` meets its contract: its tests are the definition's, by the size of `count_size`.
 -- Assumes nothing.
-use mathlib.Core.Path.{refl}
 use Rattle.slice_places.specs.Ranges.{countsFit}
+use borrow.Author.Needs.{needs}
 use Rattle.slice_places.proofs.ranges.counts_fit.Statement.{statement}
 use Rattle.slice_places.proofs.ranges.counts_fit.Tie as tie
 
+count-size-requires : tie.Need-count-size-requires
+count-size-requires c κs = search needs
+
 returns : tie.Need-returns
 unfolding countsFit
-returns c = refl
+returns c = rw (c .before .before .count-size .ensures)
 
 pub counts-fit-spec : {M : Type 1} → statement M
-counts-fit-spec = tie.close (tie.spec returns)
+counts-fit-spec = tie.close (tie.spec count-size-requires returns)

@@ -1,15 +1,10 @@
 -- `table_bytes::scan::none_of_8` meets its contract: each test is the definition's.
 -- Assumes nothing.
-use Prim.Native.Nat.{ℕ}
-use mathlib.Core.Path.{_≡_, ap}
 use lib.Dec.{eqb}
-use Rattle.table_bytes.proofs.Scanned.{none-8}
+use Rattle.table_bytes.proofs.Scanned.{none-8, same}
 use borrow.Author.Needs.{needs}
 use Rattle.table_bytes.proofs.scan.none_of_8.Statement.{statement}
 use Rattle.table_bytes.proofs.scan.none_of_8.Tie as tie
-
-same : (key : ℕ) {g k : ℕ} → g ≡ k → eqb g key ≡ eqb k key
-same key e = ap (λ (x : ℕ). eqb x key) e
 
 get4-requires : tie.Need-get4-requires
 get4-requires c κs = search needs

@@ -1,19 +1,15 @@
 -- `table_bytes::scan::skip` meets its contract: no key that the loop has passed is the key.
 -- Assumes nothing.
-use Prim.Native.Nat.{ℕ, _-_, _≤_, _<_}
+use Prim.Native.Nat.{_-_, _≤_}
 use native.Mathlib.Omega.{arith}
-use mathlib.Core.Bool.{false}
-use mathlib.Core.Path.{_≡_}
-use lib.Dec.{eqb}
-use Rattle.memory.specs.Offsets.{keyStart}
-use Rattle.memory.specs.Bytes.{numberAt}
+use Rattle.table_bytes.specs.Scan.{NoneBelow}
 use Rattle.table_bytes.proofs.Scanned.{skip-more}
 use borrow.Author.Needs.{needs}
 use Rattle.table_bytes.proofs.scan.skip.Statement.{statement}
 use Rattle.table_bytes.proofs.scan.skip.Tie as tie
 
 abbrev Inv-loop : tie.InvT-loop
-Inv-loop s n key i₀ i = (i ≤ n) × ((j : ℕ) → j < i → eqb (numberAt 4 s (keyStart j)) key ≡ false)
+Inv-loop s n key i₀ i = (i ≤ n) × NoneBelow s key i
 
 abbrev μ-loop : tie.MeasureT-loop
 μ-loop s n key i₀ i = n - i
@@ -39,8 +35,14 @@ add-none-of-8 c = search needs
 none-of-8-requires-2 : tie.Need-none-of-8-requires-2 Inv-loop μ-loop
 none-of-8-requires-2 c κs = search needs
 
+past-8-requires : tie.Need-past-8-requires Inv-loop μ-loop
+past-8-requires c κs = (search needs, search needs, c .before .before .before .before .loop .inv .1)
+
+past-4-requires : tie.Need-past-4-requires Inv-loop μ-loop
+past-4-requires c κs = (search needs, search needs, c .past-8 .ensures .1)
+
 returns : tie.Need-returns Inv-loop μ-loop
-returns c = (search needs, c .before .before .before .before .loop .inv .1)
+returns c = (search needs, c .past-4 .ensures .1)
 
 add-i : tie.Need-add-i Inv-loop μ-loop
 add-i c = search needs
@@ -69,6 +71,8 @@ skip-spec =
     none-of-8-requires
     add-none-of-8
     none-of-8-requires-2
+    past-8-requires
+    past-4-requires
     returns
     add-i
     loop-less

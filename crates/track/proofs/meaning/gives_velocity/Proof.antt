@@ -1,9 +1,9 @@
--- `track::meaning::gives_velocity` meets its contract: TYPE and subtype are the number of their eight bits, divided by 8, and each test says the other.
+-- `track::meaning::gives_velocity` meets its contract: for what is not coarse TYPE and subtype are the number of their eight bits, divided by 8, and each test says the other.
 -- Assumes nothing.
 use Prim.Native.Nat.{ℕ, _/_, _%_, _≤_}
 use native.Mathlib.Omega.{arith}
 use mathlib.Core.Logic.{⊎-elim}
-use mathlib.Core.Path.{_≡_, refl}
+use mathlib.Core.Path.{_≡_, refl, ap}
 use mathlib.Core.Bool.{Bool, true, false, _&&_, _||_}
 use lib.Dec.{leb, eqb}
 use borrow.Author.Tests.{le-leb, leb-true, leb-false, eq-eqb, eqb-true}
@@ -31,7 +31,7 @@ module _ (n : ℕ) where
   abbrev eight : ℕ
   eight = n / 281474976710656 % 256
 
-  within : leb 153 eight && leb eight 156 ≡ true → givesVelocity n ≡ true
+  within : leb 153 eight && leb eight 156 ≡ true → givesVelocity false n ≡ true
   within e =
       let w = each (leb 153 eight) (leb eight 156) e in
       let l : 153 ≤ eight = leb-true 153 eight (w .0) in
@@ -41,7 +41,7 @@ module _ (n : ℕ) where
   back : (t s : ℕ) → t ≡ me 1 5 n → s ≡ me 6 8 n → t ≡ 19 → 1 ≤ s → s ≤ 4 → leb 153 eight && leb eight 156 ≡ true
   back t s p q e l h = both (le-leb 153 eight (omega arith)) (le-leb eight 156 (omega arith))
 
-  without : givesVelocity n ≡ true → leb 153 eight && leb eight 156 ≡ true
+  without : givesVelocity false n ≡ true → leb 153 eight && leb eight 156 ≡ true
   without e = ⊎-elim
       (λ (g : isGround (me 1 5 n) (me 6 8 n) ≡ true). let w = velocity-in 1 2 (me 1 5 n) (me 6 8 n) g in back _ _ refl refl (w .0) (w .1 .0) (omega (arith, w .1 .1)))
       (λ (a : isAir (me 1 5 n) (me 6 8 n) ≡ true). let w = velocity-in 3 4 (me 1 5 n) (me 6 8 n) a in back _ _ refl refl (w .0) (omega (arith, w .1 .0)) (w .1 .1))
@@ -60,7 +60,7 @@ add-result-2 : tie.Need-add-result-2
 add-result-2 c = search needs
 
 returns : tie.Need-returns
-returns c = alike _ _ (within (c .args .me)) (without (c .args .me))
+returns c = ap (λ (x : Bool). c .args .coarse || x) (alike _ _ (within (c .args .me)) (without (c .args .me)))
 
 pub gives-velocity-spec : {M : Type 1} → statement M
 gives-velocity-spec = tie.close (tie.spec mul-result add-result mul-result-2 add-result-2 returns)

@@ -1,0 +1,4 @@
+pub mod Laid
+pub mod OnGround
+pub mod Refusing
+pub mod Unique
