@@ -2,7 +2,7 @@
  * dump1090-mutability's side of the bench: dump1090 MODE CORPUS WARM COUNT. bench/run builds it with that decoder's own
  * sources, which bench/fetch-peer fetches, and counts its instructions. The modes empty, decode, receive and positions
  * are those of bench/measure.c. Its listing is its JSON of all aircraft, made and thrown away; shown prints it, for
- * bench/run to look at.
+ * bench/run to look at. tracks prints the same of each aircraft with its doubles as they are, for bench/check-peer.
  *
  * The decoder is set up as its main function does for `--lat --lon --quiet --no-fix`: the site is known, nothing is
  * printed, no bit is mended and there is no network.
@@ -72,6 +72,24 @@ static void print_positions(void) {
     }
 }
 
+/* Address, last heard, and latitude, longitude and altitude, or "-", with all digits of its doubles. */
+static void print_tracks(void) {
+    for (const struct aircraft *a = Modes.aircrafts; a != NULL; a = a->next) {
+        printf("%s%06X %llu", a->addr & MODES_NON_ICAO_ADDRESS ? "~" : "", a->addr & 0xFFFFFF,
+               (unsigned long long)a->seen);
+        if (trackDataValid(&a->position_valid)) {
+            printf(" %.17g %.17g", a->lat, a->lon);
+        } else {
+            printf(" - -");
+        }
+        if (trackDataValid(&a->altitude_valid)) {
+            printf(" %d\n", a->altitude);
+        } else {
+            puts(" -");
+        }
+    }
+}
+
 static void set_up(void) {
     Modes.quiet = 1;
     Modes.check_crc = 1;
@@ -86,7 +104,7 @@ static void set_up(void) {
 int main(int count, char **arguments) {
     static const struct mode modes[] = {
         {"empty", do_nothing}, {"decode", decode}, {"receive", receive}, {"positions", receive},
-        {"listing", listing},  {"shown", shown},   {NULL, NULL}};
+        {"listing", listing},  {"shown", shown},   {"tracks", receive},   {NULL, NULL}};
     if (count != 5) {
         fprintf(stderr, "dump1090 MODE CORPUS WARM COUNT\n");
         return 2;
@@ -95,6 +113,9 @@ int main(int count, char **arguments) {
     run_bench(modes, arguments[1], arguments[2], receive, arguments[3], arguments[4]);
     if (strcmp(arguments[1], "positions") == 0) {
         print_positions();
+    }
+    if (strcmp(arguments[1], "tracks") == 0) {
+        print_tracks();
     }
     return 0;
 }

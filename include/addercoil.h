@@ -48,11 +48,11 @@ extern "C" {
 #endif
 
 /*
- * 10,000 times the major number, 100 times the minor one, and the patch: this is 0.6.0. addercoil_version() says that
+ * 10,000 times the major number, 100 times the minor one, and the patch: this is 0.7.0. addercoil_version() says that
  * of the archive; where the two differ, the program was built with another header. The bytes of a table may change with
  * it.
  */
-#define ADDERCOIL_VERSION 600
+#define ADDERCOIL_VERSION 700
 
 /* The version of the archive, as ADDERCOIL_VERSION has it. */
 uint32_t addercoil_version(void);
@@ -74,8 +74,10 @@ enum {
     ADDERCOIL_REFUSED_ZONES = 10,    /* two latitudes in different longitude zones */
     ADDERCOIL_REFUSED_NO_TRACK = 12, /* an aircraft that is not held, and a message that starts no track */
     ADDERCOIL_REFUSED_OVERRUN = 13,  /* a stamp whose time would pass 2^64 - 1 */
-    ADDERCOIL_REFUSED_LOG = 14,      /* a log of more than 2,900 records, or not of whole ones */
+    ADDERCOIL_REFUSED_LOG = 14,      /* a log of more than 2,900 records, or not of whole ones, or a capture of more
+                                        than 2,900 */
     ADDERCOIL_REFUSED_DEGREES = 15,  /* a double that is no spot's latitude or longitude in degrees */
+    ADDERCOIL_REFUSED_FORM = 16,     /* a text that is not in the form of a listing */
     ADDERCOIL_NUMBERS                /* one more than the largest */
 };
 
@@ -99,8 +101,9 @@ enum {
         "a block of a capture that fails its rules",                            \
         "an aircraft that is not held, and a message that starts no track",     \
         "a stamp whose time would pass 2^64 - 1",                               \
-        "a log of more than 2,900 records, or not of whole ones",               \
-        "a double that is no spot's latitude or longitude in degrees"           \
+        "a log or capture of over 2,900 records, or a log not of whole ones",   \
+        "a double that is no spot's latitude or longitude in degrees",          \
+        "a text that is not in the form of a listing"                           \
     }
 
 /* The kinds of aircraft, in the order of the listing. What they are stands above, under Units. */
@@ -380,6 +383,22 @@ uint32_t addercoil_line(const uint8_t *table, size_t table_len, uint32_t key, ui
  */
 uint32_t addercoil_feed_block(uint8_t *table, size_t table_len, const uint8_t *block, size_t block_len, uint64_t bad,
                               uint64_t *out, size_t out_len);
+
+/*
+ * Another decoder's listing of a capture, checked against ours: 0 for yes, else the number of the first line at fault,
+ * into out of 1 entry. Ours is what addercoil_header and addercoil_line give, with 1 for all, of a table of 256 places
+ * without a site to which the whole capture was fed, block by block. The header is line 1. Yes if the first line is
+ * ours byte for byte, the others are our keys in our order, each once, every latitude and longitude is within one unit
+ * of ours, longitude around the circle, or "-" in both, and every other column is equal. A line is compared with ours of
+ * the same number; one that is missing or surplus is at fault, and so is a longitude of 2^32 or more, or below 0.
+ * The form: each line ends in a newline; words have one space between them; the first line is "clock F tracks F
+ * bad-blocks F"; each other is a kind, six of 0-9A-F, and five columns F, or of kind C seven. F is "-", or a decimal of
+ * at most 20 digits without leading zeros, with a minus only if it is not 0.
+ * Or ADDERCOIL_REFUSED_LENGTH for out, ADDERCOIL_REFUSED_LOG for more than ADDERCOIL_RECORDS records in the good blocks
+ * of the capture, ADDERCOIL_REFUSED_FORM. It takes 32 KB of the stack.
+ */
+uint32_t addercoil_check(const uint8_t *capture, size_t capture_len, const uint8_t *listing, size_t listing_len,
+                         uint64_t *out, size_t out_len);
 
 /* ---- Positions ---- */
 

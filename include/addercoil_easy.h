@@ -429,6 +429,12 @@ static inline uint32_t addercoil_easy_feed_block(struct addercoil_table table, c
     return addercoil_feed_block(table.bytes, table.length, block, length, *bad, bad, 1);
 }
 
+/* Another decoder's listing of a capture; *line is 0 for yes, else the first line at fault. */
+static inline uint32_t addercoil_easy_check(const uint8_t *capture, size_t capture_length, const char *listing,
+                                            size_t listing_length, uint64_t *line) {
+    return addercoil_check(capture, capture_length, (const uint8_t *)listing, listing_length, line, 1);
+}
+
 /* ---- Positions; each of the first three has a twin of coarse counts ---- */
 
 /* A call that filled the row of counts, or of a spot, answered so: the struct of it, if it did. */

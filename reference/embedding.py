@@ -10,6 +10,7 @@ from pathlib import Path
 from typing import NamedTuple
 
 import captures
+import checker
 import degrees
 import integrity
 import messages
@@ -353,6 +354,11 @@ def replay_coarse(log, address, flag, station):
     return replayed(log, C, address % 2**32, None, flag % 2**32, station % 2**32)
 
 
+def check(capture, listing):
+    """0 for yes, else the line at fault; 14, then 16."""
+    return [checker.check(bytes(capture), listing)]
+
+
 def text_bytes(text):
     """A line and its newline, then zeros."""
     return text.encode("ascii").ljust(AT["LINE"], b"\0")
@@ -503,6 +509,7 @@ FUNCTIONS = {
     "replay": Function(replay, None, BYTES, AT["TRACK"], WORDS),
     "replay_at": Function(replay_at, None, BYTES, AT["TRACK"], WORDS),
     "replay_coarse": Function(replay_coarse, None, BYTES, AT["TRACK"], WORDS),
+    "check": Function(check, READS, BYTES, 1, WORDS),  # it reads a capture in place of a table
     "header": Function(header, READS, None, AT["LINE"], BYTES),
     "line": Function(line, READS, None, AT["LINE"], BYTES),
     "feed_block": Function(feed_block, WRITES, BYTES, 1, WORDS),

@@ -14,7 +14,7 @@ from random import Random
 import messages
 import table as tables
 import traffic
-from captures import BLOCK, MOST_RECORDS, block
+from captures import BLOCK, MOST_RECORDS, block, listing
 from captures import KINDS as LETTERS
 from embedding import AT, BYTES, FUNCTIONS, WORDS, WRITES, array_of, call_text, message_from, message_row, outcome_text, row
 from positions import AIRBORNE, COARSE, COUNTS, EVEN, ODD
@@ -24,7 +24,7 @@ from readings import UNKNOWN, altitude
 from refusals import Refused
 from replay import MOST_RECORDS as MOST_LOGGED
 from replay import RECORD
-from run_captures import SENDERS, damaged, message
+from run_captures import SENDERS, damaged, message, random_capture
 from tracks import KINDS as KIND_NUMBERS
 from tracks import C as OF_COARSE
 from tracks import I, N, Track, key_for, kind_in
@@ -42,6 +42,7 @@ OLD_LENGTHS = [("header", 97), ("line", 97), *(("look_up", length) for length in
 REPLAYS = "replay", "replay_at", "replay_coarse"
 LATER = {"receive_stamp": 4_000, "degrees": 1_000, "from_degrees": 3_000, "version": 1}  # so many of these, behind all others
 LATER |= dict.fromkeys(REPLAYS, 1_500) | {"encode_position_coarse": 1_000, "pair_coarse": 3_000, "single_coarse": 2_000}
+LATER |= {"check": 200}
 COARSE_MES = 10_000  # so many random MEs under CF 3, each decoded and encoded again
 LAST = 2**64 - 1
 FIRST_READING = 20  # from this entry on fields are readings
@@ -223,6 +224,19 @@ def of_station(chance):
     return [some_aa(chance), flags[rare] if rare < 3 else flag, stations[rare - 3] if 3 <= rare < 6 else station]
 
 
+def some_capture(chance):
+    """A capture of a few blocks, in the place of a table; rarely one of too many records."""
+    blank = block(0, [(0, bytes(14))] * MOST_RECORDS)
+    return bytearray(chance.choice((*[random_capture(chance)] * 40, blank * (MOST_LOGGED // MOST_RECORDS + 1))))
+
+
+def some_listing(chance, whole):
+    """Its own listing, or with a byte changed, or one that is not in the form."""
+    text = listing(whole, True).encode("ascii")
+    at = chance.randrange(len(text))
+    return chance.choice((text, text, text[:at] + chance.choice((b"0", b"1", b"-", b" ")) + text[at + 1 :], text[:at], listing(whole, False).encode("ascii")))
+
+
 def edge(chance, bits):
     """A code of so many bits, mostly at an end of its range, where readings change their kind."""
     last = 2**bits - 1
@@ -374,6 +388,8 @@ def given_for(name, chance, table):
         return some_block(chance, table)
     if name in REPLAYS:
         return some_log(chance)
+    if name == "check":
+        return some_listing(chance, bytes(table))
     return some_fields(chance) if name == "encode" else b""
 
 
@@ -387,7 +403,7 @@ def named(chance):
     chance.shuffle(names)
     yield from ((name, pool.choose()) for name in names)
     yield from ((name, random_tracks(chance, 9, 40)) for name in LISTED * DOUBLED)
-    yield from ((name, pool.choose()) for name, count in LATER.items() for _ in range(count))
+    yield from ((name, some_capture(chance) if name == "check" else pool.choose()) for name, count in LATER.items() for _ in range(count))
 
 
 def answered(chance, name, table, length):
@@ -434,7 +450,7 @@ def difference(asked, given):
 # What must have been tried
 
 PAPER = dict(enumerate("LENGTH LATE PARITY FORMAT TYPE FULL PLACES FIELD LATITUDE ZONES".split(), 1))  # by the header's names
-PAPER |= {12: "NO_TRACK", 13: "OVERRUN", 14: "LOG", 15: "DEGREES"}
+PAPER |= {12: "NO_TRACK", 13: "OVERRUN", 14: "LOG", 15: "DEGREES", 16: "FORM"}
 READS = {0, 1, 7}
 NUMBERS = {
     **{name: READS for name in ("clock", "site", "next", "look_up", "feed_block")},
@@ -442,6 +458,7 @@ NUMBERS = {
     **{"set_up": {0, 7}, "set_up_at": {0, 7, 8}, "receive": {0, 1, 2, 3, 4, 5, 6, 7, 12}},
     **{"receive_stamp": {0, 1, 2, 3, 4, 5, 6, 7, 8, 12, 13}},
     **{name: {0, 1, 8, 14} for name in REPLAYS},
+    **{"check": {0, 1, 14, 16}},
     **{"encode_position": {0, 1, 8}, "pair": {0, 1, 8, 9, 10}, "single": {0, 1, 8, 9}},
     **{"encode_position_coarse": {0, 1, 8}, "pair_coarse": {0, 1, 8, 9, 10}, "single_coarse": {0, 1, 8, 9}},
     **{"degrees": {0, 1, 8}, "from_degrees": {0, 1, 15}},

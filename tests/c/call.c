@@ -21,6 +21,7 @@ const struct shape shapes[FUNCTIONS] = {
     {"header", READS_TABLE, NOTHING, 2, BYTES},
     {"line", READS_TABLE, NOTHING, 2, BYTES},
     {"feed_block", WRITES_TABLE, BYTES, 1, WORDS},
+    {"check", READS_TABLE, BYTES, 0, WORDS},
     {"encode_position", NO_TABLE, NOTHING, 4, WORDS},
     {"pair", NO_TABLE, NOTHING, 5, WORDS},
     {"single", NO_TABLE, NOTHING, 6, WORDS},

@@ -4,7 +4,7 @@
  *
  *     NAME [TABLE] [GIVEN] [LENGTH] NUMBER.. = ANSWER [RESULT] [TABLE]
  *
- * TABLE and GIVEN are what is lent, in hex; LENGTH is how many elements the result array has, NUMBERs are in decimal.
+ * TABLE and GIVEN are what is lent, in hex, of a check the capture and the listing; LENGTH is how many elements the result array has, NUMBERs are in decimal.
  * A double is its bit pattern, as a NUMBER and in a result array.
  * Behind the = stand the answer, the result array, and the table where it is lent to be written. Elements of 64 bits
  * are 16 digits each; nothing at all is "-".
@@ -36,6 +36,7 @@ enum function {
     HEADER,
     LINE,
     FEED_BLOCK,
+    CHECK,
     ENCODE_POSITION,
     PAIR,
     SINGLE,

@@ -34,6 +34,8 @@ static uint64_t with_table(const struct call *call, uint8_t *t, const uint8_t *g
         return addercoil_header(t, size, n[0], (uint32_t)n[1], result, length);
     case LINE:
         return addercoil_line(t, size, (uint32_t)n[0], (uint32_t)n[1], result, length);
+    case CHECK:
+        return addercoil_check(t, size, given, call->given_size, words, length);
     default:
         return addercoil_feed_block(t, size, given, call->given_size, n[0], words, length);
     }

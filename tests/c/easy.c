@@ -324,6 +324,17 @@ static uint32_t feed_block(const struct call *call, struct addercoil_table table
     return number;
 }
 
+/* Of a capture, which is lent in the place of a table. */
+static uint32_t check(const struct call *call, struct addercoil_table capture, const uint8_t *given, uint64_t *row) {
+    uint64_t line = 0;
+    uint32_t number =
+        addercoil_easy_check(capture.bytes, capture.length, (const char *)given, call->given_size, &line);
+    if (number == ADDERCOIL_OK) {
+        *row = line;
+    }
+    return number;
+}
+
 static uint32_t encode(const uint8_t *given, uint8_t *bytes) {
     struct addercoil_message message;
     memcpy(message.fields, given, sizeof message.fields);
@@ -378,6 +389,8 @@ static uint32_t with_table(const struct call *call, struct addercoil_table t, co
         return addercoil_easy_header(t, n[0], (int)n[1], (char *)result);
     case LINE:
         return line(t, (uint32_t)n[0], (int)n[1], (char *)result);
+    case CHECK:
+        return check(call, t, given, row);
     default:
         return feed_block(call, t, given, row);
     }

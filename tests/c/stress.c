@@ -302,6 +302,68 @@ static size_t make_log(uint64_t time) {
     return about(ADDERCOIL_RECORD * count);
 }
 
+/* ---- Checks: a capture in the place of a table, and a listing of it ---- */
+
+/* One line more in given, and how much then stands there: 256 lines have room. */
+static size_t put_line(size_t size, const uint8_t *line) {
+    size_t length = strlen((const char *)line);
+    memcpy(given + size, line, length);
+    return size + length;
+}
+
+/* Our own listing of a capture, by the other functions. */
+static size_t make_listing(const uint8_t *capture, size_t size) {
+    static uint8_t table[ADDERCOIL_TABLE_BYTES(256)];
+    uint8_t line[ADDERCOIL_LINE];
+    uint64_t bad = 0, key = 0;
+    size_t at, made;
+    addercoil_set_up(table, sizeof table);
+    for (at = 0; at < size; at += ADDERCOIL_BLOCK) {
+        size_t left = size - at;
+        addercoil_feed_block(table, sizeof table, capture + at, left < ADDERCOIL_BLOCK ? left : ADDERCOIL_BLOCK, bad,
+                             &bad, 1);
+    }
+    addercoil_header(table, sizeof table, bad, 1, line, sizeof line);
+    made = put_line(0, line);
+    while (addercoil_next(table, sizeof table, (uint32_t)key, &key, 1) == ADDERCOIL_OK && key != 0) {
+        addercoil_line(table, sizeof table, (uint32_t)key, 1, line, sizeof line);
+        made = put_line(made, line);
+    }
+    return made;
+}
+
+/* A capture of a few blocks, now and then of any bytes. */
+static void choose_capture(struct call *call) {
+    size_t blocks = below(4), i;
+    call->table = strange;
+    call->table_size = ADDERCOIL_BLOCK * blocks + (below(4) == 0 ? below(ADDERCOIL_BLOCK) : 0);
+    fill(strange, call->table_size);
+    for (i = 0; i < blocks; i++) {
+        make_block(strange + ADDERCOIL_BLOCK * i, 1000 * i);
+    }
+}
+
+/* Its own listing, often with a byte of it changed, a digit put for another, or cut off; or any bytes. */
+static size_t make_text(const struct call *call) {
+    size_t size = make_listing(call->table, call->table_size), at = below(size);
+    switch (below(8)) {
+    case 0:
+        damage(given, size);
+        return size;
+    case 1:
+        return at;
+    case 2:
+        fill(given, size);
+        return size;
+    case 3:
+    case 4:
+        given[at] = (uint8_t)('0' + below(10));
+        return size;
+    default:
+        return size;
+    }
+}
+
 static size_t make_given(enum function function, uint64_t time) {
     switch (function) {
     case RECEIVE:
@@ -435,11 +497,13 @@ static struct call make_call(void) {
     int i;
     call.below = 8 * below(9);
     call.null = (int)below(2);
-    if (shape->table != NO_TABLE) {
+    if (call.function == CHECK) {
+        choose_capture(&call);
+    } else if (shape->table != NO_TABLE) {
         choose_table(&call);
         time = make_time(call.table_size < 8 ? 0 : clock_of(call.table));
     }
-    call.given_size = make_given(call.function, time);
+    call.given_size = call.function == CHECK ? make_text(&call) : make_given(call.function, time);
     call.result_length = shape->result == NOTHING ? 0 : result_length(call.function);
     for (i = 0; i < shape->numbers; i++) {
         call.numbers[i] = make_number(call.function, i, time);

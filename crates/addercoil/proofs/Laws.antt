@@ -9,7 +9,7 @@ use borrow.Author.Tests.{eq-eqb}
 use lib.Dec.{eqb}
 use lib.ListN.{length}
 use Rattle.refusals.specs.declared.Refusal.{Refusal}
-use Rattle.refusals.specs.declared.Refusal.the-variants.{Length, Late, Parity, Format, TypeCode, Full, Places, Field, Latitude, Zones, Block, NoTrack, Overrun, Log, Degrees}
+use Rattle.refusals.specs.declared.Refusal.the-variants.{Length, Late, Parity, Format, TypeCode, Full, Places, Field, Latitude, Zones, Block, NoTrack, Overrun, Log, Degrees, Form}
 use Rattle.refusals.specs.Numbers.{numberOf}
 use Rattle.refusals.specs.Said.{gives}
 use Rattle.entries.specs.Arrays.{filled}
@@ -75,6 +75,7 @@ some-number NoTrack e = omega arith
 some-number Overrun e = omega arith
 some-number Log e = omega arith
 some-number Degrees e = omega arith
+some-number Form e = omega arith
 
 if-written : (a b : Bool) → encodedNumber (cond (not a) (encode.Refused Length) (cond (not b) (encode.Refused Field) encode.Written)) ≡ 0 → (a ≡ true) × (b ≡ true)
 if-written true true e = (refl, refl)

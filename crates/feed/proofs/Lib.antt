@@ -6,3 +6,4 @@ pub mod Join
 pub mod Stream
 pub mod Unique
 pub mod Promised
+pub mod Records

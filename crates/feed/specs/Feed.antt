@@ -41,6 +41,14 @@ abbrev pub badIn : List ℕ → ℕ → ℕ
 badIn c zero = 0
 badIn c (suc k) = badIn c k + cond (good (blockAt c k)) 0 1
 
+-- how many records the first k blocks have; a bad one has none
+abbrev pub recordsOf : List ℕ → ℕ
+recordsOf b = cond (good b) (countOf b) 0
+
+abbrev pub recordsIn : List ℕ → ℕ → ℕ
+recordsIn c zero = 0
+recordsIn c (suc k) = recordsIn c k + recordsOf (blockAt c k)
+
 -- 7 comes before any block's 11
 unfoldable pub fed : List ℕ → List ℕ → After Fed
 fed s c =

@@ -4,11 +4,11 @@ use capture::Record;
 use refusals::Refusal;
 use rules::Clock;
 ghost use mathlib.Core.Path.{_≡_};
-ghost use Prim.Native.Nat.{_*_, _<_};
+ghost use Prim.Native.Nat.{_*_, _≤_, _<_};
 ghost use lib.ListN.{length};
 ghost use Rattle.capture.specs.Block.{good, timeOf, messageOf};
 ghost use Rattle.table.specs.Table.{after, received};
-ghost use Rattle.feed.specs.Feed.{recordsInto, blockInto, counted, blocksIn, blockAt, blocksInto, badIn, fed, fedBlock};
+ghost use Rattle.feed.specs.Feed.{recordsInto, blockInto, counted, blocksIn, blockAt, blocksInto, badIn, recordsOf, recordsIn, fed, fedBlock};
 
 pub enum Fed {
     // how many blocks are bad
@@ -80,11 +80,18 @@ fn block_at(capture: &[u8], k: usize) -> &[u8]
     &capture[at..end]
 }
 
+// How many blocks a capture has; a part of one at the end is one too.
+fn blocks_in(capture: &[u8]) -> usize
+    ensures { λ r. ⌜ r ≡ blocksIn (now (capture .entry)) ⌝ }
+{
+    (capture.len() + 511) / 512
+}
+
 // All blocks of a capture, and how many are bad.
 fn take_blocks(table: &mut [u8], capture: &[u8]) -> u64
     ensures { λ r. ⌜ (r ≡ badIn (now (capture .entry)) (blocksIn (now (capture .entry)))) × (now (table .exit) ≡ blocksInto (now (table .entry)) (now (capture .entry)) (blocksIn (now (capture .entry)))) ⌝ }
 {
-    let n = (capture.len() + 511) / 512;
+    let n = blocks_in(capture);
     let mut bad: u64 = 0;
     let mut k: usize = 0;
     while k < n {
@@ -92,6 +99,31 @@ fn take_blocks(table: &mut [u8], capture: &[u8]) -> u64
         k += 1;
     }
     bad
+}
+
+// How many records of a block are received: none of a bad one.
+fn block_records(block: &[u8]) -> usize
+    ensures { λ r. ⌜ (r ≡ recordsOf (now (block .entry))) × (r ≤ 23) ⌝ }
+{
+    let b = capture::block_of(block);
+    match b {
+        Block::Good(count) => count,
+        Block::Refused(_) => 0,
+    }
+}
+
+// How many records the good blocks of a capture have.
+pub fn records_in(capture: &[u8]) -> usize
+    ensures { λ r. ⌜ r ≡ recordsIn (now (capture .entry)) (blocksIn (now (capture .entry))) ⌝ }
+{
+    let n = blocks_in(capture);
+    let mut records: usize = 0;
+    let mut k: usize = 0;
+    while k < n {
+        records += block_records(block_at(capture, k));
+        k += 1;
+    }
+    records
 }
 
 // A whole capture: how many of its blocks are bad, or 7.

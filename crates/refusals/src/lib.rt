@@ -29,10 +29,12 @@ pub enum Refusal {
     NoTrack,
     // a stamp whose time would pass 2^64 - 1
     Overrun,
-    // a log of more than 2,900 records, or not of whole ones
+    // a log of more than 2,900 records, or not of whole ones, or a capture of more than 2,900
     Log,
     // a double that is no place's figure in degrees
     Degrees,
+    // a text that is not in the form of a listing
+    Form,
 }
 
 // The paper's number of a refusal.
@@ -55,5 +57,6 @@ pub fn number(r: Refusal) -> u32
         Refusal::Overrun => 13,
         Refusal::Log => 14,
         Refusal::Degrees => 15,
+        Refusal::Form => 16,
     }
 }

@@ -21,13 +21,8 @@ use Rattle.table.specs.Bytes.{bytes}
 use Rattle.table.specs.Table.{nextAbove}
 use Rattle.table.specs.View.{view, Follows}
 use Rattle.report.specs.Listing.{rowFor, asList, rowsBelow, texts}
+use Rattle.report.specs.Walked.{keyOrLimit}
 use Rattle.report.proofs.Held.{unheld-unseen, held-is-key}
-
--- the key that a walk has come to; at its end the end of the keys
-unfoldable pub keyOrLimit : NextKey → ℕ
-keyOrLimit (next.Key key) = key
-keyOrLimit next.End = endOfKeys
-keyOrLimit (next.Refused r) = endOfKeys
 
 -- r is the least key held above one, or the limit
 pub record Least (s : List ℕ) (above r : ℕ) : Type 0 where

@@ -21,9 +21,9 @@ use Rattle.table.specs.Bytes.{bytes}
 use Rattle.table.specs.Table.{nextAbove}
 use Rattle.table.specs.View.{view, Follows}
 use Rattle.report.specs.Listing.{rowFor, asList, rowsBelow, rowsIn, texts, headerFor, listing, headerIn, reported, lineIn}
-use Rattle.report.specs.Walked.{someText, Walked, ended, then}
+use Rattle.report.specs.Walked.{someText, keyOrLimit, Walked, ended, then}
 use Rattle.report.proofs.Held.{held-is-key}
-use Rattle.report.proofs.Keys.{keyOrLimit, Least, least, skipped, none-zero, rows-none, rows-next, rows-keep, texts-append}
+use Rattle.report.proofs.Keys.{Least, least, skipped, none-zero, rows-none, rows-next, rows-keep, texts-append}
 
 -- a row's text is not empty
 row-some : (r : Option Row) → someText (texts (asList r)) ≡ length (asList r)

@@ -4,6 +4,7 @@ mod row;
 use refusals::Refusal;
 use rules::Clock;
 use text::Line;
+use text::Row;
 use track::Holding;
 use track::Track;
 use whereabouts::Position;
@@ -14,8 +15,9 @@ ghost use mathlib.Core.List.{[]};
 ghost use mathlib.Core.Option.{some};
 ghost use lib.ListN.{length};
 ghost use Rattle.text.specs.Lines.{lineOf};
+ghost use Rattle.table.specs.Table.{lookedUp};
 ghost use Rattle.memory.specs.Offsets.{Room, wholePlaces};
-ghost use Rattle.report.specs.Listing.{shown, rowFor, rowsIn, reported, headerIn, lineIn};
+ghost use Rattle.report.specs.Listing.{shown, rowOf, rowFor, rowsIn, reported, headerIn, lineIn};
 ghost use Rattle.report.specs.Listing.{without as withoutLine};
 ghost use Rattle.report.specs.Places.{hasRow};
 
@@ -128,4 +130,13 @@ pub fn line_of(table: &[u8], key: u32, all: bool) -> Report
         Holding::Unheld => without(Printed::Nothing),
         Holding::Refused(r) => without(Printed::Refused(r)),
     }
+}
+
+// What the line of a key says where the table holds it; else what that of a new track would say.
+pub fn row_in(table: &[u8], key: u32) -> Row
+    ensures { λ r. ⌜ r ≡ rowOf key (lookedUp (now (table .entry)) key .track) ⌝ }
+{
+    let looked = table::look_up(table, key);
+    let track = looked.track;
+    row::row_of(key, track)
 }

@@ -1,10 +1,10 @@
 -- `feed::take_blocks` meets its contract: before each turn the first k blocks have been taken, and their bad ones counted.
 -- Assumes nothing.
-use Prim.Native.Nat.{_+_, _-_, _/_, _≤_}
+use Prim.Native.Nat.{_-_, _≤_}
 use mathlib.Core.Path.{_≡_, refl, ap, _∙_}
 use native.Mathlib.Omega.{arith}
 use lib.ListN.{length}
-use Rattle.feed.specs.Feed.{blocksInto, badIn}
+use Rattle.feed.specs.Feed.{blocksIn, blocksInto, badIn}
 use Rattle.feed.proofs.Ways.{blocks-on, bad-on}
 use borrow.Author.Needs.{needs}
 use Rattle.feed.proofs.take_blocks.Statement.{statement}
@@ -16,8 +16,8 @@ Inv-loop table₀ capture n bad₀ k₀ table bad k = (k ≤ n) × (length table
 abbrev μ-loop : tie.MeasureT-loop
 μ-loop table₀ capture n bad₀ k₀ table bad k = n - k
 
-add-n : tie.Need-add-n Inv-loop μ-loop
-add-n c = search needs
+blocks-in-requires : tie.Need-blocks-in-requires Inv-loop μ-loop
+blocks-in-requires c κs = search needs
 
 loop-holds : tie.Need-loop-holds Inv-loop μ-loop
 loop-holds c = (search needs, refl, refl, refl)
@@ -40,7 +40,7 @@ loop-less c = search needs
 loop-again : tie.Need-loop-again Inv-loop μ-loop
 loop-again c =
     let l = c .before .before .before .before .before .before .before .loop in
-    let a = c .before .before .before .before .before .before .before .before .before .before .args in
+    let a = c .before .before .before .before .before .before .before .before .before .before .before .args in
     let t = c .before .before .before .take-block in
     let g = c .before .before .before .before .block-at in
     (search needs, search needs, bad-on (a .capture .now) (l .k) (omega arith) (g .ensures) (t .ensures .0) (l .inv .2) (c .count .ensures), blocks-on (a .capture .now) (l .k) (a .table .now) (g .ensures) (l .inv .3) (t .ensures .1))
@@ -50,9 +50,9 @@ same-length c = search needs
 
 returns : tie.Need-returns Inv-loop μ-loop
 returns c =
-    let a = c .before .before .before .before .args in
+    let a = c .before .before .before .before .before .args in
     let l = c .before .loop in
-    let e : l .k ≡ (length (a .capture .now) + 511) / 512 = omega arith in
+    let e : l .k ≡ blocksIn (a .capture .now) = omega (arith, c .before .before .blocks-in .ensures) in
     (l .inv .2 ∙ ap (badIn (a .capture .now)) e, l .inv .3 ∙ ap (blocksInto (a .table .now) (a .capture .now)) e)
 
 pub take-blocks-spec : {M : Type 1} → statement M
@@ -61,7 +61,7 @@ take-blocks-spec =
     (tie.spec
     Inv-loop
     μ-loop
-    add-n
+    blocks-in-requires
     loop-holds
     block-at-requires
     take-block-requires

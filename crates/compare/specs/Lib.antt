@@ -1,0 +1,4 @@
+pub mod Compared
+pub mod Right
+pub mod Said
+pub mod Walk

@@ -1,0 +1,26 @@
+-- `feed::block_records` meets its contract: by what the block is called.
+-- Assumes nothing.
+use mathlib.Core.Path.{sym, _∙_}
+use Rattle.feed.proofs.Records.{records-good, records-bad}
+use borrow.Author.Needs.{needs}
+use Rattle.feed.proofs.block_records.Statement.{statement}
+use Rattle.feed.proofs.block_records.Tie as tie
+
+block-of-requires : tie.Need-block-of-requires
+block-of-requires c κs = search needs
+
+enum-known-b : tie.Need-enum-known-b
+enum-known-b c = search needs
+
+enum-told : tie.Need-enum-told
+enum-told c = search needs
+
+returns : tie.Need-returns
+returns c = records-good _ _ (sym (c .before .before .before .block-of .ensures) ∙ c .before .b .given .1)
+
+returns-2 : tie.Need-returns-2
+returns-2 c = records-bad _ _ (sym (c .before .before .block-of .ensures) ∙ c .enum-told .given .1)
+
+pub block-records-spec : {M : Type 1} → statement M
+block-records-spec =
+    tie.close (tie.spec block-of-requires enum-known-b enum-told returns returns-2)

@@ -1,0 +1,17 @@
+-- The rows whose numbers fit 64 bits, as every row in the code does.
+use Prim.Native.Nat.{ℕ, _^_, _<_}
+use lib.IntN.{natAbs}
+use Rattle.text.specs.declared.Figure.{Figure}
+use Rattle.text.specs.declared.Figure.the-variants.{Unknown, Known}
+use Rattle.text.specs.declared.Row.{Row}
+
+abbrev pub Sized : Figure → Type 0
+Sized Unknown = Unit {0}
+Sized (Known z) = natAbs z < 2 ^ 64
+
+pub record Fitting (r : Row) : Type 0 where
+  pub heard : r .heard < 2 ^ 64
+  pub latitude : Sized (r .latitude)
+  pub longitude : Sized (r .longitude)
+  pub altitude : Sized (r .altitude)
+  pub step : Sized (r .step)
