@@ -98,7 +98,7 @@ first = at mine refl refl 1000 (omega arith)
 abbrev pub second : Call
 second = at mine refl refl 2000 (omega arith)
 
-abbrev no-position : Call
+abbrev pub no-position : Call
 no-position = at silent refl refl 2000 (omega arith)
 
 abbrev pub stranger-first : Call

@@ -24,7 +24,7 @@ use Rattle.table.proofs.set_up_at.Kinds as set-up-at-kinds
 use Rattle.table.proofs.set_up_at.Reads as set-up-at
 use Rattle.table.proofs.receive.Kinds as receive-kinds
 use Rattle.table.proofs.receive.Reads as receive
-use Rattle.isolation.specs.Runs.{Call, Alike, call}
+use Rattle.isolation.specs.Runs.{Call, Alike}
 use Rattle.isolation.specs.Played.{Played, shown, NotFull}
 use Rattle.isolation.proofs.Both.{bytes-isolated}
 use Rattle.isolation.proofs.Played.{played-isolated}
@@ -54,21 +54,22 @@ abbrev pub Begun : Option Spot → List ℕ → After SetUp → Type 0
 Begun none s r = SetUpMet s r
 Begun (some site) s r = SetUpAtMet site s r
 
--- `receive` was lent the table s and the call's bytes, and was given its time
-pub record Received (s : List ℕ) (c : Call) (r : After Decoded) : Type 0 where
+-- `receive` was lent the table s and a message, and was given its time
+pub record Received (s message : List ℕ) (time : ℕ) (r : After Decoded) : Type 0 where
   pub κs : Lfts 2
   pub args : Dens κs receive-kinds.ps
   pub left : AtExit (endedOf 2 receive-kinds.ps receive-kinds.r) κs
   pub lent : args .0 .now ≡ s
-  pub message : args .1 .0 .now ≡ c .message
-  pub time : args .1 .1 .0 ≡ c .time
+  pub brings : args .1 .0 .now ≡ message
+  pub times : args .1 .1 .0 ≡ time
   pub table : left .0 .now ≡ r .table
   pub meets : receive.Post κs args (r .answer) left
 
 -- one after another, each lent the table that the one before left
 pub data Ran : List ℕ → List Call → List (After Decoded) → Type 0 where
   stopped : (s : List ℕ) → Ran s [] []
-  then : {s : List ℕ} {c : Call} {r : After Decoded} {cs : List Call} {rs : List (After Decoded)} → Received s c r → Ran (r .table) cs rs → Ran s (c ∷ cs) (r ∷ rs)
+  then : {s : List ℕ} {c : Call} {r : After Decoded} {cs : List Call} {rs : List (After Decoded)}
+      → Received s (c .message) (c .time) r → Ran (r .table) cs rs → Ran s (c ∷ cs) (r ∷ rs)
 
 -- ---- they did what the rules say
 
@@ -81,12 +82,12 @@ pub begun-is : (site : Option Spot) (s : List ℕ) (r : After SetUp) → Begun s
 begun-is none s r b = ap (after (r .answer)) (sym (b .table)) ∙ b .meets ∙ ap setUp (b .lent)
 begun-is (some site) s r b = ap (after (r .answer)) (sym (b .table)) ∙ b .meets ∙ ap₂ setUpAt (b .lent) (b .given)
 
-received-is : {s : List ℕ} {c : Call} {r : After Decoded} → Received s c r → r ≡ call received s c
-received-is {s} {c} {r} b =
+pub received-is : {s message : List ℕ} {time : ℕ} {r : After Decoded} → Received s message time r → r ≡ received s message time
+received-is {s} {message} {time} {r} b =
     ap (after (r .answer)) (sym (b .table))
     ∙ b .meets
-    ∙ ap₂ (λ (x : List ℕ) (m : List ℕ). received x m (b .args .1 .1 .0)) (b .lent) (b .message)
-    ∙ ap (received s (c .message)) (b .time)
+    ∙ ap₂ (λ (x : List ℕ) (m : List ℕ). received x m (b .args .1 .1 .0)) (b .lent) (b .brings)
+    ∙ ap (received s message) (b .times)
 
 pub ran-played : {s : List ℕ} {cs : List Call} {rs : List (After Decoded)} → Ran s cs rs → Played received s cs rs
 ran-played (stopped s) = tt

@@ -29,7 +29,7 @@ use Rattle.rules.specs.Search.{lowest, better, smallest}
 use Rattle.rules.specs.Form.{Cell, taken, isHeld, holds, Form, East, SiteFits, Lawful}
 use Rattle.rules.specs.Rules.{After, setUp, placeOf, freePlace, placed, delivered, received, lookedUp, leastAbove, nextAbove}
 use Rattle.rules.specs.Agreement.{Same, Agree, Alike, AlikeSet, Call, AlikeRuns}
-use Rattle.rules.proofs.Search.{clash, alike, lowest-passes}
+use Rattle.rules.proofs.Search.{clash, alike, lowest-passes, lowest-same}
 use Rattle.rules.proofs.Steps.{held-later, moved-fit, stored-fit}
 use Rattle.messages.proofs.Keys.{key-range}
 use Rattle.rules.proofs.Laws.{not-done, site-fits}
@@ -93,10 +93,6 @@ same-free c b p e f =
     record { held = free-of c b e ∙ sym no; key = λ q. absurd (clash q no); track = λ q. absurd (clash q no) }
 
 -- ---- both searches
-
-lowest-same : (p q : ℕ → Bool) (n : ℕ) → ((i : ℕ) → i < n → p i ≡ q i) → lowest p n ≡ lowest q n
-lowest-same p q zero h = refl
-lowest-same p q (suc n) h = rw (lowest-same p q n (λ i l. h i (omega arith)), h n (omega arith))
 
 -- two choices by one test are related if both ways are
 both-ways : {A B : Type 0} (R : A → B → Type 0) {x y : Bool} (b₁ b₂ : A) (r₁ r₂ : B) → x ≡ y → (y ≡ true → R b₁ r₁) → (y ≡ false → R b₂ r₂) → R (cond x b₁ b₂) (cond y r₁ r₂)

@@ -1,6 +1,7 @@
 -- What the delivery of a message does to a table whose clock is at its time: by the two searches, for a place of its key and for a free one.
 -- Assumes nothing.
 use Prim.Native.Nat.{ℕ, _^_, _<_}
+use native.Mathlib.Omega.{arith}
 use mathlib.Core.Bool.{Bool, true, false, cond, not, _&&_}
 use mathlib.Core.Logic.{_⊎_, inl, inr, ⊎-elim}
 use mathlib.Core.Option.{some, none}
@@ -26,7 +27,7 @@ use Rattle.rules.specs.Search.{lowest}
 use Rattle.rules.specs.Form.{Cell, isHeld, holds, Form, Lawful}
 use Rattle.rules.specs.Rules.{After, after, placeOf, freePlace, placed, turnedAway, delivered}
 use Rattle.rules.specs.View.{trackIn, viewAt, Once, AllFit, Unheld, AllTaken, Unplaced}
-use Rattle.rules.proofs.Search.{clash, fails, alike, lowest-passes, none-passes}
+use Rattle.rules.proofs.Search.{clash, fails, alike, lowest-passes, none-lower, none-passes}
 use Rattle.messages.proofs.Keys.{key-range}
 use Rattle.rules.proofs.Steps.{Single, stored-fit, put-other, once-other, put-own, once-own}
 
@@ -116,39 +117,40 @@ module _ {S : Type 0} (F : Form S) (t : ℕ) (s : S) (m : Message) (fit : bodyFi
   pub sorted : Sorted (delivered F s (decode.Message m) t)
   sorted = sorted-by answered
 
-  -- ---- in a table where each key is held once
+  -- ---- what it leaves
 
-  -- the track that the message finds is stepped, and no other key's view changes
+  -- the track that the message finds is stepped, and no other key's view changes, though a key be held twice; each that was held once still is
   pub record Effect (r : After S Decoded) : Type 0 where
-    pub single : Single F t (r .table)
+    pub single : Single F t s → Single F t (r .table)
     pub fits : AllFit F (r .table)
     pub told : (r .answer ≡ decode.Refused Full → ⊥) → r .answer ≡ answeredFrom m (found m (viewAt F t s (keyOf m)))
     pub own : (r .answer ≡ decode.Refused Full → ⊥) → viewAt F t (r .table) (keyOf m) ≡ steppedFrom m (F .site s) t (found m (viewAt F t s (keyOf m)))
     pub other : (k : ℕ) → (k ≡ keyOf m → ⊥) → viewAt F t (r .table) k ≡ viewAt F t s k
 
-  module _ (L : Lawful F) (all-fit : AllFit F s) (size : F .whole s ≡ true) (single : Single F t s) (fits : t < 2 ^ 64) where
+  module _ (L : Lawful F) (all-fit : AllFit F s) (size : F .whole s ≡ true) (fits : t < 2 ^ 64) where
     next-fits : (x : Track) → Fits x → Fits (next x)
     next-fits x f = subst Fits (ap (λ (y : Stepped). y .track) (step-is x)) (stepped-fits x f (F .site s) t fits (decode.Message m))
 
     -- one place is written
     written : (i : ℕ) → i < n → (x : Track) → Fits x → found m (viewAt F t s (keyOf m)) ≡ some x
-        → ((j : ℕ) → j < n → (j ≡ i → ⊥) → holds t (keyOf m) (F .cell s j) ≡ false)
+        → ((j : ℕ) → j < i → holds t (keyOf m) (F .cell s j) ≡ false)
+        → (Single F t s → (j : ℕ) → j < n → (j ≡ i → ⊥) → holds t (keyOf m) (F .cell s j) ≡ false)
         → ((k : ℕ) → (k ≡ keyOf m → ⊥) → holds t k (F .cell s i) ≡ false)
         → Effect (placed F s i (keyOf m) (stepped x (decode.Message m) (F .site s) t))
-    written i h x f v only clear =
+    written i h x f v lower only clear =
         let is-key = key-range m in
         let g : Fits (next x) = next-fits x f in
         let its : next x .heard ≡ t = heard-at-its-time x (m .body) (bodyMe (m .body)) (F .site s) t in
         let r : S = F .stored s i (keyOf m) (next x) in
         let e : Effect (after (decode.Message m) r)
         = record {
-          single = λ k. ⊎-elim
-              (λ (y : k ≡ keyOf m). subst (λ (k : ℕ). Once (holds t k) (F .cell r) (F .count r)) (sym y) (once-own F L t s size single i h (keyOf m) is-key (next x) g its only))
-              (λ (y : k ≡ keyOf m → ⊥). once-other F L t s size single i h (keyOf m) is-key (next x) g its k y (clear k y)) (alike k (keyOf m));
+          single = λ u k. ⊎-elim
+              (λ (y : k ≡ keyOf m). subst (λ (k : ℕ). Once (holds t k) (F .cell r) (F .count r)) (sym y) (once-own F L t s size i h (keyOf m) is-key (next x) g its (only u)))
+              (λ (y : k ≡ keyOf m → ⊥). once-other F L t s size i h (keyOf m) is-key (next x) g its k y (clear k y) (u k)) (alike k (keyOf m));
           fits = stored-fit F L s all-fit i (keyOf m) (next x) size h is-key g;
           told = λ _. sym (ap (answeredFrom m) v);
-          own = λ _. put-own F L t s size single i h (keyOf m) is-key (next x) g its only ∙ sym (ap (steppedFrom m (F .site s) t) v);
-          other = λ k y. put-other F L t s size single i h (keyOf m) is-key (next x) g its k y (clear k y);
+          own = λ _. put-own F L t s size i h (keyOf m) is-key (next x) g its lower ∙ sym (ap (steppedFrom m (F .site s) t) v);
+          other = λ k y. put-other F L t s size i h (keyOf m) is-key (next x) g its k y (clear k y);
         } in
         subst (λ (y : Stepped). Effect (placed F s i (keyOf m) y)) (sym (step-is x)) e
 
@@ -178,7 +180,7 @@ module _ {S : Type 0} (F : Form S) (t : ℕ) (s : S) (m : Message) (fit : bodyFi
     turned-effect : ltb here n ≡ false → Effect (after (decode.Refused (turnedAway (starts m))) s)
     turned-effect e =
         record {
-          single = single;
+          single = λ u. u;
           fits = all-fit;
           told = λ un. ap (λ (b : Bool). decode.Refused (turnedAway b)) (unstarted un) ∙ sym (ap (answeredFrom m) (unseen e false (unstarted un)));
           own = λ un. seen false e ∙ sym (ap (steppedFrom m (F .site s) t) (unseen e false (unstarted un)));
@@ -193,10 +195,12 @@ module _ {S : Type 0} (F : Form S) (t : ℕ) (s : S) (m : Message) (fit : bodyFi
     delivery =
         by-test Effect (ltb here n) _ _
         (λ e. written here (ltb-true _ _ e) (F .cell s here .track) (all-fit here (ltb-true _ _ e) (in-range (F .cell s here) (keyOf m) (hit e))) (ap (found m) (seen true e))
-        (λ j g ne. fails _ (λ x. ne (single (keyOf m) j here g (ltb-true _ _ e) x (hit e))))
+        (λ j l. none-lower (λ j. holds t (keyOf m) (F .cell s j)) n j l (omega (arith, ltb-true here n e)))
+        (λ u j g ne. fails _ (λ x. ne (u (keyOf m) j here g (ltb-true _ _ e) x (hit e))))
         (key-only (F .cell s here) (hit e)))
         (λ e. by-test Effect (starts m && ltb free n) _ _
         (λ f. written free (ltb-true _ _ (and-right (starts m) _ f)) newTrack new-fits (unseen e true (and-left (starts m) _ f))
-        (λ j g ne. none-passes (λ j. holds t (keyOf m) (F .cell s j)) n e j g)
+        (λ j l. none-passes (λ j. holds t (keyOf m) (F .cell s j)) n e j (omega (arith, ltb-true free n (and-right (starts m) _ f))))
+        (λ _ j g ne. none-passes (λ j. holds t (keyOf m) (F .cell s j)) n e j g)
         (λ k ne. no-key (F .cell s free) (vacant (and-right (starts m) _ f)) k))
         (λ _. turned-effect e))

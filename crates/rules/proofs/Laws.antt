@@ -78,9 +78,39 @@ module _ {S : Type 0} (F : Form S) (L : Lawful F) (s : S) (message : List ℕ) (
   accepted-is : (m : Message) → decoded message ≡ decode.Message m → F .whole s ≡ true → F .clock s ≤ t → call ≡ delivered F (F .moved s t) (decode.Message m) t
   accepted-is m e w h = received-in-time F s message t (decoded-14 message m e) w h ∙ ap (λ (d : Decoded). delivered F (F .moved s t) d t) e
 
+  -- no call changes whether the places are whole
+  pub whole-after : F .whole (call .table) ≡ F .whole s
+  whole-after =
+      received-keeps F s message t (λ (x : S). F .whole x ≡ F .whole s) refl (L .moved-whole s t) (λ i key x. L .stored-whole (F .moved s t) i key x ∙ L .moved-whole s t)
+
+  -- ---- a table whose tracks fit, though a key be held twice
+
+  module _ (fit : AllFit F s) (fits : t < 2 ^ 64) where
+    pub effect : F .whole s ≡ true → (m : Message) (e : decoded message ≡ decode.Message m)
+        → Effect F t (F .moved s t) m (decoded-fits message m e) (delivered F (F .moved s t) (decode.Message m) t)
+    effect w m e = delivery F t (F .moved s t) m (decoded-fits message m e) L (moved-fit F L s fit t) (L .moved-whole s t ∙ w) fits
+
+    fit-timely : F .whole s ≡ true → (d : Decoded) → decoded message ≡ d → AllFit F (delivered F (F .moved s t) d t .table)
+    unfolding delivered
+    fit-timely w (decode.Refused r) e = moved-fit F L s fit t
+    fit-timely w (decode.Message m) e = effect w m e .fits
+
+    fit-by : {r : After S Decoded} → Way F s message t r → AllFit F (r .table)
+    fit-by (short l) = fit
+    fit-by (uneven l w) = fit
+    fit-by (late l w h) = fit
+    fit-by (timely l w h) = fit-timely w (decoded message) refl
+
+    -- the tracks fit: kept by every call
+    pub fit-after : AllFit F (call .table)
+    fit-after = fit-by (way F s message t)
+
   -- ---- a table in which each key is held once
 
   module _ (tb : Table F s) (fits : t < 2 ^ 64) where
+    done : (m : Message) (e : decoded message ≡ decode.Message m) → Effect F t (F .moved s t) m (decoded-fits message m e) (delivered F (F .moved s t) (decode.Message m) t)
+    done = effect (tb .fit) fits (tb .size)
+
     module _ (h : F .clock s ≤ t) where
       moved-single : Single F t (F .moved s t)
       moved-single k = as-moved F L s t (Once (holds t k)) (single-later F s (F .clock s) t (tb .once) h k)
@@ -89,10 +119,6 @@ module _ {S : Type 0} (F : Form S) (L : Lawful F) (s : S) (message : List ℕ) (
       here : (k : ℕ) → viewAt F t (F .moved s t) k ≡ laterAt t (view F s k)
       here k = moved-view F L s t t k ∙ view-later F s (F .clock s) t (tb .once) h k
 
-      effect : (m : Message) (e : decoded message ≡ decode.Message m) → Effect F t (F .moved s t) m (decoded-fits message m e) (delivered F (F .moved s t) (decode.Message m) t)
-      effect m e =
-          delivery F t (F .moved s t) m (decoded-fits message m e) L (moved-fit F L s (tb .fit) t) (L .moved-whole s t ∙ tb .size) moved-single fits
-
     -- a table whose clock is t: its view is the view at t
     at-clock : (r : S) (k : ℕ) → F .clock r ≡ t → view F r k ≡ viewAt F t r k
     at-clock r k e = ap (λ (c : ℕ). viewAt F c r k) e
@@ -100,18 +126,7 @@ module _ {S : Type 0} (F : Form S) (L : Lawful F) (s : S) (message : List ℕ) (
     single-timely : F .clock s ≤ t → (d : Decoded) → decoded message ≡ d → Single F t (delivered F (F .moved s t) d t .table)
     unfolding delivered
     single-timely h (decode.Refused r) e = moved-single h
-    single-timely h (decode.Message m) e = effect h m e .single
-
-    fit-timely : F .clock s ≤ t → (d : Decoded) → decoded message ≡ d → AllFit F (delivered F (F .moved s t) d t .table)
-    unfolding delivered
-    fit-timely h (decode.Refused r) e = moved-fit F L s (tb .fit) t
-    fit-timely h (decode.Message m) e = effect h m e .fits
-
-    fit-by : {r : After S Decoded} → Way F s message t r → AllFit F (r .table)
-    fit-by (short l) = tb .fit
-    fit-by (uneven l w) = tb .fit
-    fit-by (late l w h) = tb .fit
-    fit-by (timely l w h) = fit-timely h (decoded message) refl
+    single-timely h (decode.Message m) e = done m e .single (moved-single h)
 
     single-by : {r : After S Decoded} → Way F s message t r → Single F (F .clock (r .table)) (r .table)
     single-by (short l) = tb .once
@@ -125,9 +140,8 @@ module _ {S : Type 0} (F : Form S) (L : Lawful F) (s : S) (message : List ℕ) (
     pub table-after : Table F (call .table)
     table-after =
         record {
-          size = received-keeps F s message t (λ (x : S). F .whole x ≡ true) (tb .size) (L .moved-whole s t ∙ tb .size)
-              (λ i key x. L .stored-whole (F .moved s t) i key x ∙ L .moved-whole s t ∙ tb .size);
-          fit = fit-by (way F s message t);
+          size = whole-after ∙ tb .size;
+          fit = fit-after (tb .fit) fits;
           once = single-by (way F s message t);
         }
 
@@ -141,7 +155,7 @@ module _ {S : Type 0} (F : Form S) (L : Lawful F) (s : S) (message : List ℕ) (
         (λ y. absurd (un m y x))
         (λ y. ap (λ (r : After S Decoded). viewAt F t (r .table) k) (y .1 .1))
         (sorted F t (F .moved s t) m (decoded-fits message m e)))
-        (λ (x : k ≡ keyOf m → ⊥). effect h m e .other k x)
+        (λ (x : k ≡ keyOf m → ⊥). done m e .other k x)
         (alike k (keyOf m))
 
     dropped-by : (k : ℕ) {r : After S Decoded} → length message ≡ 14 → F .clock s ≤ t → ((m : Message) → r .answer ≡ decode.Message m → k ≡ keyOf m → ⊥)
@@ -168,9 +182,9 @@ module _ {S : Type 0} (F : Form S) (L : Lawful F) (s : S) (message : List ℕ) (
         × (view F (r .table) (keyOf m) ≡ steppedFrom m (F .site s) t (found m (laterAt t (view F s (keyOf m))))))
         (sym (accepted-is m e (tb .size) h))
         (λ un. (
-          effect h m e .told un ∙ ap (λ (v : Option Track). answeredFrom m (found m v)) (here h (keyOf m)),
+          done m e .told un ∙ ap (λ (v : Option Track). answeredFrom m (found m v)) (here h (keyOf m)),
           at-clock (delivered F (F .moved s t) (decode.Message m) t .table) (keyOf m) (clock-delivered (tb .size) fits (decode.Message m))
-              ∙ effect h m e .own un
+              ∙ done m e .own un
               ∙ ap₂ (λ (v : Option Track) (site : Site). steppedFrom m site t (found m v)) (here h (keyOf m)) (L .moved-site s t),
         ))
 

@@ -1,4 +1,4 @@
--- The lowest number that passes a test, and the thing found by it: where at most one of n things passes, what is found is that thing.
+-- The lowest number that passes a test, and the thing found by it: what passes, and no lower one does; where at most one of n things passes, it is that one.
 -- Assumes nothing.
 use Prim.Native.Nat.{ℕ, suc, zero, _≤_, _<_}
 use native.Mathlib.Omega.{arith}
@@ -52,6 +52,15 @@ lowest-least p (suc n) i h t = by-cases (ltb (lowest p n) n) (p n) refl refl (λ
     by-cases false false e f r (inl k) = absurd (clash (ap p (sym k) ∙ t) f)
     by-cases false false e f r (inr k) = absurd (omega (arith, ltb-false (lowest p n) n e, r k))
 
+-- it is the same where the tests are
+pub lowest-same : (p q : ℕ → Bool) (n : ℕ) → ((i : ℕ) → i < n → p i ≡ q i) → lowest p n ≡ lowest q n
+lowest-same p q zero h = refl
+lowest-same p q (suc n) h = rw (lowest-same p q n (λ i l. h i (omega arith)), h n (omega arith))
+
+-- none below it passes
+pub none-lower : (p : ℕ → Bool) (n i : ℕ) → i < lowest p n → i < n → p i ≡ false
+none-lower p n i l h = fails (p i) (λ t. omega (arith, lowest-least p n i h t))
+
 pub none-passes : (p : ℕ → Bool) (n : ℕ) → ltb (lowest p n) n ≡ false → (i : ℕ) → i < n → p i ≡ false
 none-passes p n e i h = fails (p i) (λ f. omega (arith, ltb-false (lowest p n) n e, lowest-least p n i h f))
 
@@ -73,12 +82,15 @@ module _ {C : Type 0} (is : C → Bool) where
     abbrev Miss : Type 0
     Miss = (i : ℕ) → i < n → is (f i) ≡ false
 
-    look-hit : Once is f n → (i : ℕ) → i < n → is (f i) ≡ true → look is f n ≡ some (f i)
-    look-hit u i h t =
+    -- one passes, and none below it
+    pub look-first : (i : ℕ) → i < n → is (f i) ≡ true → ((j : ℕ) → j < i → is (f j) ≡ false) → look is f n ≡ some (f i)
+    look-first i h t lower =
         let l : at ≤ i = lowest-least (λ j. is (f j)) n i h t in
-        let m : at < n = omega arith in
-        let e : at ≡ i = u at i m h (lowest-passes (λ j. is (f j)) n m) t in
+        let e : at ≡ i = ⊎-elim (λ (e : at ≡ i). e) (λ (l : at < i). absurd (clash (lowest-passes (λ j. is (f j)) n (omega arith)) (lower at l))) (eq-or-lt-of-le l) in
         rw (e, lt-ltb i n h)
+
+    look-hit : Once is f n → (i : ℕ) → i < n → is (f i) ≡ true → look is f n ≡ some (f i)
+    look-hit u i h t = look-first i h t (λ j l. fails (is (f j)) (λ p. omega (arith, u j i (omega arith) h p t)))
 
     pub look-miss : Miss → look is f n ≡ none
     look-miss a = by-cases (ltb at n) refl
@@ -94,27 +106,27 @@ module _ {C : Type 0} (is : C → Bool) where
         by-cases true e = let m : at < n = ltb-true _ _ e in inl (at, (m, lowest-passes (λ j. is (f j)) n m))
         by-cases false e = inr (none-passes (λ j. is (f j)) n e)
 
-  -- things that pass the test at the same numbers, and are the same there
-  module _ (f g : ℕ → C) (n : ℕ) (same : (i : ℕ) → i < n → is (g i) ≡ is (f i)) (u : Once is f n) where
-    pub once-same : Once is g n
-    once-same i j h k p q = u i j h k (sym (same i h) ∙ p) (sym (same j k) ∙ q)
+  -- things that pass the test at the same numbers
+  module _ (f g : ℕ → C) (n : ℕ) (same : (i : ℕ) → i < n → is (g i) ≡ is (f i)) where
+    pub once-same : Once is f n → Once is g n
+    once-same u i j h k p q = u i j h k (sym (same i h) ∙ p) (sym (same j k) ∙ q)
 
+    -- and are the same there
     pub look-same : ((i : ℕ) → i < n → is (f i) ≡ true → g i ≡ f i) → look is g n ≡ look is f n
-    look-same e = ⊎-elim
-        (λ (w : Hit f n). look-hit g n once-same (w .0) (w .1 .0) (same (w .0) (w .1 .0) ∙ w .1 .1) ∙ ap some (e (w .0) (w .1 .0) (w .1 .1)) ∙ sym (look-hit f n u (w .0) (w .1 .0) (w .1 .1)))
-        (λ (w : Miss f n). look-miss g n (λ i h. same i h ∙ w i h) ∙ sym (look-miss f n w))
-        (hit-or-miss f n)
+    look-same e =
+        ap (λ (l : ℕ). cond (ltb l n) (some (g l)) none) (lowest-same (λ i. is (g i)) (λ i. is (f i)) n same)
+        ∙ by-cases (ltb (at f n) n) refl
+      where
+        by-cases : (b : Bool) → ltb (at f n) n ≡ b → cond b (some (g (at f n))) none ≡ cond b (some (f (at f n))) none
+        by-cases true h = let m : at f n < n = ltb-true _ _ h in ap some (e (at f n) m (lowest-passes (λ i. is (f i)) n m))
+        by-cases false h = refl
 
   -- one thing passes the test, and no other
-  module _ (g : ℕ → C) (n i : ℕ) (h : i < n) (t : is (g i) ≡ true) (others : (j : ℕ) → j < n → (j ≡ i → ⊥) → is (g j) ≡ false) where
-    only : (j : ℕ) → j < n → is (g j) ≡ true → j ≡ i
-    only j k p = ⊎-elim (λ (e : j ≡ i). e) (λ (e : j ≡ i → ⊥). absurd (clash p (others j k e))) (alike j i)
-
-    pub once-only : Once is g n
-    once-only j k hj hk p q = only j hj p ∙ sym (only k hk q)
-
-    pub look-only : look is g n ≡ some (g i)
-    look-only = look-hit g n once-only i h t
+  pub once-only : (g : ℕ → C) (n i : ℕ) → ((j : ℕ) → j < n → (j ≡ i → ⊥) → is (g j) ≡ false) → Once is g n
+  once-only g n i others j k hj hk p q = only j hj p ∙ sym (only k hk q)
+    where
+      only : (j : ℕ) → j < n → is (g j) ≡ true → j ≡ i
+      only j k p = ⊎-elim (λ (e : j ≡ i). e) (λ (e : j ≡ i → ⊥). absurd (clash p (others j k e))) (alike j i)
 
 -- some things pass no longer
 module _ {C : Type 0} (was is young : C → Bool) (e : (c : C) → is c ≡ was c && young c) (f : ℕ → C) (n : ℕ) (u : Once was f n) where

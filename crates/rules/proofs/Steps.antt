@@ -15,7 +15,7 @@ use Rattle.place.specs.Place.{Fits}
 use Rattle.keys.specs.Keys.{isKey}
 use Rattle.rules.specs.Form.{Cell, taken, isHeld, holds, Form, Lawful}
 use Rattle.rules.specs.View.{look, trackIn, viewAt, Once, AllFit, Unheld, AllTaken}
-use Rattle.rules.proofs.Search.{clash, alike, keep, once-same, look-same, once-only, look-only, once-aged, look-aged}
+use Rattle.rules.proofs.Search.{clash, alike, keep, look-first, once-same, look-same, once-only, once-aged, look-aged}
 
 -- each key is held at most once at a clock
 abbrev pub Single : {S : Type 0} → Form S → ℕ → S → Type 0
@@ -111,7 +111,7 @@ module _ {S : Type 0} (F : Form S) (L : Lawful F) (s : S) (fit : AllFit F s) whe
 
 -- ---- a track is stored at a place
 
-module _ {S : Type 0} (F : Form S) (L : Lawful F) (t : ℕ) (s : S) (size : F .whole s ≡ true) (single : Single F t s) (i : ℕ) (h : i < F .count s)
+module _ {S : Type 0} (F : Form S) (L : Lawful F) (t : ℕ) (s : S) (size : F .whole s ≡ true) (i : ℕ) (h : i < F .count s)
     (key : ℕ) (is-key : isKey key ≡ true) (x : Track) (fits : Fits x) (heard : x .heard ≡ t) where
   abbrev r : S
   r = F .stored s i key x
@@ -144,25 +144,22 @@ module _ {S : Type 0} (F : Form S) (L : Lawful F) (t : ℕ) (s : S) (size : F .w
     unfolding viewAt
     put-other =
         ap (λ (n : ℕ). trackIn (look (holds t k) (F .cell r) n)) put-count
-        ∙ ap trackIn (look-same (holds t k) (F .cell s) (F .cell r) (F .count s) same (single k)
+        ∙ ap trackIn (look-same (holds t k) (F .cell s) (F .cell r) (F .count s) same
         (λ j g q. ⊎-elim (λ (e : j ≡ i). absurd (clash (ap (λ (n : ℕ). holds t k (F .cell s n)) (sym e) ∙ q) before)) (λ (e : j ≡ i → ⊥). elsewhere j g e) (alike j i)))
 
-    pub once-other : Once (holds t k) (F .cell r) (F .count r)
-    once-other = subst (Once (holds t k) (F .cell r)) (sym put-count) (once-same (holds t k) (F .cell s) (F .cell r) (F .count s) same (single k))
+    pub once-other : Once (holds t k) (F .cell s) (F .count s) → Once (holds t k) (F .cell r) (F .count r)
+    once-other u = subst (Once (holds t k) (F .cell r)) (sym put-count) (once-same (holds t k) (F .cell s) (F .cell r) (F .count s) same u)
 
-  -- it is the one place of the key
-  module _ (only : (j : ℕ) → j < F .count s → (j ≡ i → ⊥) → holds t key (F .cell s j) ≡ false) where
-    own : holds t key (F .cell r i) ≡ true
-    own = ap (holds t key) there ∙ holds-stored key ∙ ap (λ (b : Bool). b && true) (eq-eqb key key refl)
+  -- no lower place holds the key: it is found there
+  pub put-own : ((j : ℕ) → j < i → holds t key (F .cell s j) ≡ false) → viewAt F t r key ≡ some x
+  unfolding viewAt
+  put-own lower =
+      let own : holds t key (F .cell r i) ≡ true = ap (holds t key) there ∙ holds-stored key ∙ ap (λ (b : Bool). b && true) (eq-eqb key key refl) in
+      ap (λ (n : ℕ). trackIn (look (holds t key) (F .cell r) n)) put-count
+      ∙ ap trackIn (look-first (holds t key) (F .cell r) (F .count s) i h own (λ j l. ap (holds t key) (elsewhere j (omega arith) (λ e. omega arith)) ∙ lower j l) ∙ ap some there)
 
-    others : (j : ℕ) → j < F .count s → (j ≡ i → ⊥) → holds t key (F .cell r j) ≡ false
-    others j g ne = ap (holds t key) (elsewhere j g ne) ∙ only j g ne
-
-    pub put-own : viewAt F t r key ≡ some x
-    unfolding viewAt
-    put-own =
-        ap (λ (n : ℕ). trackIn (look (holds t key) (F .cell r) n)) put-count
-        ∙ ap trackIn (look-only (holds t key) (F .cell r) (F .count s) i h own others ∙ ap some there)
-
-    pub once-own : Once (holds t key) (F .cell r) (F .count r)
-    once-own = subst (Once (holds t key) (F .cell r)) (sym put-count) (once-only (holds t key) (F .cell r) (F .count s) i h own others)
+  -- no other place holds the key: it is the one place of it
+  pub once-own : ((j : ℕ) → j < F .count s → (j ≡ i → ⊥) → holds t key (F .cell s j) ≡ false) → Once (holds t key) (F .cell r) (F .count r)
+  once-own only =
+      subst (Once (holds t key) (F .cell r)) (sym put-count)
+      (once-only (holds t key) (F .cell r) (F .count s) i (λ j g ne. ap (holds t key) (elsewhere j g ne) ∙ only j g ne))

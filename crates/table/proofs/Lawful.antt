@@ -111,7 +111,7 @@ bytes-after s message t b = received-keeps bytes s message t Bytes b (moved-byte
 
 -- ---- they read as tracks that fit, so what holds of a table holds of any bytes of whole places in which each key is held once
 
-all-fit : (s : List ℕ) → Bytes s → AllFit bytes s
+pub all-fit : (s : List ℕ) → Bytes s → AllFit bytes s
 unfolding bodyAt
 all-fit s b i h e =
     read-fits (bodyAt s (placesIn s) i) (bytes-take bodySize (drop (bodyStart (placesIn s) i) s) (bytes-drop (bodyStart (placesIn s) i) s b))

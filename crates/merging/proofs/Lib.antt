@@ -1,0 +1,4 @@
+pub mod Instant
+pub mod Merged
+pub mod OfCode
+pub mod Examples
