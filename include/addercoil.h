@@ -116,7 +116,10 @@ enum {
     ADDERCOIL_KIND_C = 6
 };
 
-/* The key of a kind, I to N, with the 24 bits of AA; and of kind C, with the flag, 0 or 1, and the station, 0 to 15. */
+/*
+ * The key of a kind, I to N, with the 24 bits of AA; and of kind C, with the flag, 0 or 1, and the station, 0 to 15.
+ * ADDERCOIL_KEY_OF makes no key of ADDERCOIL_KIND_C.
+ */
 #define ADDERCOIL_KEY_OF(kind, aa) ((uint32_t)(kind) << 24 | ((uint32_t)(aa) & 0xFFFFFFu))
 #define ADDERCOIL_KEY_COARSE(aa, flag, station)                       \
     (0x80000000u | ((uint32_t)(aa) & 0xFFFFFFu) << 5 | ((uint32_t)(flag) & 1u) << 4 | ((uint32_t)(station) & 15u))
@@ -268,7 +271,7 @@ enum {
     ADDERCOIL_TRACK_AIRSPEED_KIND,         /* 0 indicated, 1 true */
     ADDERCOIL_TRACK_RATE_IS,               /* of either velocity, in feet per minute, signed */
     ADDERCOIL_TRACK_RATE,
-    ADDERCOIL_TRACK_RATE_SOURCE_IS,        /* unknown of kinds T, M and N, which do not send it */
+    ADDERCOIL_TRACK_RATE_SOURCE_IS,        /* unknown of kinds T, M, N and C, which do not send it */
     ADDERCOIL_TRACK_RATE_SOURCE,           /* 0 geometric, 1 barometric */
     ADDERCOIL_TRACK_ON_GROUND_IS,          /* known once there was a position message */
     ADDERCOIL_TRACK_ON_GROUND,             /* 1 if the last one was a surface position, 0 if an airborne one */
@@ -395,7 +398,7 @@ uint32_t addercoil_feed_block(uint8_t *table, size_t table_len, const uint8_t *b
  * bad-blocks F"; each other is a kind, six of 0-9A-F, and five columns F, or of kind C seven. F is "-", or a decimal of
  * at most 20 digits without leading zeros, with a minus only if it is not 0.
  * Or ADDERCOIL_REFUSED_LENGTH for out, ADDERCOIL_REFUSED_LOG for more than ADDERCOIL_RECORDS records in the good blocks
- * of the capture, ADDERCOIL_REFUSED_FORM. It takes 32 KB of the stack.
+ * of the capture, ADDERCOIL_REFUSED_FORM. It takes less than 32 KB of the stack.
  */
 uint32_t addercoil_check(const uint8_t *capture, size_t capture_len, const uint8_t *listing, size_t listing_len,
                          uint64_t *out, size_t out_len);
@@ -642,9 +645,10 @@ uint32_t addercoil_decode(const uint8_t *message, size_t message_len, uint64_t *
  * What an ME says, as ADDERCOIL_TRACK_IDENTIFICATION, _VELOCITY, _SURFACE and _STATUS have it, into fields of
  * ADDERCOIL_FIELDS entries, as addercoil_decode gives them; what stands before ME, which are entries 1 to 4, is 0. key
  * is that of the track: its kind tells what the height difference means and, if it is C, that the ME is a coarse one,
- * whatever its bits; no more of it is asked. An ME of 0, which a track has where it heard none, reads as TYPE 0: look
- * at the ME first, or at ADDERCOIL_LAYOUT. Or ADDERCOIL_REFUSED_LENGTH, ADDERCOIL_REFUSED_FIELD for an ME of more than
- * 56 bits or what is no key, ADDERCOIL_REFUSED_TYPE, which kind C never earns.
+ * whatever its bits; no more of it is asked. An ME of 0, which a track has where it heard none, reads as TYPE 0, and of
+ * kind C as a coarse message: look at the ME first. Of kind C ask for ADDERCOIL_TRACK_VELOCITY alone, which is always
+ * there, even if it is 0. Or ADDERCOIL_REFUSED_LENGTH, ADDERCOIL_REFUSED_FIELD for an ME of more than 56 bits or what is
+ * no key, ADDERCOIL_REFUSED_TYPE, which kind C never earns.
  */
 uint32_t addercoil_me(uint64_t me, uint32_t key, uint64_t *fields, size_t fields_len);
 

@@ -309,10 +309,10 @@ static inline const char *addercoil_easy_number_words(uint32_t number) {
 /* The letter of a key's kind, or '-' of what is no key: the last is that of kind C with all bits of AA set. */
 static inline char addercoil_easy_kind_letter(uint32_t key) {
     uint32_t kind = ADDERCOIL_KEY_KIND(key);
-    if (key > ADDERCOIL_KEY_COARSE(0xFFFFFF, 1, 15) || kind < ADDERCOIL_KIND_I || kind > ADDERCOIL_KIND_C) {
-        return '-';
+    if (ADDERCOIL_KEY_IS_COARSE(key)) {
+        return key <= ADDERCOIL_KEY_COARSE(0xFFFFFF, 1, 15) ? 'C' : '-';
     }
-    return "IOTMNC"[kind - ADDERCOIL_KIND_I];
+    return kind >= ADDERCOIL_KIND_I && kind <= ADDERCOIL_KIND_N ? "IOTMN"[kind - ADDERCOIL_KIND_I] : '-';
 }
 
 /* ---- The table ---- */
@@ -378,12 +378,13 @@ static inline uint32_t addercoil_easy_look_up(struct addercoil_table table, uint
 
 /* ---- A doubted track, of a key, from a log ---- */
 
-/* Of a key of kind C; of a number above all keys the address is too wide, which is refused. */
+/* Of a key of kind C; of any other number the address is too wide, which is refused. */
 static inline uint32_t addercoil_easy_replay_coarse(const uint8_t *log, size_t length, uint32_t key,
                                                     struct addercoil_track *track) {
     uint64_t row[ADDERCOIL_TRACK];
-    uint32_t number = addercoil_replay_coarse(log, length, (key & 0x7FFFFFFFu) >> 5, ADDERCOIL_KEY_FLAG(key),
-                                              ADDERCOIL_KEY_STATION(key), row, ADDERCOIL_TRACK);
+    uint32_t address = ADDERCOIL_KEY_IS_COARSE(key) ? (key & 0x7FFFFFFFu) >> 5 : UINT32_MAX;
+    uint32_t number = addercoil_replay_coarse(log, length, address, ADDERCOIL_KEY_FLAG(key), ADDERCOIL_KEY_STATION(key),
+                                              row, ADDERCOIL_TRACK);
     return addercoil_easy_to_track(number, row, track);
 }
 
@@ -399,8 +400,7 @@ static inline uint32_t addercoil_easy_replay(const uint8_t *log, size_t length, 
     return addercoil_easy_to_track(number, row, track);
 }
 
-/* The same with a site, at which kind C does not look. */
-
+/* The same with a site, at which kind C does not look, not even at a bad one. */
 static inline uint32_t addercoil_easy_replay_at(const uint8_t *log, size_t length, uint32_t key,
                                                 struct addercoil_spot site, struct addercoil_track *track) {
     uint64_t row[ADDERCOIL_TRACK];

@@ -17,6 +17,9 @@ static uint8_t *read_file(const char *name, size_t *length) {
     uint8_t *bytes = malloc(room), *more;
     *length = 0;
     if (file == NULL || bytes == NULL) {
+        if (file != NULL) {
+            fclose(file);
+        }
         free(bytes);
         return NULL;
     }

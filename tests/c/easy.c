@@ -352,9 +352,26 @@ static uint32_t line(struct addercoil_table table, uint32_t key, int all, char *
     return number != ADDERCOIL_OK || text[0] == '\0' || strncmp(text, begins, strlen(begins)) == 0 ? number : NO_NUMBER;
 }
 
-/* The version, if each number has words of its own, and what is no number has none. */
+/* Whether each of these has the letter of its kind, or '-' where it is no key. */
+static int letters_right(void) {
+    static const uint32_t keys[] = {0,         0xFFFFFF,  0x1000000,  0x2000000,   0x3000000,   0x4000000,
+                                    0x5FFFFFF, 0x6000000, 0x7FFFFFFF, 0x80000000u, 0x9FFFFFFFu, 0xA0000000u};
+    static const char letters[] = "--IOTMN--CC-";
+    size_t i;
+    for (i = 0; i < sizeof keys / sizeof *keys; i++) {
+        if (addercoil_easy_kind_letter(keys[i]) != letters[i]) {
+            return 0;
+        }
+    }
+    return 1;
+}
+
+/* The version, if each number has words of its own, what is no number has none, and each key its kind's letter. */
 static uint64_t version(void) {
     uint32_t i, j;
+    if (!letters_right()) {
+        return NO_NUMBER;
+    }
     for (i = 0; i < ADDERCOIL_NUMBERS; i++) {
         for (j = 0; j < i; j++) {
             if (strcmp(addercoil_easy_number_words(i), addercoil_easy_number_words(j)) == 0) {

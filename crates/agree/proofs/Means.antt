@@ -1,9 +1,9 @@
 -- A line agrees exactly if it has our key and other columns, and figures within one unit: the nine texts are the relation in the request's words. And our own line agrees.
 -- Assumes nothing.
-use Prim.Native.Nat.{ℕ, zero, suc, _+_, _-_, _%_, _^_, _<_, _≤_}
-use mathlib.Core.Path.{_≡_, refl, sym, ap, ap₂, subst, _∙_}
+use Prim.Native.Nat.{ℕ, suc, _+_, _-_, _%_, _^_, _<_}
+use mathlib.Core.Path.{_≡_, refl, sym, ap, subst, _∙_}
 use mathlib.Core.Logic.{_⊎_, inl, inr, _↔_}
-use mathlib.Core.Bool.{Bool, true, false, cond, _||_, or-true, false≢true}
+use mathlib.Core.Bool.{Bool, true, false, cond, _||_}
 use mathlib.Core.List.{List}
 use native.Mathlib.Omega.{arith}
 use borrow.Author.Tests.{lt-ltb, le-ltb, ltb-true, ltb-false}
@@ -21,7 +21,7 @@ use Rattle.form.specs.Own.{Sized}
 use Rattle.form.proofs.Named.{figures-one}
 use Rattle.form.proofs.Pieces.{same-self}
 use Rattle.agree.specs.declared.Way.the-variants.{North, South, East, West}
-use Rattle.agree.specs.Near.{placed, UnitApart, Latitudes, no-latitude, latitude-within, CircleApart, Longitudes, no-longitude, longitude-within, Agrees, up, down, east, west, stepped, moved, shows, along, agreesOf}
+use Rattle.agree.specs.Near.{placed, UnitApart, Latitudes, no-latitude, latitude-within, Longitudes, no-longitude, longitude-within, Agrees, up, down, east, west, moved, shows, along, agreesOf}
 use Rattle.agree.specs.Ours.{OnGlobe, OnCircle, Placed}
 
 -- ---- one of three

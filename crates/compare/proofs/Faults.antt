@@ -5,20 +5,18 @@ use native.Mathlib.Omega.{arith}
 use mathlib.Core.Path.{_≡_, refl, sym, ap, _∙_}
 use mathlib.Core.Bool.{Bool, true, false, cond}
 use mathlib.Core.List.{List, [], _∷_, _++_}
-use lib.ListN.{take, drop}
 use Rattle.text.specs.declared.Row.{Row}
 use Rattle.text.specs.Lines.{newline, headerText}
 use Rattle.report.specs.Listing.{texts}
 use Rattle.form.specs.Form.{pieces, same, linesIn}
 use Rattle.form.proofs.Pieces.{pieces-cut, same-self}
 use Rattle.form.proofs.OwnLines.{rowLine, row-text, row-over, row-cut, headerLine, header-text, header-over, header-cut}
-use Rattle.agree.specs.Near.{Agrees, agreesOf}
+use Rattle.agree.specs.Near.{agreesOf}
 use Rattle.agree.proofs.Means.{agrees-means, own-agrees}
-use Rattle.compare.specs.declared.Checked.{Checked}
 use Rattle.compare.specs.declared.Checked.the-variants.{Yes, Fault, Refused}
 use Rattle.compare.specs.Compared.{compared, against}
 use Rattle.compare.specs.Right.{AllAgree, both-none, both-one, Broken, other-line, missing-line, surplus-line, First}
-use Rattle.compare.proofs.Rows.{Ours, AllOurs, none-ours, one-ours}
+use Rattle.compare.proofs.Rows.{AllOurs, none-ours, one-ours}
 
 pub not-yes : {n : ℕ} → Fault n ≡ Yes → ⊥
 not-yes e = let z : _≡_ {A = ℕ} 0 1 = cc in omega arith

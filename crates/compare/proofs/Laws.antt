@@ -1,11 +1,11 @@
 -- What a check says, for every capture and every text: yes exactly where the request says so, else the first line at fault, or 14, or 16; and our own listing gets yes. By the tests, and the laws of the comparison.
 -- Assumes nothing.
-use Prim.Native.Nat.{ℕ, zero, suc, _+_, _/_, _^_, _≤_, _<_}
+use Prim.Native.Nat.{ℕ, zero, suc, _+_, _^_, _≤_, _<_}
 use native.Mathlib.Omega.{arith}
 use mathlib.Core.Path.{_≡_, refl, sym, ap, _∙_}
-use mathlib.Core.Logic.{_⊎_, inl, inr, ⊎-elim, _↔_}
+use mathlib.Core.Logic.{_⊎_, inl, inr, _↔_}
 use mathlib.Core.Bool.{Bool, true, false, cond, not, false≢true}
-use mathlib.Core.List.{List, [], _∷_, _++_}
+use mathlib.Core.List.{List, _∷_, _++_}
 use borrow.Author.Tests.{not-true, not-false, ltb-true, ltb-false, lt-ltb, le-ltb}
 use lib.Dec.{ltb}
 use lib.ListN.{length, replicate}
@@ -18,10 +18,9 @@ use Rattle.memory.specs.Offsets.{tableSize}
 use Rattle.table_bytes.specs.Layout.{emptied, clockOf}
 use Rattle.table.proofs.Emptied.{emptied-bytes}
 use Rattle.table.proofs.Lawful.{bytes-after}
-use Rattle.text.specs.declared.Row.{Row}
 use Rattle.text.specs.Lines.{newline}
 use Rattle.feed.specs.Feed.{recordsInto, blockInto, blocksIn, blockAt, blocksInto, badIn}
-use Rattle.report.specs.Listing.{rowsIn, headerFor, listing}
+use Rattle.report.specs.Listing.{headerFor, listing}
 use Rattle.form.specs.Form.{same, inForm}
 use Rattle.form.proofs.Loops.{same-equal}
 use Rattle.form.proofs.Pieces.{same-self}
@@ -31,7 +30,7 @@ use Rattle.compare.specs.declared.Checked.the-variants.{Yes, Fault, Refu
 use Rattle.compare.specs.Compared.{tableOf, badOf, ours, ourHeader, ourRows, compared, against, linesOf, verdict, recordsOf, checked}
 use Rattle.compare.specs.Right.{Right, Faulty, header-faulty, row-faulty}
 use Rattle.compare.proofs.Rows.{AllOurs, rows-ours, listing-in-form}
-use Rattle.compare.proofs.Faults.{not-yes, yes-agree, agree-yes, first-fault, never-refused, own-yes}
+use Rattle.compare.proofs.Faults.{yes-agree, agree-yes, first-fault, never-refused, own-yes}
 
 -- ---- our table is bytes, whatever the capture
 

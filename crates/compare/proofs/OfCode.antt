@@ -1,8 +1,9 @@
 -- What a check says, of the code: whatever meets the contract of `check` says it. By the laws of the definition that the contract names.
 -- Assumes nothing.
 use Prim.Native.Nat.{ℕ, _^_, _≤_, _<_}
-use mathlib.Core.Path.{_≡_, sym, ap, ap₂, subst, _∙_}
+use mathlib.Core.Path.{_≡_, sym, ap, ap₂, _∙_}
 use mathlib.Core.List.{List}
+use mathlib.Core.Bool.{false}
 use mathlib.Core.Logic.{_⊎_, _↔_}
 use lib.ListN.{length}
 use contract.Lifetimes.{Lfts}
@@ -15,7 +16,7 @@ use Rattle.compare.specs.declared.Checked.{Checked}
 use Rattle.compare.specs.declared.Checked.the-variants.{Yes, Fault, Refused}
 use Rattle.compare.specs.Compared.{ours, recordsOf, checked}
 use Rattle.compare.specs.Right.{Right, Faulty}
-use Rattle.compare.proofs.Laws.{yes-exactly, fault-first, fourteen-exactly, only-these, own-listing-yes}
+use Rattle.compare.proofs.Laws.{yes-exactly, fault-first, fourteen-exactly, sixteen-exactly, only-these, own-listing-yes}
 use Rattle.compare.proofs.check.Kinds as check-kinds
 use Rattle.compare.proofs.check.Reads as check
 
@@ -42,9 +43,12 @@ module _ {c l : List ℕ} {x : Checked} (m : Met c l x) where
   pub code-fault-first : {n : ℕ} → x ≡ Fault n → Faulty c l n
   code-fault-first e = fault-first c l (sym is-checked ∙ e)
 
-  -- 14 for the capture, whatever the text; and no number but 14 and 16
+  -- 14 for the capture, whatever the text, then 16 for the text; and no number but these
   pub code-fourteen : x ≡ Refused Log ↔ 2900 < recordsOf c
   code-fourteen = (λ e. fourteen-exactly c l .0 (sym is-checked ∙ e), λ p. is-checked ∙ fourteen-exactly c l .1 p)
+
+  pub code-sixteen : x ≡ Refused Form ↔ (recordsOf c ≤ 2900) × (inForm l ≡ false)
+  code-sixteen = (λ e. sixteen-exactly c l .0 (sym is-checked ∙ e), λ p. is-checked ∙ sixteen-exactly c l .1 p)
 
   pub code-only-these : {r : Refusal} → x ≡ Refused r → (r ≡ Log) ⊎ (r ≡ Form)
   code-only-these e = only-these c l (sym is-checked ∙ e)

@@ -9,7 +9,7 @@ use contract.Lifetimes.{Lfts}
 use denote.Triple.Clauses.{AtExit}
 use borrow.Fn.Kinds.{Dens, resT, endedOf}
 use Rattle.refusals.specs.declared.Refusal.the-variants.{Log, Form}
-use Rattle.refusals.specs.Said.{Said, number}
+use Rattle.refusals.specs.Said.{number}
 use Rattle.form.specs.Form.{inForm}
 use Rattle.compare.specs.declared.Checked.{Checked}
 use Rattle.compare.specs.declared.Checked.the-variants.{Refused}

@@ -2,7 +2,7 @@
 -- Assumes nothing.
 use Prim.Native.Nat.{ℕ, zero, suc, _+_, _-_, _*_, _%_, _^_, _≤_, _<_}
 use native.Mathlib.Omega.{arith}
-use mathlib.Core.Path.{_≡_, ap, _∙_}
+use mathlib.Core.Path.{_≡_}
 use mathlib.Core.Bool.{Bool, true, false, cond, _||_}
 use mathlib.Core.List.{List, [], _∷_, _++_}
 use mathlib.Core.Option.{Option, some, none}
@@ -24,7 +24,6 @@ use Rattle.memory.proofs.Numbers.{number-lt}
 use Rattle.track.specs.declared.Track.{Track}
 use Rattle.place.specs.Place.{Fits, trackOf}
 use Rattle.place.proofs.BothWays.{read-fits}
-use Rattle.text.specs.declared.Figure.{Figure}
 use Rattle.text.specs.declared.Figure.the-variants.{Unknown, Known}
 use Rattle.text.specs.declared.Row.{Row}
 use Rattle.rules.specs.Form.{holds}

@@ -4,7 +4,6 @@ use Prim.Native.Nat.{ℕ, zero, suc, _+_, _-_, _≤_, _<_}
 use native.Mathlib.Omega.{arith}
 use native.Mathlib.Nat.{add-zero}
 use mathlib.Core.Path.{_≡_, refl, sym, ap, ap₂, _∙_}
-use mathlib.Core.Logic.{_⊎_, inl, inr}
 use mathlib.Core.Bool.{Bool, true, false, cond}
 use mathlib.Core.List.{List, [], _∷_, _++_, append-assoc, append-nil}
 use mathlib.Core.Option.{Option, some, none}
@@ -31,9 +30,8 @@ use Rattle.report.specs.Walked.{keyOrLimit}
 use Rattle.report.proofs.Held.{held-seen, held-is-key}
 use Rattle.report.proofs.Keys.{Least, least, none-zero, skipped, rows-none, rows-next}
 use Rattle.agree.specs.Near.{agreesOf}
-use Rattle.compare.specs.declared.Checked.{Checked}
 use Rattle.compare.specs.declared.Checked.the-variants.{Yes, Fault}
-use Rattle.compare.specs.Compared.{compared, against}
+use Rattle.compare.specs.Compared.{compared}
 use Rattle.compare.specs.Walk.{rowsFrom, rowsLeft}
 
 module _ (s : List ℕ) where

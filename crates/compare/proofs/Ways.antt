@@ -5,9 +5,8 @@ use native.Mathlib.Omega.{arith}
 use mathlib.Core.Path.{_≡_, refl, sym, ap, ap₂, _∙_}
 use mathlib.Core.Logic.{inl, inr}
 use mathlib.Core.Bool.{Bool, true, false, cond, not, false≢true}
-use mathlib.Core.List.{List, [], _∷_, _++_}
+use mathlib.Core.List.{List, []}
 use borrow.Author.Tests.{not-true, not-false, lt-ltb, le-ltb}
-use lib.Dec.{ltb}
 use lib.ListN.{length, take, drop, replicate, length-replicate}
 use Rattle.refusals.specs.declared.Refusal.{Refusal}
 use Rattle.refusals.specs.declared.Refusal.the-variants.{Log, Form}
@@ -17,10 +16,7 @@ use Rattle.table_bytes.specs.Layout.{emptied}
 use Rattle.table.specs.Table.{After, after, setUp}
 use Rattle.table.proofs.Answers.{set-up-on}
 use Rattle.table.proofs.Emptied.{emptied-length}
-use Rattle.text.specs.declared.Line.{Line}
-use Rattle.text.specs.declared.Row.{Row}
-use Rattle.text.specs.Lines.{newline, field, headerText, lineOf}
-use Rattle.feed.specs.declared.Fed.{Fed}
+use Rattle.text.specs.Lines.{field, headerText, lineOf}
 use Rattle.feed.specs.declared.Fed.the-variants.{Bad}
 use Rattle.feed.specs.declared.Fed.the-variants as fed-as
 use Rattle.feed.specs.Feed.{blocksIn, blocksInto, fed}

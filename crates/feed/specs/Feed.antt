@@ -41,10 +41,11 @@ abbrev pub badIn : List ℕ → ℕ → ℕ
 badIn c zero = 0
 badIn c (suc k) = badIn c k + cond (good (blockAt c k)) 0 1
 
--- how many records the first k blocks have; a bad one has none
+-- how many records of a block are received; of a bad one none
 abbrev pub recordsOf : List ℕ → ℕ
 recordsOf b = cond (good b) (countOf b) 0
 
+-- .. of the first k blocks
 abbrev pub recordsIn : List ℕ → ℕ → ℕ
 recordsIn c zero = 0
 recordsIn c (suc k) = recordsIn c k + recordsOf (blockAt c k)

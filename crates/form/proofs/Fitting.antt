@@ -1,16 +1,15 @@
 -- The laws of the walk over a line's words and a text's lines: a piece passed, and the rest.
 -- Assumes nothing.
 use Prim.Native.Nat.{ℕ, suc, _+_, _-_, _<_, _≤_}
-use native.Mathlib.Numerals.{add-one}
 use mathlib.Core.Path.{_≡_, refl, sym, ap, ap₂, _∙_}
-use mathlib.Core.Bool.{Bool, true, false, cond, not, _&&_, _||_, and-false}
-use mathlib.Core.List.{List, [], _∷_, _++_}
+use mathlib.Core.Bool.{Bool, true, false, _&&_, _||_, and-false}
+use mathlib.Core.List.{List, [], _∷_}
 use native.Mathlib.Omega.{arith}
-use borrow.Author.Tests.{eqb-true, eqb-false, ne-eqb, eq-eqb, le-leb, lt-leb, lt-ltb, le-ltb, leb-true, leb-false, ltb-true, ltb-false}
-use lib.Dec.{eqb, leb, ltb}
-use lib.ListN.{length, take, drop, getD, length-take, length-drop, drop-of-length-le}
+use borrow.Author.Tests.{eqb-true, eqb-false, ne-eqb, eq-eqb, ltb-true, ltb-false}
+use lib.Dec.{eqb, ltb}
+use lib.ListN.{length, drop, getD, length-take, length-drop, drop-of-length-le}
 use lib.Seq.{drop-cons}
-use Rattle.form.specs.Form.{pieces, same, Sort, Kind, Coarse, Address, Figure, Word, clockWord, tracksWord, badWord, fits, allFit, isKind, isCoarse, isAddress, isFigure, headerSorts, lineSorts, coarseSorts, headerForm, lineForm, linesForm, bodyForm, textForm, inForm}
+use Rattle.form.specs.Form.{pieces, same, clockWord, tracksWord, badWord, fits, allFit, isKind, isCoarse, isAddress, isFigure, headerForm, lineForm, linesForm, bodyForm, textForm, inForm}
 use Rattle.form.specs.Scan.{part, piecesFrom, Ends, sortOf, sortsOf}
 use Rattle.form.proofs.Pieces.{some-piece}
 use Rattle.form.proofs.Loops.{past, from-here, same-length}

@@ -1,28 +1,23 @@
 -- Our own texts are in the form.
 -- Assumes nothing.
 use Prim.Native.Nat.{ℕ, zero, suc, _+_, _-_, _*_, _/_, _%_, _^_, _<_, _≤_}
-use mathlib.Core.Path.{_≡_, refl, sym, ap, ap₂, _∙_}
+use mathlib.Core.Path.{_≡_, refl, sym, ap, _∙_}
 use mathlib.Core.Bool.{Bool, true, false, cond, not, _&&_, _||_}
 use mathlib.Core.List.{List, [], _∷_, _++_}
 use native.Mathlib.Omega.{arith}
 use borrow.Author.Tests.{lt-ltb, le-ltb, ltb-true, ltb-false, le-leb, leb-true, ne-eqb, eq-eqb}
-use lib.Dec.{ltb, leb, eqb}
+use lib.Dec.{ltb, leb}
 use lib.Pow.{pow-add}
-use lib.ListN.{length, drop, getD, length-append, List·getD-append}
+use lib.ListN.{length, getD, length-append, List·getD-append}
 use Rattle.fields.proofs.Bools.{both, and-left, and-right}
 use Rattle.text.specs.Numbers.{decimalIn, decimal, hex, hexDigit, minus, signed}
 use Rattle.text.proofs.Digits.{decimal-small, decimal-most}
 use lib.IntN.{ℤ, pos, negsuc, natAbs}
 use lib.Signed.{ltZ}
-use mathlib.Core.Bool.{or-true, or-false}
-use Rattle.text.specs.Lines.{space, newline, field, figure, clockLabel, tracksLabel, badLabel, headerText, keyText, rowText}
-use Rattle.text.specs.declared.Figure.{Figure}
-use Rattle.text.specs.declared.Figure.the-variants.{Unknown, Known}
-use Rattle.text.specs.declared.Row.{Row}
+use mathlib.Core.Bool.{or-true}
 use Rattle.text.proofs.Digits.{hex-length}
-use mathlib.Core.List.{append-assoc}
-use Rattle.form.specs.Form.{pieces, same, isDigit, isHexDigit, all, isPositive, isNegative, isFigure, isKind, isAddress, Sort, fits, allFit, clockWord, tracksWord, badWord, headerSorts, lineSorts, headerForm, lineForm, linesForm, textForm, inForm}
-use Rattle.form.proofs.Pieces.{over, over-append, over-less, pieces-cut, pieces-one, same-self}
+use Rattle.form.specs.Form.{same, isDigit, isHexDigit, all, isPositive, isNegative, isFigure, isAddress}
+use Rattle.form.proofs.Pieces.{over}
 
 all-append : (test : ℕ → Bool) (v w : List ℕ) → all test v ≡ true → all test w ≡ true → all test (v ++ w) ≡ true
 unfolding all

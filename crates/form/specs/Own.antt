@@ -1,5 +1,5 @@
 -- The rows whose numbers fit 64 bits, as every row in the code does.
-use Prim.Native.Nat.{ℕ, _^_, _<_}
+use Prim.Native.Nat.{_^_, _<_}
 use lib.IntN.{natAbs}
 use Rattle.text.specs.declared.Figure.{Figure}
 use Rattle.text.specs.declared.Figure.the-variants.{Unknown, Known}

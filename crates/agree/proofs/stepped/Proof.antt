@@ -3,7 +3,7 @@
 use lib.IntN.{ℤ}
 use mir.Syntax.{w64}
 use mir.Facts.{toZ-ofZ}
-use mathlib.Core.Path.{_≡_, refl, sym, ap, ap₂, _∙_}
+use mathlib.Core.Path.{_≡_, refl, sym, ap, _∙_}
 use Rattle.agree.specs.declared.Way.{Way}
 use Rattle.agree.specs.Near.{up, down, east, west, stepped}
 use borrow.Author.Needs.{needs}
