@@ -124,7 +124,10 @@ enum {
 #define ADDERCOIL_KEY_COARSE(aa, flag, station)                       \
     (0x80000000u | ((uint32_t)(aa) & 0xFFFFFFu) << 5 | ((uint32_t)(flag) & 1u) << 4 | ((uint32_t)(station) & 15u))
 
-/* Of any key its kind and AA; of one of kind C also the flag and the station, which are 0 of all others. */
+/*
+ * Of any key its kind and AA; of one of kind C also the flag and the station, which are 0 of all others. Each evaluates its
+ * argument twice.
+ */
 #define ADDERCOIL_KEY_IS_COARSE(key) ((uint32_t)(key) >> 31 != 0)
 #define ADDERCOIL_KEY_KIND(key) (ADDERCOIL_KEY_IS_COARSE(key) ? (uint32_t)ADDERCOIL_KIND_C : (uint32_t)(key) >> 24)
 #define ADDERCOIL_KEY_AA(key) ((ADDERCOIL_KEY_IS_COARSE(key) ? (uint32_t)(key) >> 5 : (uint32_t)(key)) & 0xFFFFFFu)

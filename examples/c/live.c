@@ -188,9 +188,10 @@ static int number_in(const char *word, double least, double most, double *number
     return end != word && *end == '\0' && *number >= least && *number <= most;
 }
 
-/* Degrees in 2^-32 of a turn. */
+/* Degrees in 2^-32 of a turn, rounded. */
 static int64_t units(double degrees) {
-    return (int64_t)(degrees / 360 * 4294967296.0);
+    double exact = degrees / 360 * 4294967296.0;
+    return (int64_t)(exact < 0 ? exact - 0.5 : exact + 0.5);
 }
 
 /* Sets the table up as the words ask, and says the seconds; whether there are such words. */

@@ -116,15 +116,15 @@ near-longitudes x f h (longitude-within {a = a} {b = b} (l, inr (inr e))) =
 
 -- ---- what is beside a figure of ours has at most 20 digits
 
-apart-sized : (a b : ℤ) → mag b < 4294967296 → UnitApart a b → natAbs a < 2 ^ 64
+apart-sized : (a b : ℤ) → mag b < 4294967296 → UnitApart a b → natAbs a < 10 ^ 20
 apart-sized a b h (inl e) = rw e (size b h)
   where
-    size : (z : ℤ) → mag z < 4294967296 → natAbs z < 2 ^ 64
+    size : (z : ℤ) → mag z < 4294967296 → natAbs z < 10 ^ 20
     size (pos n) l = omega arith
     size (negsuc n) l = omega arith
 apart-sized a (pos n) h (inr (inl e)) = rw e (omega arith)
-apart-sized a (negsuc n) h (inr (inl e)) = rw e (by-test (λ (z : ℤ). natAbs z < 2 ^ 64) (ltb 1 (suc n)) _ _ (λ _. omega arith) (λ _. omega arith))
-apart-sized a (pos n) h (inr (inr e)) = rw e (by-test (λ (z : ℤ). natAbs z < 2 ^ 64) (ltb n 1) _ _ (λ _. omega arith) (λ _. omega arith))
+apart-sized a (negsuc n) h (inr (inl e)) = rw e (by-test (λ (z : ℤ). natAbs z < 10 ^ 20) (ltb 1 (suc n)) _ _ (λ _. omega arith) (λ _. omega arith))
+apart-sized a (pos n) h (inr (inr e)) = rw e (by-test (λ (z : ℤ). natAbs z < 10 ^ 20) (ltb n 1) _ _ (λ _. omega arith) (λ _. omega arith))
 apart-sized a (negsuc n) h (inr (inr e)) = rw e (omega arith)
 
 near-latitude : (y f : Figure) → OnGlobe f → Latitudes y f → Sized y

@@ -56,15 +56,15 @@ longitude-by n false h = (tt, tt)
 -- ---- an altitude, of any code
 
 abbrev Short : Altitude → Type 0
-Short (altitude.Feet z step) = (natAbs z < 2 ^ 64) × (step < 2 ^ 64)
+Short (altitude.Feet z step) = (natAbs z < 10 ^ 20) × (step < 10 ^ 20)
 Short altitude.Unknown = Unit {0}
 Short (altitude.Refused r) = Unit {0}
 
-less-sized : (n k : ℕ) → n < 2 ^ 32 → k < 2 ^ 32 → natAbs (pos n -ℤ pos k) < 2 ^ 64
+less-sized : (n k : ℕ) → n < 2 ^ 32 → k < 2 ^ 32 → natAbs (pos n -ℤ pos k) < 10 ^ 20
 less-sized n zero p q = omega arith
 less-sized n (suc k) p q = by (ltb n (suc k))
   where
-    by : (t : Bool) → natAbs (cond t (negsuc (suc k - suc n)) (pos (n - suc k))) < 2 ^ 64
+    by : (t : Bool) → natAbs (cond t (negsuc (suc k - suc n)) (pos (n - suc k))) < 10 ^ 20
     by true = omega arith
     by false = omega arith
 
@@ -81,7 +81,7 @@ hundreds-most : (code : ℕ) → hundreds code < 8
 unfolding hundreds
 hundreds-most code = gray-most _ _ 4 (gray-most _ _ 2 (gray-most 0 (bit 1 code) 1 (omega arith)))
 
-by-hundreds : (f h : ℕ) → f < 256 → h < 8 → natAbs (pos (500 * f + 100 * sixLess f (straight h)) -ℤ pos 1300) < 2 ^ 64
+by-hundreds : (f h : ℕ) → f < 256 → h < 8 → natAbs (pos (500 * f + 100 * sixLess f (straight h)) -ℤ pos 1300) < 10 ^ 20
 unfolding straight sixLess
 by-hundreds f h p q =
     let s : cond (eqb h 7) 5 h < 8 = by-test (λ (n : ℕ). n < 8) (eqb h 7) 5 h (λ _. omega arith) (λ _. q) in
@@ -115,7 +115,7 @@ row-ours key t f =
     let y = latitude-by (t .position .spot .latitude) (t .position .known) (leb-true (natAbs (t .position .spot .latitude)) 1073741824 (f .position .latitude)) in
     let x = longitude-by (t .position .spot .longitude) (t .position .known) (f .position .longitude) in
     let a = altitude-sized (altitudeOf (t .groups .pressure)) (altitude-short (t .groups .pressure)) in
-    (record { heard = f .heard; latitude = y .0; longitude = x .0; altitude = a .0; step = a .1 }, record { latitude = y .1; longitude = x .1 })
+    (record { heard = omega (arith, f .heard); latitude = y .0; longitude = x .0; altitude = a .0; step = a .1 }, record { latitude = y .1; longitude = x .1 })
 
 -- each of some rows is
 pub data AllOurs : List Row → Type 0 where
@@ -167,4 +167,4 @@ module _ (s : List ℕ) (b : Bytes s) where
   pub listing-in-form : (bad : ℕ) → bad < 2 ^ 64 → inForm (listing true s bad) ≡ true
   unfolding listing headerFor
   listing-in-form bad h =
-      header-then (clockOf s) (length (rowsIn true s)) bad (number-lt 8 s clockAt b) (omega (arith, below-most endOfKeys)) h (texts (rowsIn true s)) (texts-form rows-ours)
+      header-then (clockOf s) (length (rowsIn true s)) bad (omega (arith, number-lt 8 s clockAt b)) (omega (arith, below-most endOfKeys)) (omega (arith, h)) (texts (rowsIn true s)) (texts-form rows-ours)

@@ -42,13 +42,13 @@ badIn c zero = 0
 badIn c (suc k) = badIn c k + cond (good (blockAt c k)) 0 1
 
 -- how many records of a block are received; of a bad one none
-abbrev pub recordsOf : List ℕ → ℕ
-recordsOf b = cond (good b) (countOf b) 0
+abbrev pub goodRecords : List ℕ → ℕ
+goodRecords b = cond (good b) (countOf b) 0
 
 -- .. of the first k blocks
 abbrev pub recordsIn : List ℕ → ℕ → ℕ
 recordsIn c zero = 0
-recordsIn c (suc k) = recordsIn c k + recordsOf (blockAt c k)
+recordsIn c (suc k) = recordsIn c k + goodRecords (blockAt c k)
 
 -- 7 comes before any block's 11
 unfoldable pub fed : List ℕ → List ℕ → After Fed

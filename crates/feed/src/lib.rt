@@ -8,7 +8,7 @@ ghost use Prim.Native.Nat.{_*_, _≤_, _<_};
 ghost use lib.ListN.{length};
 ghost use Rattle.capture.specs.Block.{good, timeOf, messageOf};
 ghost use Rattle.table.specs.Table.{after, received};
-ghost use Rattle.feed.specs.Feed.{recordsInto, blockInto, counted, blocksIn, blockAt, blocksInto, badIn, recordsOf, recordsIn, fed, fedBlock};
+ghost use Rattle.feed.specs.Feed.{recordsInto, blockInto, counted, blocksIn, blockAt, blocksInto, badIn, goodRecords, recordsIn, fed, fedBlock};
 
 pub enum Fed {
     // how many blocks are bad
@@ -103,7 +103,7 @@ fn take_blocks(table: &mut [u8], capture: &[u8]) -> u64
 
 // How many records of a block are received: none of a bad one.
 fn block_records(block: &[u8]) -> usize
-    ensures { λ r. ⌜ (r ≡ recordsOf (now (block .entry))) × (r ≤ 23) ⌝ }
+    ensures { λ r. ⌜ (r ≡ goodRecords (now (block .entry))) × (r ≤ 23) ⌝ }
 {
     let b = capture::block_of(block);
     match b {

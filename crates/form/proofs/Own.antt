@@ -67,7 +67,7 @@ positive : (w : List ℕ) → Leads w → length w ≤ 20 → all isDigit w ≡ 
 unfolding isPositive
 positive w l m d = both (both (both (le-leb 1 (length w) (l .0)) (le-leb (length w) 20 m)) d) (ap not (ne-eqb (getD w 0 0) 48 (λ e. omega (arith, l .1))))
 
-pub decimal-positive : (n : ℕ) → 1 ≤ n → n < 2 ^ 64 → isPositive (decimal n) ≡ true
+pub decimal-positive : (n : ℕ) → 1 ≤ n → n < 10 ^ 20 → isPositive (decimal n) ≡ true
 unfolding decimal
 decimal-positive n l h = positive (decimalIn 20 n) (decimal-leads 20 n l (omega arith)) (decimal-most n) (decimal-digits 20 n)
 
@@ -98,16 +98,16 @@ unfolding isFigure isNegative
 minus-figure w p =
     either-right (same (45 ∷ w) (45 ∷ []) || same (45 ∷ w) (48 ∷ []) || isPositive (45 ∷ w)) (isPositive w) p
 
-decimal-by : (n : ℕ) → n < 2 ^ 64 → (t : Bool) → ltb 0 n ≡ t → isFigure (decimal n) ≡ true
+decimal-by : (n : ℕ) → n < 10 ^ 20 → (t : Bool) → ltb 0 n ≡ t → isFigure (decimal n) ≡ true
 decimal-by n h true e = positive-figure (decimal n) (decimal-positive n (ltb-true 0 n e) h)
 decimal-by n h false e =
     let z : n ≡ 0 = omega (arith, ltb-false 0 n e) in
     ap (λ (m : ℕ). isFigure (decimal m)) z ∙ ap isFigure (decimal-small 0 (omega arith)) ∙ zero-figure
 
-pub decimal-figure : (n : ℕ) → n < 2 ^ 64 → isFigure (decimal n) ≡ true
+pub decimal-figure : (n : ℕ) → n < 10 ^ 20 → isFigure (decimal n) ≡ true
 decimal-figure n h = decimal-by n h (ltb 0 n) refl
 
-pub signed-figure : (z : ℤ) → natAbs z < 2 ^ 64 → isFigure (signed z) ≡ true
+pub signed-figure : (z : ℤ) → natAbs z < 10 ^ 20 → isFigure (signed z) ≡ true
 unfolding signed
 signed-figure (pos n) h = ap (λ (t : Bool). isFigure (cond t (minus ++ decimal n) (decimal n))) (le-ltb n 0 (omega arith)) ∙ decimal-figure n h
 signed-figure (negsuc n) h = minus-figure (decimal (suc n)) (decimal-positive (suc n) (omega arith) h)

@@ -109,7 +109,7 @@ letter-listed (suc (suc (suc (suc zero)))) = refl
 letter-listed (suc (suc (suc (suc (suc i))))) = refl
 
 -- the words of a key, before columns in the form, are those of a line
-module _ (flag station i address : ℕ) (ws : List (List ℕ)) (p : allFit columnSorts ws ≡ true) (f : flag < 2 ^ 64) (t : station < 2 ^ 64) where
+module _ (flag station i address : ℕ) (ws : List (List ℕ)) (p : allFit columnSorts ws ≡ true) (f : flag < 10 ^ 20) (t : station < 10 ^ 20) where
   form-by : (coarse : Bool)
       → allFit lineSorts ((letterOf (cond coarse (C flag station) (getD kinds i N)) ∷ []) ∷ (hex 6 address ∷ (senderBy coarse flag station ++ ws)))
       || allFit coarseSorts ((letterOf (cond coarse (C flag station) (getD kinds i N)) ∷ []) ∷ (hex 6 address ∷ (senderBy coarse flag station ++ ws))) ≡ true
@@ -233,7 +233,7 @@ pub header-over : (clock tracks bad : ℕ) → over 10 (headerLine clock tracks 
 unfolding headerLine
 header-over clock tracks bad = line-over clockWord (headerWords clock tracks bad) clock-over (header-words-over clock tracks bad)
 
-pub header-form : (clock tracks bad : ℕ) → clock < 2 ^ 64 → tracks < 2 ^ 64 → bad < 2 ^ 64 → headerForm (headerLine clock tracks bad) ≡ true
+pub header-form : (clock tracks bad : ℕ) → clock < 10 ^ 20 → tracks < 10 ^ 20 → bad < 10 ^ 20 → headerForm (headerLine clock tracks bad) ≡ true
 unfolding headerLine headerForm allFit fits
 header-form clock tracks bad p q r =
     ap (allFit headerSorts) (pieces-spaced clockWord (headerWords clock tracks bad) clock-over (header-words-over clock tracks bad))
@@ -259,7 +259,7 @@ row-then r f rest q =
     ∙ body-by (rowLine r) (pieces 10 rest) (row-form r f) q
 
 -- our header before rows is a text in the form
-pub header-then : (clock tracks bad : ℕ) → clock < 2 ^ 64 → tracks < 2 ^ 64 → bad < 2 ^ 64 → (rest : List ℕ) → bodyForm (pieces 10 rest) ≡ true → inForm (headerText clock tracks bad ++ rest) ≡ true
+pub header-then : (clock tracks bad : ℕ) → clock < 10 ^ 20 → tracks < 10 ^ 20 → bad < 10 ^ 20 → (rest : List ℕ) → bodyForm (pieces 10 rest) ≡ true → inForm (headerText clock tracks bad ++ rest) ≡ true
 unfolding inForm textForm
 header-then clock tracks bad p q r rest t =
     ap (λ (x : List ℕ). textForm (pieces 10 x)) (header-cut clock tracks bad rest)

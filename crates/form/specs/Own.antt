@@ -1,4 +1,4 @@
--- The rows whose numbers fit 64 bits, as every row in the code does.
+-- The rows whose numbers have at most 20 digits, as every row in the code does: 64 bits hold no longer one.
 use Prim.Native.Nat.{_^_, _<_}
 use lib.IntN.{natAbs}
 use Rattle.text.specs.declared.Figure.{Figure}
@@ -7,10 +7,10 @@ use Rattle.text.specs.declared.Row.{Row}
 
 abbrev pub Sized : Figure → Type 0
 Sized Unknown = Unit {0}
-Sized (Known z) = natAbs z < 2 ^ 64
+Sized (Known z) = natAbs z < 10 ^ 20
 
 pub record Fitting (r : Row) : Type 0 where
-  pub heard : r .heard < 2 ^ 64
+  pub heard : r .heard < 10 ^ 20
   pub latitude : Sized (r .latitude)
   pub longitude : Sized (r .longitude)
   pub altitude : Sized (r .altitude)

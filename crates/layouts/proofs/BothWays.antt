@@ -19,7 +19,7 @@ use Rattle.layouts.specs.Coarse.{coarseWidths}
 use Rattle.layouts.specs.Layouts.{isIdentification, isSurface, isAirborne, identificationWidths, surfaceWidths, airborneWidths}
 use Rattle.layouts.specs.Status.{isStatus, statusWidths}
 use Rattle.layouts.specs.Velocity.{isGround, isAir, velocityWidths}
-use Rattle.layouts.specs.Bodies.{layoutAt, typeIn, layoutOf, layoutBy, typeBy, flagBy, flagIn, stationIn, layoutWidths, takenAs, takenBy, bodyLayout, bodyCoarse, bodyType, flagOf, stationOf, bodyFields, bodyWidths, typeAgrees, bodyMe, bodyFits, written}
+use Rattle.layouts.specs.Bodies.{layoutAt, typeIn, layoutBy, typeBy, flagBy, flagIn, stationIn, layoutWidths, takenAs, takenBy, bodyLayout, bodyCoarse, bodyType, flagOf, stationOf, bodyFields, bodyWidths, typeAgrees, bodyMe, bodyFits, written}
 use Rattle.layouts.specs.declared.bodies.Body.{Body}
 use Rattle.layouts.specs.declared.bodies.Body.the-variants as body
 use Rattle.layouts.specs.declared.bodies.Layout.{Layout}

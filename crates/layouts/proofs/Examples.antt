@@ -1,14 +1,14 @@
 -- Published MEs with their fields, a coarse one, and what is not taken: T and F, the two speeds, latitude and longitude are unlike, so none could be swapped. Each is computed.
 -- Assumes nothing.
-use mathlib.Core.Bool.{true}
+use mathlib.Core.Bool.{true, false}
 use mathlib.Core.Path.{_≡_, refl}
 use Rattle.refusals.specs.declared.Refusal.the-variants.{TypeCode}
-use Rattle.layouts.specs.Bodies.{taken, takenBy}
+use Rattle.layouts.specs.Bodies.{takenBy}
 use Rattle.layouts.specs.declared.bodies.Body.the-variants as body
 use Rattle.layouts.specs.declared.bodies.Taken.the-variants as read
 
 -- of the message 8C4841753A8A35323FAEBDAC702D
-pub surface : taken 0x3A8A35323FAEBD
+pub surface : takenBy false 0x3A8A35323FAEBD
     ≡ read.Body (body.Surface (record {
       typecode = 7;
       movement = 40;
@@ -22,7 +22,7 @@ pub surface : taken 0x3A8A35323FAEBD
 surface = refl
 
 -- of the message 8D485020994409940838175B284F
-pub ground : taken 0x99440994083817
+pub ground : takenBy false 0x99440994083817
     ≡ read.Body (body.Ground (record {
       typecode = 19;
       subtype = 1;
@@ -38,7 +38,7 @@ pub ground : taken 0x99440994083817
 ground = refl
 
 -- the same but for the second direction bit: west and not south, so that neither bit is taken for the other
-pub west-not-south : taken 0x99440914083817
+pub west-not-south : takenBy false 0x99440914083817
     ≡ read.Body (body.Ground (record {
       typecode = 19;
       subtype = 1;
@@ -54,7 +54,7 @@ pub west-not-south : taken 0x99440914083817
 west-not-south = refl
 
 -- TYPE 0, with no other field 0: none is dropped
-pub no-position : taken 0x07381ED690C8AC
+pub no-position : takenBy false 0x07381ED690C8AC
     ≡ read.Body (body.Airborne (record {
       typecode = 0;
       surveillance = 3;
@@ -68,7 +68,7 @@ pub no-position : taken 0x07381ED690C8AC
 no-position = refl
 
 -- status on the surface, of version 2, with supplement C and not A, so that neither bit is taken for the other
-pub status : taken 0xF954B912344AB5
+pub status : takenBy false 0xF954B912344AB5
     ≡ read.Body (body.Status (record {
       typecode = 31;
       subtype = 1;
@@ -104,9 +104,9 @@ pub coarse : takenBy true 0x9CB46ACDABC567
 coarse = refl
 
 -- TYPE 23, TYPE 19 with subtypes 0 and 5, and TYPE 31 with subtypes 2 and 7
-pub not-taken : (taken 0xB8000000000000 ≡ read.Refused TypeCode)
-    × (taken 0x98000000000000 ≡ read.Refused TypeCode)
-    × (taken 0x9D000000000000 ≡ read.Refused TypeCode)
-    × (taken 0xFA000000000000 ≡ read.Refused TypeCode)
-    × (taken 0xFF000000000000 ≡ read.Refused TypeCode)
+pub not-taken : (takenBy false 0xB8000000000000 ≡ read.Refused TypeCode)
+    × (takenBy false 0x98000000000000 ≡ read.Refused TypeCode)
+    × (takenBy false 0x9D000000000000 ≡ read.Refused TypeCode)
+    × (takenBy false 0xFA000000000000 ≡ read.Refused TypeCode)
+    × (takenBy false 0xFF000000000000 ≡ read.Refused TypeCode)
 not-taken = (refl, refl, refl, refl, refl)

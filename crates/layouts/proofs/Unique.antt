@@ -4,8 +4,6 @@ use mathlib.Core.Path.{sym, _∙_}
 use Rattle.refusals.specs.Answers.{OneAnswer}
 use Rattle.layouts.proofs.airborne.airborne_of.Kinds as airborne-of-kinds
 use Rattle.layouts.proofs.airborne.airborne_of.Reads as airborne-of
-use Rattle.layouts.proofs.bodies.body_as.Kinds as body-as-kinds
-use Rattle.layouts.proofs.bodies.body_as.Reads as body-as
 use Rattle.layouts.proofs.bodies.body_by.Kinds as body-by-kinds
 use Rattle.layouts.proofs.bodies.body_by.Reads as body-by
 use Rattle.layouts.proofs.bodies.is_coarse.Kinds as is-coarse-kinds
@@ -42,6 +40,8 @@ use Rattle.layouts.proofs.surface.surface_of.Kinds as surface-of-kinds
 use Rattle.layouts.proofs.surface.surface_of.Reads as surface-of
 use Rattle.layouts.proofs.airborne.airborne_fits.Kinds as airborne-fits-kinds
 use Rattle.layouts.proofs.airborne.airborne_fits.Reads as airborne-fits
+use Rattle.layouts.proofs.identification.identification_of.Kinds as identification-of-kinds
+use Rattle.layouts.proofs.identification.identification_of.Reads as identification-of
 use Rattle.layouts.proofs.identification.identification_fits.Kinds as identification-fits-kinds
 use Rattle.layouts.proofs.identification.identification_fits.Reads as identification-fits
 use Rattle.layouts.proofs.surface.surface_fits.Kinds as surface-fits-kinds
@@ -50,6 +50,10 @@ use Rattle.layouts.proofs.status.status_of.Kinds as status-of-kinds
 use Rattle.layouts.proofs.status.status_of.Reads as status-of
 use Rattle.layouts.proofs.status.status_fits.Kinds as status-fits-kinds
 use Rattle.layouts.proofs.status.status_fits.Reads as status-fits
+use Rattle.layouts.proofs.velocity.ground_of.Kinds as ground-of-kinds
+use Rattle.layouts.proofs.velocity.ground_of.Reads as ground-of
+use Rattle.layouts.proofs.velocity.air_of.Kinds as air-of-kinds
+use Rattle.layouts.proofs.velocity.air_of.Reads as air-of
 use Rattle.layouts.proofs.velocity.ground_fits.Kinds as ground-fits-kinds
 use Rattle.layouts.proofs.velocity.ground_fits.Reads as ground-fits
 use Rattle.layouts.proofs.velocity.air_fits.Kinds as air-fits-kinds
@@ -91,6 +95,9 @@ airborne-of-once κs args x y left left′ p q = p ∙ sym q
 pub airborne-fits-once : OneAnswer 0 airborne-fits-kinds.ps airborne-fits-kinds.r airborne-fits.Post
 airborne-fits-once κs args x y left left′ p q = p ∙ sym q
 
+pub identification-of-once : OneAnswer 0 identification-of-kinds.ps identification-of-kinds.r identification-of.Post
+identification-of-once κs args x y left left′ p q = p ∙ sym q
+
 pub identification-fits-once : OneAnswer 0 identification-fits-kinds.ps identification-fits-kinds.r identification-fits.Post
 identification-fits-once κs args x y left left′ p q = p ∙ sym q
 
@@ -103,14 +110,17 @@ status-of-once κs args x y left left′ p q = p ∙ sym q
 pub status-fits-once : OneAnswer 0 status-fits-kinds.ps status-fits-kinds.r status-fits.Post
 status-fits-once κs args x y left left′ p q = p ∙ sym q
 
+pub ground-of-once : OneAnswer 0 ground-of-kinds.ps ground-of-kinds.r ground-of.Post
+ground-of-once κs args x y left left′ p q = p ∙ sym q
+
+pub air-of-once : OneAnswer 0 air-of-kinds.ps air-of-kinds.r air-of.Post
+air-of-once κs args x y left left′ p q = p ∙ sym q
+
 pub ground-fits-once : OneAnswer 0 ground-fits-kinds.ps ground-fits-kinds.r ground-fits.Post
 ground-fits-once κs args x y left left′ p q = p ∙ sym q
 
 pub air-fits-once : OneAnswer 0 air-fits-kinds.ps air-fits-kinds.r air-fits.Post
 air-fits-once κs args x y left left′ p q = p ∙ sym q
-
-pub body-as-once : OneAnswer 0 body-as-kinds.ps body-as-kinds.r body-as.Post
-body-as-once κs args x y left left′ p q = p ∙ sym q
 
 pub is-layout-once : OneAnswer 0 is-layout-kinds.ps is-layout-kinds.r is-layout.Post
 is-layout-once κs args x y left left′ p q = p ∙ sym q

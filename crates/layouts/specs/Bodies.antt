@@ -67,10 +67,6 @@ takenAs layout.NotTaken n = read.Refused TypeCode
 abbrev pub takenBy : Bool → ℕ → Taken
 takenBy coarse n = takenAs (layoutBy coarse n) n
 
--- by TYPE and subtype
-abbrev pub taken : ℕ → Taken
-taken n = takenBy false n
-
 -- the flag that tells the address of a traffic service's message, as source 002 has it: a bit of its own of a coarse message, on the surface, in the air and of a velocity. Identification and status have none, which counts as 0
 abbrev pub flagBy : Layout → ℕ → ℕ → ℕ → ℕ → ℕ
 flagBy layout.Identification coarse surface air velocity = 0

@@ -30,7 +30,7 @@ use crate::velocity::ground_of;
 use refusals::Refusal;
 ghost use mathlib.Core.Path.{_≡_};
 ghost use mathlib.Core.Bool.{true};
-ghost use Rattle.layouts.specs.Bodies.{layoutOf, layoutBy, typeBy, isTaken, flagIn, stationIn, takenAs, takenBy, written, bodyCoarse, bodyType, flagOf, stationOf, bodyMe, bodyFits};
+ghost use Rattle.layouts.specs.Bodies.{layoutOf, layoutBy, typeBy, isTaken, flagIn, stationIn, takenBy, written, bodyCoarse, bodyType, flagOf, stationOf, bodyMe, bodyFits};
 ghost use Rattle.layouts.specs.Layouts.{isPosition};
 
 pub enum Body {
@@ -190,22 +190,6 @@ pub fn body_by(coarse: bool, me: u64) -> Taken
     ensures { λ r. ⌜ r ≡ takenBy coarse me ⌝ }
 {
     let layout = layout_by(coarse, me);
-    match layout {
-        Layout::Identification => Taken::Body(Body::Identification(identification_of(me))),
-        Layout::Surface => Taken::Body(Body::Surface(surface_of(me))),
-        Layout::Airborne => Taken::Body(Body::Airborne(airborne_of(me))),
-        Layout::Ground => Taken::Body(Body::Ground(ground_of(me))),
-        Layout::Air => Taken::Body(Body::Air(air_of(me))),
-        Layout::Status => Taken::Body(Body::Status(status_of(me))),
-        Layout::Coarse => Taken::Body(Body::Coarse(coarse_of(me))),
-        Layout::NotTaken => Taken::Refused(Refusal::TypeCode),
-    }
-}
-
-// The same, for who has the layout already. It is not called above: what has one caller costs less there, and a message pays for it.
-pub fn body_as(layout: Layout, me: u64) -> Taken
-    ensures { λ r. ⌜ r ≡ takenAs layout me ⌝ }
-{
     match layout {
         Layout::Identification => Taken::Body(Body::Identification(identification_of(me))),
         Layout::Surface => Taken::Body(Body::Surface(surface_of(me))),

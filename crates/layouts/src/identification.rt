@@ -12,7 +12,7 @@ pub struct Identification {
     pub characters: u64,
 }
 
-pub(crate) fn identification_of(me: u64) -> Identification
+pub fn identification_of(me: u64) -> Identification
     ensures { λ r. ⌜ r ≡ identificationOf me ⌝ }
 {
     Identification {

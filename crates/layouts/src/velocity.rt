@@ -72,7 +72,7 @@ fn vertical_me(b: Vertical) -> u64
         + (b.difference as u64)
 }
 
-pub(crate) fn ground_of(me: u64) -> Ground
+pub fn ground_of(me: u64) -> Ground
     ensures { λ r. ⌜ r ≡ groundOf me ⌝ }
 {
     Ground {
@@ -89,7 +89,7 @@ pub(crate) fn ground_of(me: u64) -> Ground
     }
 }
 
-pub(crate) fn air_of(me: u64) -> Air
+pub fn air_of(me: u64) -> Air
     ensures { λ r. ⌜ r ≡ airOf me ⌝ }
 {
     Air {

@@ -19,17 +19,19 @@ use Rattle.characters.proofs.Promised.{set-says, text-says}
 use Rattle.layouts.specs.declared.velocity.Vertical.{Vertical}
 use Rattle.layouts.specs.declared.bodies.Body.{Body}
 use Rattle.layouts.specs.declared.bodies.Body.the-variants as body
-use Rattle.layouts.specs.Bodies.{bodyFits}
+use Rattle.layouts.specs.declared.bodies.Taken.{Taken}
+use Rattle.layouts.specs.declared.bodies.Taken.the-variants as read
+use Rattle.layouts.specs.Bodies.{bodyFits, takenAs}
 use Rattle.layouts.proofs.BothWays.{fitting}
 use Rattle.readings.specs.Altitude.{bit, hundreds, altitudeOf}
 use Rattle.readings.specs.Amounts.{Scale, stepped, amount, speeds, rates, differences, speedOf, rateOf, differenceOf}
-use Rattle.readings.specs.Bodies.{heightDifference, bodyReadings, readingsOf}
+use Rattle.readings.specs.Bodies.{heightDifference, bodyReadings, readingsOf, readingsIn}
 use Rattle.readings.specs.Coarse.{coarseSpeedOf}
 use Rattle.readings.specs.Headings.{headingOf}
 use Rattle.readings.specs.Movement.{movementOf}
 use Rattle.readings.specs.Status.{isPublished, hasA, hasC, bitC, versionOf, supplementOf}
 use Rattle.readings.specs.Said.{Amount, unknown, over, figure, altitudeSaid, speedSaid, rateSaid, differenceSaid, headingSaid, movementSaid, coarseSpeedSaid, versionSaid, supplementSaid, readingsSaid}
-use Rattle.readings.specs.Said.{altitudeMeans, speedMeans, rateMeans, differenceMeans, heightMeans, headingMeans, movementMeans, coarseSpeedMeans, versionMeans, supplementMeans, bodyMeans, Given, AllGiven, Alone}
+use Rattle.readings.specs.Said.{altitudeMeans, speedMeans, rateMeans, differenceMeans, heightMeans, headingMeans, movementMeans, coarseSpeedMeans, versionMeans, supplementMeans, bodyMeans, bodySaid, takenSaid, Given, AllGiven, Alone}
 use Rattle.readings.specs.declared.bodies.Readings.the-variants.{Refused}
 use Rattle.readings.proofs.altitude.altitude_of.Kinds as altitude-of-kinds
 use Rattle.readings.proofs.altitude.altitude_of.Reads as altitude-of
@@ -49,6 +51,8 @@ use Rattle.readings.proofs.headings.surface_heading_of.Kinds as surface
 use Rattle.readings.proofs.headings.surface_heading_of.Reads as surface-heading-of
 use Rattle.readings.proofs.movement.movement_of.Kinds as movement-of-kinds
 use Rattle.readings.proofs.movement.movement_of.Reads as movement-of
+use Rattle.readings.proofs.bodies.readings_in.Kinds as readings-in-kinds
+use Rattle.readings.proofs.bodies.readings_in.Reads as readings-in
 use Rattle.readings.proofs.bodies.readings_of.Kinds as readings-of-kinds
 use Rattle.readings.proofs.bodies.readings_of.Reads as readings-of
 
@@ -178,13 +182,17 @@ fitting-says (body.Coarse b) traffic e =
       within 6 (b .speed) (f .1 .1 .1 .1 .1 .1 .0) (coarse-speed-says (b .speed)),
     )
 
-pub readings-say : (b : Body) (traffic : Bool) → readingsSaid (readingsOf b traffic) ≡ cond (bodyFits b) (gives (bodyMeans b traffic)) (number 8)
+pub readings-say : (b : Body) (traffic : Bool) → readingsSaid (readingsOf b traffic) ≡ bodySaid b traffic
 unfolding readingsOf
 readings-say b traffic = by-fit (bodyFits b) refl
   where
     by-fit : (t : Bool) → bodyFits b ≡ t → readingsSaid (cond t (bodyReadings b traffic) (Refused Field)) ≡ cond t (gives (bodyMeans b traffic)) (number 8)
     by-fit true e = fitting-says b traffic e
     by-fit false e = refl
+
+taken-says : (t : Taken) (traffic : Bool) → readingsSaid (readingsIn t traffic) ≡ takenSaid t traffic
+taken-says (read.Body b) traffic = readings-say b traffic
+taken-says (read.Refused r) traffic = refl
 
 -- ---- a refusal stands alone: with no value beside it
 
@@ -253,5 +261,10 @@ coarse-speed-of-promised κs args x left p = ap coarseSpeedSaid p ∙ coarse-spe
 
 pub readings-of-promised : (κs : Lfts 0) (args : Dens κs readings-of-kinds.ps) (x : resT readings-of-kinds.r κs .Denot)
     (left : AtExit (endedOf 0 readings-of-kinds.ps readings-of-kinds.r) κs) → readings-of.Post κs args x left
-    → readingsSaid x ≡ cond (bodyFits (args .0)) (gives (bodyMeans (args .0) (args .1 .0))) (number 8)
+    → readingsSaid x ≡ bodySaid (args .0) (args .1 .0)
 readings-of-promised κs args x left p = ap readingsSaid p ∙ readings-say (args .0) (args .1 .0)
+
+pub readings-in-promised : (κs : Lfts 0) (args : Dens κs readings-in-kinds.ps) (x : resT readings-in-kinds.r κs .Denot)
+    (left : AtExit (endedOf 0 readings-in-kinds.ps readings-in-kinds.r) κs) → readings-in.Post κs args x left
+    → readingsSaid x ≡ takenSaid (takenAs (args .0) (args .1 .0)) (args .1 .1 .0)
+readings-in-promised κs args x left p = ap readingsSaid p ∙ taken-says (takenAs (args .0) (args .1 .0)) (args .1 .1 .0)

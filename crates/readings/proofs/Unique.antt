@@ -20,6 +20,8 @@ use Rattle.readings.proofs.headings.surface_heading_of.Kinds as surface
 use Rattle.readings.proofs.headings.surface_heading_of.Reads as surface-heading-of
 use Rattle.readings.proofs.movement.movement_of.Kinds as movement-of-kinds
 use Rattle.readings.proofs.movement.movement_of.Reads as movement-of
+use Rattle.readings.proofs.bodies.readings_in.Kinds as readings-in-kinds
+use Rattle.readings.proofs.bodies.readings_in.Reads as readings-in
 use Rattle.readings.proofs.bodies.readings_of.Kinds as readings-of-kinds
 use Rattle.readings.proofs.bodies.readings_of.Reads as readings-of
 
@@ -46,6 +48,9 @@ movement-of-once κs args x y left left′ p q = p ∙ sym q
 
 pub readings-of-once : OneAnswer 0 readings-of-kinds.ps readings-of-kinds.r readings-of.Post
 readings-of-once κs args x y left left′ p q = p ∙ sym q
+
+pub readings-in-once : OneAnswer 0 readings-in-kinds.ps readings-in-kinds.r readings-in.Post
+readings-in-once κs args x y left left′ p q = p ∙ sym q
 
 pub angle-of-once : OneAnswer 0 angle-of-kinds.ps angle-of-kinds.r angle-of.Post
 angle-of-once κs args x y left left′ p q = p ∙ sym q

@@ -12,6 +12,8 @@ use Rattle.layouts.specs.declared.status.Status.{Status}
 use Rattle.layouts.specs.declared.coarse.Coarse.{Coarse}
 use Rattle.layouts.specs.declared.bodies.Body.{Body}
 use Rattle.layouts.specs.declared.bodies.Body.the-variants as body
+use Rattle.layouts.specs.declared.bodies.Taken.{Taken}
+use Rattle.layouts.specs.declared.bodies.Taken.the-variants as read
 use Rattle.layouts.specs.Bodies.{bodyFits}
 use Rattle.readings.specs.Altitude.{altitudeOf}
 use Rattle.readings.specs.Amounts.{speedOf, rateOf, differenceOf}
@@ -93,3 +95,8 @@ bodyReadings (body.Coarse b) traffic = readings.Coarse (coarseMeans b)
 -- a field wider than its bits, or a TYPE or subtype of another layout, is refused
 unfoldable pub readingsOf : Body → Bool → Readings
 readingsOf b traffic = cond (bodyFits b) (bodyReadings b traffic) (readings.Refused Field)
+
+-- of what the 56 bits of ME say; where that is a refusal, so are the readings
+abbrev pub readingsIn : Taken → Bool → Readings
+readingsIn (read.Body b) traffic = readingsOf b traffic
+readingsIn (read.Refused r) traffic = readings.Refused r

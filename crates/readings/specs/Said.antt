@@ -1,6 +1,6 @@
 -- What each reading says in document 01's terms: a number of its table, or what the code means.
 use Prim.Native.Nat.{ℕ}
-use mathlib.Core.Bool.{Bool}
+use mathlib.Core.Bool.{Bool, cond}
 use mathlib.Core.List.{List}
 use lib.IntN.{ℤ, pos}
 use Rattle.refusals.specs.Numbers.{numberOf}
@@ -9,6 +9,9 @@ use Rattle.characters.specs.Said.{SetName, categorySetSaid, textSaid, setMeans,
 use Rattle.layouts.specs.declared.velocity.Vertical.{Vertical}
 use Rattle.layouts.specs.declared.bodies.Body.{Body}
 use Rattle.layouts.specs.declared.bodies.Body.the-variants as body
+use Rattle.layouts.specs.declared.bodies.Taken.{Taken}
+use Rattle.layouts.specs.declared.bodies.Taken.the-variants as read
+use Rattle.layouts.specs.Bodies.{bodyFits}
 use Rattle.readings.specs.Altitude.{altitudeBy}
 use Rattle.readings.specs.Amounts.{stepped, speeds, rates, differences}
 use Rattle.readings.specs.Bodies.{isGnss, ifThere}
@@ -171,6 +174,14 @@ bodyMeans (body.Status b) traffic =
     (gives (supplementMeans (hasA (b .version)) (b .supplementa)))
     (gives (supplementMeans (hasC (b .version)) (bitC (b .subtype) (b .bit20))))
 bodyMeans (body.Coarse b) traffic = coarse (gives (altitudeMeans (b .altitude))) (gives (headingMeans 5 (b .angle))) (gives (coarseSpeedMeans (b .speed)))
+
+-- .. and of a body: 8 where it does not fit; of what the 56 bits of ME say also what they are refused with
+abbrev pub bodySaid : Body → Bool → Said Meaning
+bodySaid b traffic = cond (bodyFits b) (gives (bodyMeans b traffic)) (number 8)
+
+abbrev pub takenSaid : Taken → Bool → Said Meaning
+takenSaid (read.Body b) traffic = bodySaid b traffic
+takenSaid (read.Refused r) traffic = number (numberOf r)
 
 -- ---- a refusal stands alone
 

@@ -30,12 +30,14 @@ use layouts::Body;
 use layouts::Coarse;
 use layouts::Ground;
 use layouts::Identification;
+use layouts::Layout;
 use layouts::Status;
 use layouts::Surface;
 use refusals::Refusal;
 ghost use mathlib.Core.Path.{_≡_};
 ghost use mathlib.Core.Bool.{Bool};
-ghost use Rattle.readings.specs.Bodies.{heightDifference, readingsOf};
+ghost use Rattle.layouts.specs.Bodies.{takenAs};
+ghost use Rattle.readings.specs.Bodies.{heightDifference, readingsOf, readingsIn};
 
 pub struct IdentificationReadings {
     pub set: CategorySet,
@@ -215,5 +217,21 @@ pub fn readings_of(b: Body, traffic: bool) -> Readings
         Body::Air(x) => air_readings(x, traffic),
         Body::Status(x) => status_readings(x),
         Body::Coarse(x) => coarse_readings(x),
+    }
+}
+
+// The same of the 56 bits of ME in a layout, with no body between: a message that is decoded pays for it.
+pub fn readings_in(layout: Layout, me: u64, traffic: bool) -> Readings
+    ensures { λ r. ⌜ r ≡ readingsIn (takenAs layout me) traffic ⌝ }
+{
+    match layout {
+        Layout::Identification => identification_readings(layouts::identification_of(me)),
+        Layout::Surface => surface_readings(layouts::surface_of(me)),
+        Layout::Airborne => airborne_readings(layouts::airborne_of(me)),
+        Layout::Ground => ground_readings(layouts::ground_of(me), traffic),
+        Layout::Air => air_readings(layouts::air_of(me), traffic),
+        Layout::Status => status_readings(layouts::status_of(me)),
+        Layout::Coarse => coarse_readings(layouts::coarse_of(me)),
+        Layout::NotTaken => Readings::Refused(Refusal::TypeCode),
     }
 }

@@ -24,6 +24,7 @@ pub use bodies::IdentificationReadings;
 pub use bodies::Readings;
 pub use bodies::StatusReadings;
 pub use bodies::SurfaceReadings;
+pub use bodies::readings_in;
 pub use bodies::readings_of;
 pub use coarse::CoarseSpeed;
 pub use coarse::coarse_speed_of;

@@ -9,7 +9,6 @@ use Rattle.fields.specs.Packing.{unpack}
 use Rattle.layouts.specs.declared.bodies.Layout.{Layout}
 use Rattle.layouts.specs.declared.bodies.Layout.the-variants as layout
 use Rattle.layouts.specs.declared.bodies.Taken.{Taken}
-use Rattle.layouts.specs.declared.bodies.Taken.the-variants as read
 use Rattle.layouts.specs.Bodies.{layoutWidths, takenAs, bodyLayout, bodyFields}
 use Rattle.readings.specs.declared.bodies.IdentificationReadings.{IdentificationReadings}
 use Rattle.readings.specs.declared.bodies.SurfaceReadings.{SurfaceReadings}
@@ -20,7 +19,7 @@ use Rattle.readings.specs.declared.bodies.StatusReadings.{StatusReadings}
 use Rattle.readings.specs.declared.bodies.CoarseReadings.{CoarseReadings}
 use Rattle.readings.specs.declared.bodies.Readings.{Readings}
 use Rattle.readings.specs.declared.bodies.Readings.the-variants as readings
-use Rattle.readings.specs.Bodies.{readingsOf}
+use Rattle.readings.specs.Bodies.{readingsOf, readingsIn}
 use Rattle.messages.specs.declared.Message.{Message}
 use Rattle.messages.specs.Message.{headFields, keyOf, traffic}
 use Rattle.rows.specs.declared.message.Four.{Four}
@@ -119,8 +118,7 @@ fourValues f =
 
 -- of what the 56 bits say, in a traffic service's message or in another
 abbrev pub fourIn : Taken → Bool → Four
-fourIn (read.Body b) traffic = fourOf (readingsOf b traffic)
-fourIn (read.Refused r) traffic = refusedFour
+fourIn taken traffic = fourOf (readingsIn taken traffic)
 
 -- ---- the whole row
 

@@ -16,9 +16,7 @@ use entries::step_reading;
 use entries::supplement_reading;
 use entries::text_reading;
 use entries::version_reading;
-use layouts::Body;
 use layouts::Layout;
-use layouts::Taken;
 use readings::AirReadings;
 use readings::AirborneReadings;
 use readings::CoarseReadings;
@@ -30,9 +28,9 @@ use readings::SurfaceReadings;
 ghost use mathlib.Core.Path.{_≡_};
 ghost use lib.Dec.{eqb};
 ghost use lib.ListN.{length};
-ghost use Rattle.readings.specs.Bodies.{readingsOf};
+ghost use Rattle.layouts.specs.Bodies.{takenAs};
 ghost use Rattle.entries.specs.Arrays.{filled};
-ghost use Rattle.rows.specs.Rows.{identificationFour, surfaceFour, airborneFour, groundFour, airFour, statusFour, coarseFour, refusedFour, fourOf, fourIn, fourValues, meRow, rowInto};
+ghost use Rattle.rows.specs.Rows.{identificationFour, surfaceFour, airborneFour, groundFour, airFour, statusFour, coarseFour, refusedFour, fourIn, fourValues, meRow, rowInto};
 
 // The readings of a layout.
 pub struct Four {
@@ -152,11 +150,11 @@ fn refused_four() -> Four
     }
 }
 
-// The readings of a body, in a traffic service's message or in another; all are refused where the body is.
-fn four_of(b: Body, traffic: bool) -> Four
-    ensures { λ r. ⌜ r ≡ fourOf (readingsOf b traffic) ⌝ }
+// The readings of ME in a layout, in a traffic service's message or in another; all are refused where it has none.
+fn four_in(layout: Layout, me: u64, traffic: bool) -> Four
+    ensures { λ r. ⌜ r ≡ fourIn (takenAs layout me) traffic ⌝ }
 {
-    let m = readings::readings_of(b, traffic);
+    let m = readings::readings_in(layout, me, traffic);
     match m {
         Readings::Identification(x) => identification_four(x),
         Readings::Surface(x) => surface_four(x),
@@ -166,15 +164,6 @@ fn four_of(b: Body, traffic: bool) -> Four
         Readings::Status(x) => status_four(x),
         Readings::Coarse(x) => coarse_four(x),
         Readings::Refused(_) => refused_four(),
-    }
-}
-
-fn four_in(taken: Taken, traffic: bool) -> Four
-    ensures { λ r. ⌜ r ≡ fourIn taken traffic ⌝ }
-{
-    match taken {
-        Taken::Body(b) => four_of(b, traffic),
-        Taken::Refused(_) => refused_four(),
     }
 }
 
@@ -204,7 +193,7 @@ pub fn put_me(out: &mut [u64], layout: Layout, me: u64, traffic: bool) -> bool
     }
     entries::fill(&mut out[0..5], &[number_of(layout)]);
     put_fields(&mut out[5..20], layout, me);
-    let four = four_in(layouts::body_as(layout, me), traffic);
+    let four = four_in(layout, me, traffic);
     put_four(&mut out[20..28], four);
     true
 }

@@ -1,7 +1,7 @@
 -- No reading in a row is a refusal, of a track with codes of 12 bits, MEs of 56 and a TYPE of 5: what its MEs say is none, and only a refusal is 5.
 -- Assumes nothing.
 use Prim.Native.Nat.{ℕ, suc, _^_, _<_}
-use mathlib.Core.Path.{_≡_, refl, subst, subst⁻¹}
+use mathlib.Core.Path.{_≡_, refl, subst⁻¹}
 use mathlib.Core.Bool.{Bool, true, false}
 use mathlib.Core.List.{List, [], _∷_, _++_}
 use native.Mathlib.Omega.{arith}

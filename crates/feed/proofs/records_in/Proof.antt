@@ -3,7 +3,6 @@
 use Prim.Native.Nat.{_-_, _*_, _≤_}
 use mathlib.Core.Path.{_≡_, refl, ap, _∙_}
 use native.Mathlib.Omega.{arith}
-use lib.ListN.{length}
 use Rattle.feed.specs.Feed.{blocksIn, recordsIn}
 use Rattle.feed.proofs.Records.{records-on}
 use borrow.Author.Needs.{needs}

@@ -1,6 +1,6 @@
 -- `keys::kind_in` meets its contract: of C its flag and its station, and of the others the kind at the number.
 -- Assumes nothing.
-use mathlib.Core.Path.{sym, ap, _∙_}
+use mathlib.Core.Path.{sym, _∙_}
 use borrow.Author.Needs.{needs}
 use Rattle.keys.proofs.kind_in.Statement.{statement}
 use Rattle.keys.proofs.kind_in.Tie as tie

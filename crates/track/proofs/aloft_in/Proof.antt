@@ -3,7 +3,6 @@
 use Prim.Native.Nat.{_<_}
 use mathlib.Core.Path.{_≡_, sym, ap, subst, _∙_}
 use native.Mathlib.Omega.{arith}
-use Rattle.layouts.specs.declared.airborne.Airborne.{Airborne}
 use Rattle.layouts.specs.declared.coarse.Coarse.{Coarse}
 use Rattle.layouts.specs.Layouts.{airborneOf}
 use Rattle.layouts.specs.Coarse.{coarseOf}

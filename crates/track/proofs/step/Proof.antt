@@ -3,7 +3,7 @@
 use Prim.Native.Nat.{ℕ}
 use mathlib.Core.Path.{sym, ap, ap₂, _∙_}
 use mathlib.Core.Bool.{Bool}
-use Rattle.layouts.specs.Bodies.{bodyCoarse, bodyMe, bodyFits}
+use Rattle.layouts.specs.Bodies.{bodyMe, bodyFits}
 use Rattle.layouts.proofs.BothWays.{if-written, if-refused}
 use Rattle.messages.specs.declared.Decoded.the-variants as decode
 use Rattle.track.specs.declared.Track.{Track}

@@ -1,9 +1,7 @@
 -- `rows::message::put_me` meets its contract: an array of 28 entries holds the row, which is put there in three parts, and another what it held.
 -- Assumes nothing.
-use mathlib.Core.Path.{sym, ap, _∙_}
+use mathlib.Core.Path.{sym}
 use borrow.Author.Tests.{eq-eqb, ne-eqb}
-use Rattle.layouts.specs.declared.bodies.Taken.{Taken}
-use Rattle.rows.specs.Rows.{fourIn}
 use Rattle.rows.proofs.Laid.{row-kept, row-put}
 use borrow.Author.Needs.{needs}
 use Rattle.rows.proofs.message.put_me.Statement.{statement}
@@ -42,9 +40,6 @@ part-put-fields-end c = search needs
 put-fields-requires : tie.Need-put-fields-requires
 put-fields-requires c κs = search needs
 
-body-as-requires : tie.Need-body-as-requires
-body-as-requires c κs = search needs
-
 four-in-requires : tie.Need-four-in-requires
 four-in-requires c κs = search needs
 
@@ -65,14 +60,13 @@ same-length c = search needs
 
 returns-2 : tie.Need-returns-2
 returns-2 c =
-    let f = c .before .before .before .before .before .before .before .before in
+    let f = c .before .before .before .before .before .before .before in
     let h = f .before .before .before .before in
-    let a = h .before .before .before .before .before .before .args in
-    let four = c .before .before .before .before .four-in .ensures ∙ ap (λ (t : Taken). fourIn t (a .traffic)) (c .before .before .before .before .before .body-as .ensures) in (
+    let a = h .before .before .before .before .before .before .args in (
       sym (eq-eqb _ _ (h .before .before .before .before .if1 .left)),
       row-put (a .out .now) (h .before .before .before .before .if1 .left) (h .fill .last .0) (f .put-fields .last .0) (c .before .before .put-four .last .0)
           (a .layout) (a .me) (h .before .before .number-of .result) (a .traffic) (c .before .before .before .before .four-in .result)
-          (h .before .before .number-of .ensures) four (h .fill .ensures) (f .put-fields .ensures) (c .before .before .put-four .ensures),
+          (h .before .before .number-of .ensures) (c .before .before .before .before .four-in .ensures) (h .fill .ensures) (f .put-fields .ensures) (c .before .before .put-four .ensures),
     )
 
 pub put-me-spec : {M : Type 1} → statement M
@@ -90,7 +84,6 @@ put-me-spec =
     part-put-fields-start
     part-put-fields-end
     put-fields-requires
-    body-as-requires
     four-in-requires
     sub-put-four
     part-put-four-start
