@@ -1,6 +1,7 @@
 pub mod Faults
 pub mod Laws
 pub mod OfCode
+pub mod Printed
 pub mod Promised
 pub mod Rows
 pub mod Unique

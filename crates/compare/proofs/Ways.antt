@@ -80,7 +80,7 @@ within u (inr q) = q .high
 -- ---- ours
 
 -- the bytes of a table of 256 places, before its set-up
-abbrev zeros : List ℕ
+abbrev pub zeros : List ℕ
 zeros = replicate (tableSize 256) 0
 
 whole-256 : wholePlaces (tableSize 256) ≡ true
@@ -91,10 +91,10 @@ whole-zeros : wholePlaces (length zeros) ≡ true
 whole-zeros = ap wholePlaces (length-replicate {A = ℕ} (tableSize 256) 0) ∙ whole-256
 
 module _ (c : List ℕ) {x : SetUp} {l : List ℕ} (set : after x l ≡ setUp zeros) where
-  emptied-is : l ≡ emptied zeros
+  pub emptied-is : l ≡ emptied zeros
   emptied-is = ap (λ (y : After SetUp). y .table) (set ∙ sym (set-up-on zeros {t = true} (sym whole-zeros) refl refl))
 
-  whole-emptied : wholePlaces (length l) ≡ true
+  pub whole-emptied : wholePlaces (length l) ≡ true
   whole-emptied = ap (λ (k : List ℕ). wholePlaces (length k)) emptied-is ∙ ap wholePlaces (emptied-length zeros) ∙ whole-zeros
 
   module _ {k : List ℕ} where

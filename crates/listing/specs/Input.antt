@@ -1,4 +1,5 @@
--- What can be said of a program's input: there is one capture that did all of this.
+-- What can be said of a program's input: there is one capture that did all of this. Which one is not said, so neither is the number of bad blocks: a block of zeros more leaves the same table. What the program prints is
+-- tested; that a block is counted as it must be is the contract of `feed::feed_block`.
 use Prim.Native.Nat.{ℕ, _*_}
 use mathlib.Core.Path.{_≡_}
 use mathlib.Core.List.{List}

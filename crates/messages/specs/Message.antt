@@ -96,7 +96,7 @@ traffic m = isTraffic (messageKind m)
 
 -- ---- what may start a track
 
--- a coarse message, which has a position; by TYPE of the traffic service's others position messages alone, and of all others all but 0, which only ever adds to a track that is held
+-- a coarse message does, for it has a position; of the traffic service's other messages those whose TYPE is a position's; of all others, kinds I and O, every one but TYPE 0, which only ever adds to a track that is held
 abbrev pub startsBy : Bool → Bool → ℕ → Bool
 startsBy coarse served type = coarse || cond served (isPosition type) (not (eqb type 0))
 

@@ -2,7 +2,7 @@
 -- Assumes nothing.
 use Prim.Native.Nat.{ℕ, _^_, _≤_, _<_}
 use native.Mathlib.Omega.{arith}
-use mathlib.Core.Path.{_≡_, refl, sym, ap, subst, _∙_}
+use mathlib.Core.Path.{_≡_, refl, sym, ap, ap₂, subst, _∙_}
 use mathlib.Core.Bool.{Bool, true, false, cond, _&&_}
 use mathlib.Core.List.{List}
 use mathlib.Core.Logic.{⊎-elim, _↔_}
@@ -11,10 +11,14 @@ use lib.Dec.{leb, eqb}
 use contract.Lifetimes.{Lfts}
 use denote.Triple.Clauses.{AtExit}
 use borrow.Fn.Kinds.{Dens, resT, endedOf}
-use borrow.Author.Tests.{leb-true, eqb-true, lt-leb}
+use borrow.Author.Tests.{leb-true, eqb-true, lt-leb, le-ltb}
+use Rattle.refusals.specs.declared.Refusal.the-variants.{Full}
+use Rattle.fields.specs.Bytes.{Bytes}
 use Rattle.fields.specs.Packing.{fits}
 use Rattle.fields.proofs.Bools.{either, each, and-right}
 use Rattle.layouts.specs.declared.airborne.Airborne.{Airborne}
+use Rattle.layouts.specs.declared.coarse.Coarse.{Coarse}
+use Rattle.layouts.specs.declared.bodies.Body.{Body}
 use Rattle.layouts.specs.declared.bodies.Body.the-variants as body
 use Rattle.layouts.specs.Layouts.{isAirborne}
 use Rattle.layouts.specs.Bodies.{bodyWidths, bodyFields, bodyMe, bodyFits}
@@ -23,22 +27,22 @@ use Rattle.messages.specs.declared.Decoded.{Decoded}
 use Rattle.messages.specs.declared.Decoded.the-variants as decode
 use Rattle.messages.specs.Message.{decoded, keyOf}
 use Rattle.readings.specs.Altitude.{altitudeOf}
-use Rattle.readings.specs.Bodies.{isGnss, airborneMeans}
+use Rattle.readings.specs.Bodies.{isGnss, airborneMeans, coarseMeans}
 use Rattle.readings.specs.declared.altitude.Altitude.{Altitude}
 use Rattle.readings.specs.declared.altitude.Altitude.the-variants as altitude
 use Rattle.whereabouts.specs.declared.Site.{Site}
 use Rattle.track.specs.declared.Track.{Track}
 use Rattle.track.specs.Track.{stepBody}
-use Rattle.track.specs.Held.{laterAt, found, steppedFrom, answeredFrom}
-use Rattle.track.proofs.Rules.{pressure-replaces, height-replaces, no-position-leaves}
+use Rattle.track.specs.Held.{found, steppedFrom, answeredFrom}
+use Rattle.track.proofs.Rules.{pressure-replaces, height-replaces, no-position-leaves, coarse-replaces}
 use Rattle.rules.specs.Form.{Form, Lawful}
 use Rattle.rules.specs.Rules.{After, delivered, received}
-use Rattle.rules.specs.View.{view, Table}
+use Rattle.rules.specs.View.{viewAt, view, AllFit}
 use Rattle.rules.proofs.Delivered.{sorted}
-use Rattle.rules.proofs.Laws.{steps-its-track}
-use Rattle.rules.proofs.Ways.{not-refused, decoded-fits, Way, short, uneven, late, timely, way}
+use Rattle.rules.proofs.Laws.{clock-after, effect}
+use Rattle.rules.proofs.Ways.{not-refused, decoded-14, decoded-fits, received-in-time, Way, short, uneven, late, timely, way}
 use Rattle.table.specs.Bytes.{bytes}
-use Rattle.table.proofs.Lawful.{bytes-lawful}
+use Rattle.table.proofs.Lawful.{bytes-lawful, all-fit}
 use Rattle.table.proofs.receive.Kinds as receive-kinds
 use Rattle.table.proofs.receive.Reads as receive
 use Rattle.text.specs.declared.Figure.the-variants.{Unknown}
@@ -71,9 +75,14 @@ altitudeIn gnss t = altitudeOf (cond gnss (t .groups .height) (t .groups .pressu
 abbrev pub leftOut : Airborne → Bool
 leftOut b = eqb (b .typecode) 0 && eqb (b .altitude) 0
 
--- a track is held, and what is read from it is the message's altitude, feet and step
-abbrev pub Kept : Airborne → Option Track → Type 0
-Kept b v = (t : Track) × (v ≡ some t) × (altitudeIn (isGnss (b .typecode)) t ≡ airborneMeans b .altitude)
+-- a body with an altitude to keep, which is a GNSS height or a pressure altitude
+pub data Tells : Body → Bool → Altitude → Type 0 where
+  in-the-air : {b : Airborne} → leftOut b ≡ false → Tells (body.Airborne b) (isGnss (b .typecode)) (airborneMeans b .altitude)
+  coarsely : {b : Coarse} → Tells (body.Coarse b) false (coarseMeans b .altitude)
+
+-- a track is held, and such an altitude, feet and step, is read from it
+abbrev pub Kept : Bool → Altitude → Option Track → Type 0
+Kept gnss a v = (t : Track) × (v ≡ some t) × (altitudeIn gnss t ≡ a)
 
 module _ (t : Track) (b : Airborne) (me : ℕ) (site : Site) (time : ℕ) where
   abbrev next : Track
@@ -112,6 +121,12 @@ module _ (t : Track) (b : Airborne) (me : ℕ) (site : Site) (time : ℕ) where
       let pressure : next .groups .pressure ≡ t .groups .pressure = after .pressure ∙ ap (λ (x : Bool). cond x (t .groups .pressure) (b .altitude)) (is .1) in
       rw (after .height, pressure)
 
+-- the step of a body that fits leaves the altitude that it tells
+stepped-tells : (t : Track) (b : Body) (me : ℕ) (site : Site) (time : ℕ) {gnss : Bool} {a : Altitude} → bodyFits b ≡ true → Tells b gnss a → altitudeIn gnss (stepBody t b me site time) ≡ a
+stepped-tells t b me site time f (in-the-air {b = x} told) =
+    by-type t x me site time (and-right (fits (bodyWidths (body.Airborne x)) (bodyFields (body.Airborne x))) (isAirborne (x .typecode)) f) told
+stepped-tells t b me site time f (coarsely {b = x}) = ap altitudeOf (coarse-replaces t me site time x .pressure)
+
 module _ {S : Type 0} (F : Form S) (L : Lawful F) (s : S) (message : List ℕ) (time : ℕ) where
   abbrev call : After S Decoded
   call = received F s message time
@@ -126,32 +141,37 @@ module _ {S : Type 0} (F : Form S) (L : Lawful F) (s : S) (message : List ℕ) (
       (λ y. absurd (not-refused (sym a ∙ ap (λ (x : After S Decoded). x .answer) (y .1 .1))))
       (sorted F time (F .moved s time) n (decoded-fits message n e))
 
-  accepted-by : (m : Message) {x : After S Decoded} → Way F s message time x → x .answer ≡ decode.Message m → (F .clock s ≤ time) × (decoded message ≡ decode.Message m)
+  accepted-by : (m : Message) {x : After S Decoded} → Way F s message time x → x .answer ≡ decode.Message m → (F .whole s ≡ true) × (F .clock s ≤ time) × (decoded message ≡ decode.Message m)
   accepted-by m (short l) a = absurd (not-refused (sym a))
   accepted-by m (uneven l w) a = absurd (not-refused (sym a))
   accepted-by m (late l w h) a = absurd (not-refused (sym a))
-  accepted-by m (timely l w h) a = (h, delivered-is (decoded message) refl m a)
+  accepted-by m (timely l w h) a = (w, h, delivered-is (decoded message) refl m a)
 
-  module _ (table : Table F s) (small : time < 2 ^ 64) (m : Message) (b : Airborne) (is : m .body ≡ body.Airborne b) (told : leftOut b ≡ false) where
-    by-found : (v w : Option Track) → bodyFits (m .body) ≡ true → decode.Message m ≡ answeredFrom m v → w ≡ steppedFrom m (F .site s) time v → Kept b w
-    by-found none w f a e = absurd (not-refused a)
-    by-found (some x) w f a e =
-        let airborne : isAirborne (b .typecode) ≡ true = and-right (fits (bodyWidths (body.Airborne b)) (bodyFields (body.Airborne b))) (isAirborne (b .typecode)) (rw is at f) in
-        (stepBody x (m .body) (bodyMe (m .body)) (F .site s) time, e, rw is (by-type x b (bodyMe (body.Airborne b)) (F .site s) time airborne told))
+  module _ (fit : AllFit F s) (small : time < 2 ^ 64) (m : Message) {gnss : Bool} {told : Altitude} (tells : Tells (m .body) gnss told) where
+    by-found : (v w : Option Track) (site : Site) → bodyFits (m .body) ≡ true → decode.Message m ≡ answeredFrom m v → w ≡ steppedFrom m site time v → Kept gnss told w
+    by-found none w site f a e = absurd (not-refused a)
+    by-found (some x) w site f a e = (stepBody x (m .body) (bodyMe (m .body)) site time, e, stepped-tells x (m .body) (bodyMe (m .body)) site time f tells)
 
-    -- after an accepted message the track's reading is the message's, step included
-    pub step-kept : call .answer ≡ decode.Message m → Kept b (view F (call .table) (keyOf m))
+    -- after an accepted message the track's reading is the message's, step included, though a key be held twice
+    pub step-kept : call .answer ≡ decode.Message m → Kept gnss told (view F (call .table) (keyOf m))
     step-kept a =
         let by = accepted-by m (way F s message time) a in
-        let stepped = steps-its-track F L s message time table small m (by .1) (by .0) (λ full. not-refused (sym a ∙ full)) in
-        by-found (found m (laterAt time (view F s (keyOf m)))) _ (decoded-fits message m (by .1)) (sym a ∙ stepped .0) (stepped .1)
+        let l = decoded-14 message m (by .2) in
+        let moved = F .moved s time in
+        let is : call ≡ delivered F moved (decode.Message m) time = received-in-time F s message time l (by .0) (by .1) ∙ ap (λ (d : Decoded). delivered F moved d time) (by .2) in
+        let clock : F .clock (call .table) ≡ time = clock-after F L s message time (by .0) small l ∙ ap (λ (b : Bool). cond b (F .clock s) time) (le-ltb time (F .clock s) (by .1)) in
+        let answer = sym a ∙ ap (λ (r : After S Decoded). r .answer) is in
+        let done = effect F L s message time fit small (by .0) m (by .2) in
+        let un : delivered F moved (decode.Message m) time .answer ≡ decode.Refused Full → ⊥ = λ full. not-refused (answer ∙ full) in
+        by-found (found m (viewAt F time moved (keyOf m))) _ (F .site moved) (decoded-fits message m (by .2)) (answer ∙ done .told un)
+        (ap₂ (λ (c : ℕ) (r : After S Decoded). viewAt F c (r .table) (keyOf m)) clock is ∙ done .own un)
 
--- and so of whatever meets the contract of `table::receive`, in a table in which each key is held at most once, as a set-up leaves it and every call keeps it
+-- and so of whatever meets the contract of `table::receive`
 pub step-kept-promised : (κs : Lfts 2) (args : Dens κs receive-kinds.ps) (x : resT receive-kinds.r κs .Denot)
     (left : AtExit (endedOf 2 receive-kinds.ps receive-kinds.r) κs) → receive.Post κs args x left
-    → Table bytes (args .0 .now) → args .1 .1 .0 < 2 ^ 64 → (m : Message) (b : Airborne) → m .body ≡ body.Airborne b → leftOut b ≡ false
-    → x ≡ decode.Message m → Kept b (view bytes (left .0 .now) (keyOf m))
-step-kept-promised κs args x left p table small m b is told e =
+    → Bytes (args .0 .now) → args .1 .1 .0 < 2 ^ 64 → (m : Message) {gnss : Bool} {told : Altitude} → Tells (m .body) gnss told
+    → x ≡ decode.Message m → Kept gnss told (view bytes (left .0 .now) (keyOf m))
+step-kept-promised κs args x left p b small m {gnss} {told} tells e =
     let answer = ap (λ (r : After (List ℕ) Decoded). r .answer) p in
-    subst (λ (r : After (List ℕ) Decoded). Kept b (view bytes (r .table) (keyOf m))) (sym p)
-    (step-kept bytes bytes-lawful (args .0 .now) (args .1 .0 .now) (args .1 .1 .0) table small m b is told (sym answer ∙ e))
+    subst (λ (r : After (List ℕ) Decoded). Kept gnss told (view bytes (r .table) (keyOf m))) (sym p)
+    (step-kept bytes bytes-lawful (args .0 .now) (args .1 .0 .now) (args .1 .1 .0) (all-fit (args .0 .now) b) small m tells (sym answer ∙ e))
