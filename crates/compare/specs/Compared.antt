@@ -6,6 +6,7 @@ use mathlib.Core.List.{List, [], _∷_, _++_}
 use lib.Dec.{ltb}
 use lib.ListN.{replicate}
 use Rattle.refusals.specs.declared.Refusal.the-variants.{Log, Form}
+use Rattle.refusals.specs.Numbers.{mostRecords}
 use Rattle.memory.specs.Offsets.{tableSize}
 use Rattle.table_bytes.specs.Layout.{emptied}
 use Rattle.text.specs.declared.Row.{Row}
@@ -64,4 +65,4 @@ recordsOf c = recordsIn c (blocksIn c)
 
 -- "14 for over 2,900 records in good blocks, then 16 for text not in the form"
 unfoldable pub checked : List ℕ → List ℕ → Checked
-checked c l = cond (ltb 2900 (recordsOf c)) (Refused Log) (cond (not (inForm l)) (Refused Form) (verdict c l))
+checked c l = cond (ltb mostRecords (recordsOf c)) (Refused Log) (cond (not (inForm l)) (Refused Form) (verdict c l))

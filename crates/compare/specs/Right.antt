@@ -5,6 +5,7 @@ use mathlib.Core.Path.{_≡_}
 use mathlib.Core.Bool.{true}
 use mathlib.Core.List.{List, [], _∷_, _++_}
 use lib.ListN.{take, drop}
+use Rattle.refusals.specs.Numbers.{mostRecords}
 use Rattle.text.specs.declared.Row.{Row}
 use Rattle.text.specs.Lines.{newline}
 use Rattle.form.specs.Form.{inForm}
@@ -18,7 +19,7 @@ pub data AllAgree : List (List ℕ) → List Row → Type 0 where
 
 -- what earns yes
 pub record Right (c l : List ℕ) : Type 0 where
-  pub few : recordsOf c ≤ 2900
+  pub few : recordsOf c ≤ mostRecords
   pub form : inForm l ≡ true
   pub first : List ℕ
   pub others : List (List ℕ)

@@ -1,11 +1,12 @@
 -- A run and the log of what it received; and the log in a capture: the records of its good blocks, set end to end.
-use Prim.Native.Nat.{ℕ, zero, suc, _*_, _≤_, _<_, _^_}
+use Prim.Native.Nat.{ℕ, zero, suc, _*_, _≤_, _<_}
 use mathlib.Core.Bool.{false, cond}
 use mathlib.Core.Path.{_≡_}
 use mathlib.Core.List.{List, [], _∷_, _++_}
 use lib.ListN.{length, take, drop}
+use Rattle.refusals.specs.Numbers.{mostRecords}
 use Rattle.fields.specs.Bytes.{bytesOf}
-use Rattle.keys.specs.Keys.{keyFor}
+use Rattle.keys.specs.Keys.{addresses, keyFor}
 use Rattle.keys.specs.declared.Kind.{Kind}
 use Rattle.capture.specs.Block.{countOf, good}
 use Rattle.whereabouts.specs.declared.Site.{Site}
@@ -36,8 +37,8 @@ left rule s (c ∷ cs) = left rule (call rule s c .table) cs
 -- Of any form, whatever the table held before; of an address of 24 bits, a kind whose flag and station fit their bits and at most 2,900 records, since others earn 8 or 14
 abbrev pub Replays : {S : Type 0} → Form S → Type 0
 Replays {S} F =
-    (kind : Kind) (address : ℕ) (site : Site) → address < 2 ^ 24 → isWide kind ≡ false → East site → (s : S) → setUp F s site .answer ≡ Done
-    → (cs : List Call) → length cs ≤ 2900 → NeverFull (received F) (keyFor kind address) (setUp F s site .table) cs
+    (kind : Kind) (address : ℕ) (site : Site) → address < addresses → isWide kind ≡ false → East site → (s : S) → setUp F s site .answer ≡ Done
+    → (cs : List Call) → length cs ≤ mostRecords → NeverFull (received F) (keyFor kind address) (setUp F s site .table) cs
     → replayed (logOf cs) kind address site ≡ lookedUp F (left (received F) (setUp F s site .table) cs) (keyFor kind address)
 
 -- ---- a capture

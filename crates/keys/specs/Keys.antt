@@ -8,6 +8,16 @@ use lib.ListN.{length, getD}
 use Rattle.keys.specs.declared.Kind.{Kind}
 use Rattle.keys.specs.declared.Kind.the-variants.{I, O, T, M, N, C}
 
+-- how many addresses there are, flags and stations: each is below
+abbrev pub addresses : ℕ
+addresses = 2 ^ 24
+
+abbrev pub flags : ℕ
+flags = 2
+
+abbrev pub stations : ℕ
+stations = 16
+
 -- the kinds in the order of their keys, but for C, which is behind them
 abbrev pub kinds : List Kind
 kinds = I ∷ O ∷ T ∷ M ∷ N ∷ []
@@ -58,7 +68,7 @@ isKind number = leb 1 number && leb number (length kinds)
 
 -- the 24 bits of an address
 abbrev pub low24 : ℕ → ℕ
-low24 address = address % 2 ^ 24
+low24 address = address % addresses
 
 -- what counts of a kind: of a flag its lowest bit, and of a station the low 4
 abbrev pub lowKind : Kind → Kind
@@ -67,15 +77,15 @@ lowKind O = O
 lowKind T = T
 lowKind M = M
 lowKind N = N
-lowKind (C flag station) = C (flag % 2) (station % 16)
+lowKind (C flag station) = C (flag % flags) (station % stations)
 
 -- where the keys of C begin
 abbrev pub firstCoarse : ℕ
-firstCoarse = 2 ^ 31
+firstCoarse = numberOf (C 0 0) * addresses
 
 -- the key of a number and an address
 abbrev pub numbered : ℕ → ℕ → ℕ
-numbered number address = number * 2 ^ 24 + low24 address
+numbered number address = number * addresses + low24 address
 
 -- the key of a kind and an address
 abbrev pub keyFor : Kind → ℕ → ℕ
@@ -84,15 +94,15 @@ keyFor O address = numbered (numberOf O) address
 keyFor T address = numbered (numberOf T) address
 keyFor M address = numbered (numberOf M) address
 keyFor N address = numbered (numberOf N) address
-keyFor (C flag station) address = firstCoarse + 32 * low24 address + 16 * (flag % 2) + station % 16
+keyFor (C flag station) address = firstCoarse + flags * stations * low24 address + stations * (flag % flags) + station % stations
 
 -- above every key
 abbrev pub endOfKeys : ℕ
-endOfKeys = firstCoarse + 2 ^ 29
+endOfKeys = firstCoarse + flags * stations * addresses
 
 -- whether a number is a key
 abbrev pub isKey : ℕ → Bool
-isKey key = leb (2 ^ 24) key && ltb key ((length kinds + 1) * 2 ^ 24) || leb firstCoarse key && ltb key endOfKeys
+isKey key = leb (numberOf I * addresses) key && ltb key ((length kinds + 1) * addresses) || leb firstCoarse key && ltb key endOfKeys
 
 -- whether a key is one of C
 abbrev pub coarseIn : ℕ → Bool
@@ -100,14 +110,14 @@ coarseIn key = leb firstCoarse key
 
 -- .. and then its flag and its station
 abbrev pub flagIn : ℕ → ℕ
-flagIn key = key / 16 % 2
+flagIn key = key / stations % flags
 
 abbrev pub stationIn : ℕ → ℕ
-stationIn key = key % 16
+stationIn key = key % stations
 
 -- a key's kind
 abbrev pub kindIn : ℕ → Kind
-kindIn key = cond (coarseIn key) (C (flagIn key) (stationIn key)) (kindAt (key / 2 ^ 24))
+kindIn key = cond (coarseIn key) (C (flagIn key) (stationIn key)) (kindAt (key / addresses))
 
 -- a key's letter
 abbrev pub letterIn : ℕ → ℕ
@@ -119,4 +129,4 @@ trafficIn key = isTraffic (kindIn key)
 
 -- a key's address
 abbrev pub addressIn : ℕ → ℕ
-addressIn key = low24 (cond (coarseIn key) (key / 32) key)
+addressIn key = low24 (cond (coarseIn key) (key / (flags * stations)) key)

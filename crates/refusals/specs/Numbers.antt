@@ -20,3 +20,7 @@ numberOf Overrun = 13
 numberOf Log = 14
 numberOf Degrees = 15
 numberOf Form = 16
+
+-- more records than these earn 14: those of a log, and those in the good blocks of a capture that a listing is checked against
+abbrev pub mostRecords : ℕ
+mostRecords = 2900

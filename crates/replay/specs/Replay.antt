@@ -1,13 +1,14 @@
 -- A track worked out again from a log. "The plain method takes the records in order, knows no table, and applies 01's track rules to that key alone, the clock moving at each record."
-use Prim.Native.Nat.{ℕ, zero, suc, _*_, _/_, _%_, _^_}
+use Prim.Native.Nat.{ℕ, zero, suc, _*_, _/_, _%_}
 use mathlib.Core.Bool.{Bool, false, cond, not, _&&_, _||_}
 use mathlib.Core.Option.{Option, some, none}
 use mathlib.Core.List.{List}
 use lib.Dec.{eqb, leb}
 use lib.ListN.{length, take, drop}
 use Rattle.refusals.specs.declared.Refusal.the-variants.{Field, Log}
+use Rattle.refusals.specs.Numbers.{mostRecords}
 use Rattle.fields.specs.Bytes.{number}
-use Rattle.keys.specs.Keys.{keyFor}
+use Rattle.keys.specs.Keys.{addresses, flags, stations, keyFor}
 use Rattle.keys.specs.declared.Kind.{Kind}
 use Rattle.keys.specs.declared.Kind.the-variants.{I, O, T, M, N, C}
 use Rattle.positions.specs.Positions.{poleToPole}
@@ -23,7 +24,7 @@ use Rattle.replay.specs.Alone.{Heard, heardIn, Own, ownAfter}
 
 -- of so many bytes: at most 2,900 records of 22
 abbrev pub isLog : ℕ → Bool
-isLog n = eqb (n % 22) 0 && leb (n / 22) 2900
+isLog n = eqb (n % 22) 0 && leb (n / 22) mostRecords
 
 -- the record i, counted from 0
 abbrev pub recordAt : List ℕ → ℕ → List ℕ
@@ -55,7 +56,7 @@ isWide O = false
 isWide T = false
 isWide M = false
 isWide N = false
-isWide (C flag station) = leb 2 flag || leb 16 station
+isWide (C flag station) = leb flags flag || leb stations station
 
 -- a known site whose latitude is beyond a pole
 abbrev pub badSite : Site → Bool
@@ -65,7 +66,7 @@ badSite site = site .known && not (poleToPole (site .spot .latitude))
 unfoldable pub replayed : List ℕ → Kind → ℕ → Site → Looked
 replayed log kind address site =
     cond (not (isLog (length log))) (notLooked Log)
-    (cond (leb (2 ^ 24) address || isWide kind || badSite site) (notLooked Field)
+    (cond (leb addresses address || isWide kind || badSite site) (notLooked Field)
     (lookedAs (ownAt (sited site) (keyFor kind address) unheard log (length log / 22) .track)))
 
 -- ---- what the code keeps between two records: the track counts where it is held

@@ -1,12 +1,12 @@
 -- What the answer says in document 02's terms: 14 or 8, or the track of the key, held or absent.
-use Prim.Native.Nat.{ℕ, _/_, _^_}
+use Prim.Native.Nat.{ℕ, _/_}
 use mathlib.Core.Bool.{Bool, cond, not, _||_}
 use mathlib.Core.List.{List}
 use mathlib.Core.Option.{Option}
 use lib.Dec.{leb}
 use lib.ListN.{length}
 use Rattle.refusals.specs.Said.{Said, number, gives}
-use Rattle.keys.specs.Keys.{keyFor}
+use Rattle.keys.specs.Keys.{addresses, keyFor}
 use Rattle.keys.specs.declared.Kind.{Kind}
 use Rattle.whereabouts.specs.declared.Site.{Site}
 use Rattle.track.specs.declared.Track.{Track}
@@ -18,7 +18,7 @@ earns14 log = not (isLog (length log))
 
 -- 8: an address over 24 bits, a flag or a station wider than its bits, or a bad site
 abbrev pub earns8 : Kind → ℕ → Site → Bool
-earns8 kind address site = leb (2 ^ 24) address || isWide kind || badSite site
+earns8 kind address site = leb addresses address || isWide kind || badSite site
 
 -- 14 precedes 8
 abbrev pub replayTable : List ℕ → Kind → ℕ → Site → Said (Option Track)

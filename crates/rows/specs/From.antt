@@ -16,7 +16,7 @@ use Rattle.layouts.specs.Bodies.{layoutBy, isTaken, layoutWidths, takenBy}
 use Rattle.messages.specs.declared.Decoded.{Decoded}
 use Rattle.messages.specs.declared.Decoded.the-variants as decode
 use Rattle.messages.specs.Message.{coarseBy, headWidths}
-use Rattle.rows.specs.Rows.{layoutNumber}
+use Rattle.rows.specs.Rows.{layoutNumber, fieldsAt}
 use Rattle.rows.specs.Same.{entries}
 
 -- the layout of a number, 1 to 7
@@ -33,9 +33,9 @@ layoutNumbered n =
 
 -- ---- ME
 
--- the fields of so many widths, from the entry 5 on
+-- the fields of so many widths
 abbrev pub fieldsFrom : List ℕ → List ℕ → List ℕ
-fieldsFrom ws l = entries 5 (length ws) l
+fieldsFrom ws l = entries fieldsAt (length ws) l
 
 -- the number whose fields they are
 unfoldable pub packedBy : List ℕ → List ℕ → Written

@@ -1,5 +1,5 @@
 -- A message as 28 numbers: the layout, DF, CA or CF, AA and the key; then its ME fields in the order of their bits, 15 with zeros behind them; then up to four readings. An ME by itself has zeros for what is not its own.
-use Prim.Native.Nat.{ℕ, _<_}
+use Prim.Native.Nat.{ℕ, _+_, _<_}
 use mathlib.Core.Bool.{Bool, cond}
 use mathlib.Core.List.{List, [], _∷_, _++_}
 use lib.Dec.{eqb}
@@ -132,6 +132,13 @@ layoutNumber layout.Air = 5
 layoutNumber layout.Status = 6
 layoutNumber layout.Coarse = 7
 
+-- where the fields begin in a row, and the readings, two entries each
+abbrev pub fieldsAt : ℕ
+fieldsAt = 5
+
+abbrev pub readingsAt : ℕ
+readingsAt = fieldsAt + 15
+
 -- behind the layout what stands before ME, with the key
 unfoldable pub rowOf : Layout → List ℕ → List ℕ → Four → List ℕ
 rowOf l head fields four = layoutNumber l ∷ (head ++ (filled 15 fields ++ fourValues four))
@@ -153,7 +160,7 @@ messageRow m = rowOf (bodyLayout (m .body)) (headFields m ++ (keyOf m ∷ [])) (
 
 -- of the four readings in a row none was refused
 abbrev pub NoneRefused : List ℕ → Type 0
-NoneRefused row = (getD row 20 0 < 5) × (getD row 22 0 < 5) × (getD row 24 0 < 5) × (getD row 26 0 < 5)
+NoneRefused row = (getD row readingsAt 0 < 5) × (getD row (readingsAt + 2) 0 < 5) × (getD row (readingsAt + 4) 0 < 5) × (getD row (readingsAt + 6) 0 < 5)
 
 -- .. nor in a list of readings
 abbrev pub EachGiven : List ℕ → Type 0

@@ -37,15 +37,15 @@ module _ (traffic : Bool) (row s : List ℕ) (e : s ≡ source traffic row) wher
   source-is : entries 0 2 s ≡ source traffic row
   source-is = entries-all 2 s (ap length e ∙ source-length traffic row) ∙ e
 
-  pub over-ground : isOf 4 row ≡ true → readingAt row 20 ++ (readingAt row 22 ++ (unknown 4 ++ (readingAt row 24 ++ entries 0 2 s))) ≡ moving traffic row
+  pub over-ground : isOf 4 row ≡ true → readingAt row 0 ++ (readingAt row 1 ++ (unknown 4 ++ (readingAt row 2 ++ entries 0 2 s))) ≡ moving traffic row
   unfolding moving
-  over-ground h = ap (λ (x : List ℕ). readingAt row 20 ++ (readingAt row 22 ++ (unknown 4 ++ (readingAt row 24 ++ x)))) source-is ∙ sym (chosen (isOf 4 row) _ _ h)
+  over-ground h = ap (λ (x : List ℕ). readingAt row 0 ++ (readingAt row 1 ++ (unknown 4 ++ (readingAt row 2 ++ x)))) source-is ∙ sym (chosen (isOf 4 row) _ _ h)
 
   pub through-air : isOf 4 row ≡ false → isOf 5 row ≡ true
-      → unknown 2 ++ (readingAt row 20 ++ (knownAt row 10 ++ (readingAt row 22 ++ (knownAt row 12 ++ (readingAt row 24 ++ entries 0 2 s))))) ≡ moving traffic row
+      → unknown 2 ++ (readingAt row 0 ++ (knownAt row 5 ++ (readingAt row 1 ++ (knownAt row 7 ++ (readingAt row 2 ++ entries 0 2 s))))) ≡ moving traffic row
   unfolding moving
   through-air n h =
-      ap (λ (x : List ℕ). unknown 2 ++ (readingAt row 20 ++ (knownAt row 10 ++ (readingAt row 22 ++ (knownAt row 12 ++ (readingAt row 24 ++ x)))))) source-is
+      ap (λ (x : List ℕ). unknown 2 ++ (readingAt row 0 ++ (knownAt row 5 ++ (readingAt row 1 ++ (knownAt row 7 ++ (readingAt row 2 ++ x)))))) source-is
       ∙ rw (n, h)
 
 module _ (row : List ℕ) where

@@ -1,27 +1,28 @@
 -- What people are shown of a track, 18 readings: entries of the rows of the MEs that last gave identification, velocity and surface fields. Where none did, or one of another layout stands, they are unknown. Of kind C the velocity is a coarse message's ME, whatever its bits.
-use Prim.Native.Nat.{ℕ, suc, _+_}
+use Prim.Native.Nat.{ℕ, suc, _+_, _*_}
 use mathlib.Core.Bool.{Bool, false, cond, _||_}
 use mathlib.Core.List.{List, [], _∷_, _++_}
 use lib.Dec.{eqb}
 use lib.ListN.{getD, replicate}
 use Rattle.keys.specs.declared.Kind.{Kind}
 use Rattle.keys.specs.Keys.{isTraffic, isCoarse}
+use Rattle.layouts.specs.declared.bodies.Layout.the-variants as layout
 use Rattle.layouts.specs.Bodies.{layoutBy}
 use Rattle.track.specs.declared.Track.{Track}
 use Rattle.track.specs.Track.{noSaved}
-use Rattle.rows.specs.Rows.{meRow}
+use Rattle.rows.specs.Rows.{layoutNumber, fieldsAt, readingsAt, meRow}
 
 -- the row of an ME by itself, a coarse message's or another's, of a key that a traffic service sends or of another
 abbrev pub rowIn : Bool → Bool → ℕ → List ℕ
 rowIn coarse traffic n = meRow (layoutBy coarse n) n traffic
 
--- entry i of the row as a reading that is known
+-- field k of the row, counted from 0 in the order of its bits, as a reading that is known
 abbrev pub knownAt : List ℕ → ℕ → List ℕ
-knownAt row i = 1 ∷ getD row i 0 ∷ []
+knownAt row k = 1 ∷ getD row (fieldsAt + k) 0 ∷ []
 
--- the reading that stands at i and behind it
+-- its reading k, counted from 0
 abbrev pub readingAt : List ℕ → ℕ → List ℕ
-readingAt row i = getD row i 0 ∷ getD row (suc i) 0 ∷ []
+readingAt row k = getD row (readingsAt + 2 * k) 0 ∷ getD row (suc (readingsAt + 2 * k)) 0 ∷ []
 
 -- so many readings that are unknown
 abbrev pub unknown : ℕ → List ℕ
@@ -33,30 +34,30 @@ isOf number row = eqb (getD row 0 0) number
 
 -- callsign, category set, category
 unfoldable pub named : List ℕ → List ℕ
-named row = cond (isOf 1 row) (readingAt row 22 ++ readingAt row 20 ++ knownAt row 6) (unknown 3)
+named row = cond (isOf (layoutNumber layout.Identification) row) (readingAt row 1 ++ readingAt row 0 ++ knownAt row 1) (unknown 3)
 
 -- the source of a vertical rate, which a traffic service does not send
 unfoldable pub source : Bool → List ℕ → List ℕ
-source traffic row = cond traffic (unknown 1) (knownAt row 14)
+source traffic row = cond traffic (unknown 1) (knownAt row 9)
 
 -- speed to the east, to the north; heading, its status, airspeed, its kind; the vertical rate, its source
 unfoldable pub moving : Bool → List ℕ → List ℕ
 moving traffic row =
-    cond (isOf 4 row) (readingAt row 20 ++ readingAt row 22 ++ unknown 4 ++ readingAt row 24 ++ source traffic row)
-    (cond (isOf 5 row) (unknown 2 ++ readingAt row 20 ++ knownAt row 10 ++ readingAt row 22 ++ knownAt row 12 ++ readingAt row 24 ++ source traffic row)
+    cond (isOf (layoutNumber layout.Ground) row) (readingAt row 0 ++ readingAt row 1 ++ unknown 4 ++ readingAt row 2 ++ source traffic row)
+    (cond (isOf (layoutNumber layout.Air) row) (unknown 2 ++ readingAt row 0 ++ knownAt row 5 ++ readingAt row 1 ++ knownAt row 7 ++ readingAt row 2 ++ source traffic row)
     (unknown 8))
 
 -- whether the last position message came from the ground: one from the air leaves an encoded position, and one from the ground clears both
 unfoldable pub onGround : Bool → List ℕ → List ℕ
-onGround encoded row = cond encoded (1 ∷ 0 ∷ []) (cond (isOf 2 row) (1 ∷ 1 ∷ []) (unknown 1))
+onGround encoded row = cond encoded (1 ∷ 0 ∷ []) (cond (isOf (layoutNumber layout.Surface) row) (1 ∷ 1 ∷ []) (unknown 1))
 
 -- movement, heading, its status
 unfoldable pub taxiing : List ℕ → List ℕ
-taxiing row = cond (isOf 2 row) (readingAt row 20 ++ readingAt row 22 ++ knownAt row 7) (unknown 3)
+taxiing row = cond (isOf (layoutNumber layout.Surface) row) (readingAt row 0 ++ readingAt row 1 ++ knownAt row 2) (unknown 3)
 
 -- track angle, its status, speed: of a coarse message
 unfoldable pub going : List ℕ → List ℕ
-going row = cond (isOf 7 row) (readingAt row 24 ++ knownAt row 9 ++ readingAt row 26) (unknown 3)
+going row = cond (isOf (layoutNumber layout.Coarse) row) (readingAt row 2 ++ knownAt row 4 ++ readingAt row 3) (unknown 3)
 
 -- an encoded position is saved
 abbrev pub isSaved : Track → Bool
