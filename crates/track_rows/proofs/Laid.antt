@@ -1,12 +1,14 @@
--- Arrays laid out entry by entry: each list of entries is the array that was handed over, whose length its definition has.
+-- Arrays laid out entry by entry, or part by part: each list of entries is the array that was handed over, whose length its definition has.
 -- Assumes nothing.
-use Prim.Native.Nat.{ℕ}
+use Prim.Native.Nat.{ℕ, _≤_}
 use mathlib.Core.Path.{_≡_, refl, sym, ap, ap₂, _∙_}
 use mathlib.Core.Bool.{Bool, true, false}
 use mathlib.Core.List.{List, [], _∷_, _++_}
 use native.Mathlib.Omega.{arith}
-use lib.ListN.{length, getD, length-append}
+use lib.ListN.{length, getD, length-append, replicate}
+use borrow.Rule.Slice.PartMut.{midOf, putMid}
 use Rattle.fields.proofs.Bools.{by-test}
+use Rattle.entries.specs.Arrays.{filled}
 use Rattle.entries.specs.Twos.{twos}
 use Rattle.entries.specs.Means.{bit, altitudeReading, stepReading}
 use Rattle.readings.specs.Altitude.{altitudeOf}
@@ -25,6 +27,7 @@ use Rattle.track_rows.specs.Shown.{rowIn, knownAt, readingAt, unknown, i
 use Rattle.track_rows.specs.Standard.{versionNumber, supplementBits, integrityReading, standardRow}
 use Rattle.track_rows.specs.Tracks.{keptRow, trackRow}
 use Rattle.rows.proofs.Cutting.{chosen, entries-all}
+use Rattle.rows.proofs.Laid.{put-length, parts}
 
 -- ---- what people are shown
 
@@ -170,10 +173,26 @@ module _ (kind : Kind) (t : Track) where
       let r = integrityReading (integrityOf kind (t .groups .status) (t .groups .typecode) (t .groups .bit8)) in
       omega (arith, length-append (supplementBits supplementing) (r .what ∷ r .value ∷ []), bits-length supplementing)
 
-pub joined : (key : ℕ) (t : Track) (kind : Kind) (k s i : List ℕ) → kind ≡ kindIn key
-    → k ≡ keptRow t → s ≡ shown kind t → i ≡ standardRow kind t → entries 0 30 k ++ (entries 0 36 s ++ entries 0 6 i) ≡ trackRow key t
-unfolding trackRow
-joined key t kind k s i q a b c =
-    ap₂ (λ (x y : List ℕ). x ++ y) (whole 30 k _ a (kept-length t))
-    (ap₂ (λ (x y : List ℕ). x ++ y) (whole 36 s _ b (shown-length kind t)) (whole 6 i _ c (standard-length kind t))
-    ∙ ap (λ (z : Kind). shown z t ++ standardRow z t) q)
+abbrev blank : List ℕ
+blank = replicate 72 0
+
+-- kept, shown and standard fill the three parts of an array of zeros, and each part lies within it
+module _ (k s i h f r : List ℕ) where
+  abbrev one : List ℕ
+  one = putMid 0 30 blank h
+
+  abbrev two : List ℕ
+  two = putMid 30 36 one f
+
+  pub second-within : h ≡ filled (length (midOf 0 30 blank)) k → 66 ≤ length one
+  second-within p = omega (arith, put-length 0 30 blank k h p)
+
+  pub third-within : h ≡ filled (length (midOf 0 30 blank)) k → f ≡ filled (length (midOf 30 36 one)) s → 72 ≤ length two
+  third-within p q = omega (arith, put-length 0 30 blank k h p, put-length 30 36 one s f q)
+
+  pub joined : (key : ℕ) (t : Track) (kind : Kind) → kind ≡ kindIn key → k ≡ keptRow t → s ≡ shown kind t → i ≡ standardRow kind t
+      → h ≡ filled (length (midOf 0 30 blank)) k → f ≡ filled (length (midOf 30 36 one)) s → r ≡ filled (length (midOf 66 6 two)) i → putMid 66 6 two r ≡ trackRow key t
+  unfolding trackRow
+  joined key t kind e a b c p q m =
+      parts 30 36 6 blank refl h f r k s i (ap length a ∙ kept-length t) (ap length b ∙ shown-length kind t) (ap length c ∙ standard-length kind t) p q m
+      ∙ ap₂ (λ (x y : List ℕ). x ++ y) a (ap₂ (λ (x y : List ℕ). x ++ y) b c ∙ ap (λ (z : Kind). shown z t ++ standardRow z t) e)

@@ -3,6 +3,7 @@ use crate::shown::shown_values;
 use crate::standard::standard_values;
 use entries::altitude_reading;
 use entries::bit;
+use entries::fill;
 use entries::step_reading;
 use track::Track;
 ghost use mathlib.Core.Path.{_≡_};
@@ -61,82 +62,13 @@ fn kept_values(t: Track) -> [u64; 30]
 pub fn track_values(t: Track, key: u32) -> [u64; 72]
     ensures { λ r. ⌜ r ≡ trackRow key t ⌝ }
 {
-    let k = kept_values(t);
+    let kept = kept_values(t);
     let kind = keys::kind_in(key);
-    let s = shown_values(kind, t);
-    let i = standard_values(kind, t);
-    [
-        k[0],
-        k[1],
-        k[2],
-        k[3],
-        k[4],
-        k[5],
-        k[6],
-        k[7],
-        k[8],
-        k[9],
-        k[10],
-        k[11],
-        k[12],
-        k[13],
-        k[14],
-        k[15],
-        k[16],
-        k[17],
-        k[18],
-        k[19],
-        k[20],
-        k[21],
-        k[22],
-        k[23],
-        k[24],
-        k[25],
-        k[26],
-        k[27],
-        k[28],
-        k[29],
-        s[0],
-        s[1],
-        s[2],
-        s[3],
-        s[4],
-        s[5],
-        s[6],
-        s[7],
-        s[8],
-        s[9],
-        s[10],
-        s[11],
-        s[12],
-        s[13],
-        s[14],
-        s[15],
-        s[16],
-        s[17],
-        s[18],
-        s[19],
-        s[20],
-        s[21],
-        s[22],
-        s[23],
-        s[24],
-        s[25],
-        s[26],
-        s[27],
-        s[28],
-        s[29],
-        s[30],
-        s[31],
-        s[32],
-        s[33],
-        s[34],
-        s[35],
-        i[0],
-        i[1],
-        i[2],
-        i[3],
-        i[4],
-        i[5],
-    ]
+    let shown = shown_values(kind, t);
+    let standard = standard_values(kind, t);
+    let mut row = [0; 72];
+    fill(&mut row[0..30], &kept);
+    fill(&mut row[30..66], &shown);
+    fill(&mut row[66..72], &standard);
+    row
 }

@@ -1,6 +1,7 @@
--- `track_rows::tracks::track_values` meets its contract: the numbers stand in the definition's order.
+-- `track_rows::tracks::track_values` meets its contract: three parts of the array, each filled, are the row.
 -- Assumes nothing.
-use Rattle.track_rows.proofs.Laid.{joined}
+use mathlib.Core.List.{[]}
+use Rattle.track_rows.proofs.Laid.{second-within, third-within, joined}
 use borrow.Author.Needs.{needs}
 use Rattle.track_rows.proofs.tracks.track_values.Statement.{statement}
 use Rattle.track_rows.proofs.tracks.track_values.Tie as tie
@@ -17,227 +18,62 @@ shown-values-requires c κs = search needs
 standard-values-requires : tie.Need-standard-values-requires
 standard-values-requires c κs = search needs
 
-array-read-t12 : tie.Need-array-read-t12
-array-read-t12 c = search needs
+sub-fill : tie.Need-sub-fill
+sub-fill c = search needs
 
-array-read-t15 : tie.Need-array-read-t15
-array-read-t15 c = search needs
+part-row-start : tie.Need-part-row-start
+part-row-start c = search needs
 
-array-read-t18 : tie.Need-array-read-t18
-array-read-t18 c = search needs
+part-row-end : tie.Need-part-row-end
+part-row-end c = search needs
 
-array-read-t21 : tie.Need-array-read-t21
-array-read-t21 c = search needs
+slice-aggregate-fill : tie.Need-slice-aggregate-fill
+slice-aggregate-fill c = search needs
 
-array-read-t24 : tie.Need-array-read-t24
-array-read-t24 c = search needs
+fill-requires : tie.Need-fill-requires
+fill-requires c κs = search needs
 
-array-read-t27 : tie.Need-array-read-t27
-array-read-t27 c = search needs
+sub-fill-2 : tie.Need-sub-fill-2
+sub-fill-2 c = search needs
 
-array-read-t30 : tie.Need-array-read-t30
-array-read-t30 c = search needs
+part-row-start-2 : tie.Need-part-row-start-2
+part-row-start-2 c = search needs
 
-array-read-t33 : tie.Need-array-read-t33
-array-read-t33 c = search needs
+part-row-end-2 : tie.Need-part-row-end-2
+part-row-end-2 c = second-within (c .before .before .before .before .before .before .before .kept-values .result) [] [] (c .before .fill .last .0) [] [] (c .before .fill .ensures)
 
-array-read-t36 : tie.Need-array-read-t36
-array-read-t36 c = search needs
+slice-aggregate-fill-2 : tie.Need-slice-aggregate-fill-2
+slice-aggregate-fill-2 c = search needs
 
-array-read-t39 : tie.Need-array-read-t39
-array-read-t39 c = search needs
+fill-requires-2 : tie.Need-fill-requires-2
+fill-requires-2 c κs = search needs
 
-array-read-t42 : tie.Need-array-read-t42
-array-read-t42 c = search needs
+sub-fill-3 : tie.Need-sub-fill-3
+sub-fill-3 c = search needs
 
-array-read-t45 : tie.Need-array-read-t45
-array-read-t45 c = search needs
+part-row-start-3 : tie.Need-part-row-start-3
+part-row-start-3 c = search needs
 
-array-read-t48 : tie.Need-array-read-t48
-array-read-t48 c = search needs
+part-row-end-3 : tie.Need-part-row-end-3
+part-row-end-3 c =
+    let v = c .before .before .before .before .before .before .before .before in
+    third-within (v .before .before .before .kept-values .result) (v .before .shown-values .result) [] (c .before .before .before .before .before .fill .last .0) (c .before .fill2 .last .0) [] (c .before .before .before .before .before .fill .ensures) (c .before .fill2 .ensures)
 
-array-read-t51 : tie.Need-array-read-t51
-array-read-t51 c = search needs
+slice-aggregate-fill-3 : tie.Need-slice-aggregate-fill-3
+slice-aggregate-fill-3 c = search needs
 
-array-read-t54 : tie.Need-array-read-t54
-array-read-t54 c = search needs
-
-array-read-t57 : tie.Need-array-read-t57
-array-read-t57 c = search needs
-
-array-read-t60 : tie.Need-array-read-t60
-array-read-t60 c = search needs
-
-array-read-t63 : tie.Need-array-read-t63
-array-read-t63 c = search needs
-
-array-read-t66 : tie.Need-array-read-t66
-array-read-t66 c = search needs
-
-array-read-t69 : tie.Need-array-read-t69
-array-read-t69 c = search needs
-
-array-read-t72 : tie.Need-array-read-t72
-array-read-t72 c = search needs
-
-array-read-t75 : tie.Need-array-read-t75
-array-read-t75 c = search needs
-
-array-read-t78 : tie.Need-array-read-t78
-array-read-t78 c = search needs
-
-array-read-t81 : tie.Need-array-read-t81
-array-read-t81 c = search needs
-
-array-read-t84 : tie.Need-array-read-t84
-array-read-t84 c = search needs
-
-array-read-t87 : tie.Need-array-read-t87
-array-read-t87 c = search needs
-
-array-read-t90 : tie.Need-array-read-t90
-array-read-t90 c = search needs
-
-array-read-t93 : tie.Need-array-read-t93
-array-read-t93 c = search needs
-
-array-read-t96 : tie.Need-array-read-t96
-array-read-t96 c = search needs
-
-array-read-t99 : tie.Need-array-read-t99
-array-read-t99 c = search needs
-
-array-read-t102 : tie.Need-array-read-t102
-array-read-t102 c = search needs
-
-array-read-t105 : tie.Need-array-read-t105
-array-read-t105 c = search needs
-
-array-read-t108 : tie.Need-array-read-t108
-array-read-t108 c = search needs
-
-array-read-t111 : tie.Need-array-read-t111
-array-read-t111 c = search needs
-
-array-read-t114 : tie.Need-array-read-t114
-array-read-t114 c = search needs
-
-array-read-t117 : tie.Need-array-read-t117
-array-read-t117 c = search needs
-
-array-read-t120 : tie.Need-array-read-t120
-array-read-t120 c = search needs
-
-array-read-t123 : tie.Need-array-read-t123
-array-read-t123 c = search needs
-
-array-read-t126 : tie.Need-array-read-t126
-array-read-t126 c = search needs
-
-array-read-t129 : tie.Need-array-read-t129
-array-read-t129 c = search needs
-
-array-read-t132 : tie.Need-array-read-t132
-array-read-t132 c = search needs
-
-array-read-t135 : tie.Need-array-read-t135
-array-read-t135 c = search needs
-
-array-read-t138 : tie.Need-array-read-t138
-array-read-t138 c = search needs
-
-array-read-t141 : tie.Need-array-read-t141
-array-read-t141 c = search needs
-
-array-read-t144 : tie.Need-array-read-t144
-array-read-t144 c = search needs
-
-array-read-t147 : tie.Need-array-read-t147
-array-read-t147 c = search needs
-
-array-read-t150 : tie.Need-array-read-t150
-array-read-t150 c = search needs
-
-array-read-t153 : tie.Need-array-read-t153
-array-read-t153 c = search needs
-
-array-read-t156 : tie.Need-array-read-t156
-array-read-t156 c = search needs
-
-array-read-t159 : tie.Need-array-read-t159
-array-read-t159 c = search needs
-
-array-read-t162 : tie.Need-array-read-t162
-array-read-t162 c = search needs
-
-array-read-t165 : tie.Need-array-read-t165
-array-read-t165 c = search needs
-
-array-read-t168 : tie.Need-array-read-t168
-array-read-t168 c = search needs
-
-array-read-t171 : tie.Need-array-read-t171
-array-read-t171 c = search needs
-
-array-read-t174 : tie.Need-array-read-t174
-array-read-t174 c = search needs
-
-array-read-t177 : tie.Need-array-read-t177
-array-read-t177 c = search needs
-
-array-read-t180 : tie.Need-array-read-t180
-array-read-t180 c = search needs
-
-array-read-t183 : tie.Need-array-read-t183
-array-read-t183 c = search needs
-
-array-read-t186 : tie.Need-array-read-t186
-array-read-t186 c = search needs
-
-array-read-t189 : tie.Need-array-read-t189
-array-read-t189 c = search needs
-
-array-read-t192 : tie.Need-array-read-t192
-array-read-t192 c = search needs
-
-array-read-t195 : tie.Need-array-read-t195
-array-read-t195 c = search needs
-
-array-read-t198 : tie.Need-array-read-t198
-array-read-t198 c = search needs
-
-array-read-t201 : tie.Need-array-read-t201
-array-read-t201 c = search needs
-
-array-read-t204 : tie.Need-array-read-t204
-array-read-t204 c = search needs
-
-array-read-t207 : tie.Need-array-read-t207
-array-read-t207 c = search needs
-
-array-read-t210 : tie.Need-array-read-t210
-array-read-t210 c = search needs
-
-array-read-t213 : tie.Need-array-read-t213
-array-read-t213 c = search needs
-
-array-read-t216 : tie.Need-array-read-t216
-array-read-t216 c = search needs
-
-array-read-t219 : tie.Need-array-read-t219
-array-read-t219 c = search needs
-
-array-read-t222 : tie.Need-array-read-t222
-array-read-t222 c = search needs
-
-array-read-t225 : tie.Need-array-read-t225
-array-read-t225 c = search needs
+fill-requires-3 : tie.Need-fill-requires-3
+fill-requires-3 c κs = search needs
 
 returns : tie.Need-returns
 returns c =
-    let a = c .before .before .before .before .args in
-    joined (a .key) (a .t) (c .before .before .kind-in .result) (c .before .before .before .kept-values .result) (c .before .shown-values .result) (c .standard-values .result)
-    (c .before .before .kind-in .ensures) (c .before .before .before .kept-values .ensures) (c .before .shown-values .ensures) (c .standard-values .ensures)
+    let f = c .before .before .before .before .before .before .before .before .before in
+    let v = f .before .before .before in
+    let a = v .before .before .before .before .args in
+    joined (v .before .before .before .kept-values .result) (v .before .shown-values .result) (v .standard-values .result)
+    (f .fill .last .0) (c .before .before .before .before .before .fill2 .last .0) (c .before .fill3 .last .0) (a .key) (a .t) (v .before .before .kind-in .result)
+    (v .before .before .kind-in .ensures) (v .before .before .before .kept-values .ensures) (v .before .shown-values .ensures) (v .standard-values .ensures)
+    (f .fill .ensures) (c .before .before .before .before .before .fill2 .ensures) (c .before .fill3 .ensures)
 
 pub track-values-spec : {M : Type 1} → statement M
 track-values-spec =
@@ -247,76 +83,19 @@ track-values-spec =
     kind-in-requires
     shown-values-requires
     standard-values-requires
-    array-read-t12
-    array-read-t15
-    array-read-t18
-    array-read-t21
-    array-read-t24
-    array-read-t27
-    array-read-t30
-    array-read-t33
-    array-read-t36
-    array-read-t39
-    array-read-t42
-    array-read-t45
-    array-read-t48
-    array-read-t51
-    array-read-t54
-    array-read-t57
-    array-read-t60
-    array-read-t63
-    array-read-t66
-    array-read-t69
-    array-read-t72
-    array-read-t75
-    array-read-t78
-    array-read-t81
-    array-read-t84
-    array-read-t87
-    array-read-t90
-    array-read-t93
-    array-read-t96
-    array-read-t99
-    array-read-t102
-    array-read-t105
-    array-read-t108
-    array-read-t111
-    array-read-t114
-    array-read-t117
-    array-read-t120
-    array-read-t123
-    array-read-t126
-    array-read-t129
-    array-read-t132
-    array-read-t135
-    array-read-t138
-    array-read-t141
-    array-read-t144
-    array-read-t147
-    array-read-t150
-    array-read-t153
-    array-read-t156
-    array-read-t159
-    array-read-t162
-    array-read-t165
-    array-read-t168
-    array-read-t171
-    array-read-t174
-    array-read-t177
-    array-read-t180
-    array-read-t183
-    array-read-t186
-    array-read-t189
-    array-read-t192
-    array-read-t195
-    array-read-t198
-    array-read-t201
-    array-read-t204
-    array-read-t207
-    array-read-t210
-    array-read-t213
-    array-read-t216
-    array-read-t219
-    array-read-t222
-    array-read-t225
+    sub-fill
+    part-row-start
+    part-row-end
+    slice-aggregate-fill
+    fill-requires
+    sub-fill-2
+    part-row-start-2
+    part-row-end-2
+    slice-aggregate-fill-2
+    fill-requires-2
+    sub-fill-3
+    part-row-start-3
+    part-row-end-3
+    slice-aggregate-fill-3
+    fill-requires-3
     returns)
