@@ -59,7 +59,7 @@ decoded-encoded s fields out m h f l d =
 
 -- ---- fields that are accepted, encoded and decoded, come back equal
 
-some-number : (r : Refusal) → numberOf r ≡ 0 → ⊥
+pub some-number : (r : Refusal) → numberOf r ≡ 0 → ⊥
 some-number Length e = omega arith
 some-number Late e = omega arith
 some-number Parity e = omega arith

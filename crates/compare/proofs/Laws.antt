@@ -50,7 +50,7 @@ table-bytes : (c : List ℕ) → Bytes (tableOf c)
 unfolding tableOf
 table-bytes c = blocks-bytes (emptied (replicate (tableSize 256) 0)) c (emptied-bytes (replicate (tableSize 256) 0)) (blocksIn c)
 
-bad-most : (c : List ℕ) (k : ℕ) → badIn c k ≤ k
+pub bad-most : (c : List ℕ) (k : ℕ) → badIn c k ≤ k
 bad-most c zero = omega arith
 bad-most c (suc k) = by (good (blockAt c k)) (bad-most c k)
   where

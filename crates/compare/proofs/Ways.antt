@@ -87,7 +87,7 @@ whole-256 : wholePlaces (tableSize 256) ≡ true
 unfolding wholePlaces
 whole-256 = refl
 
-whole-zeros : wholePlaces (length zeros) ≡ true
+pub whole-zeros : wholePlaces (length zeros) ≡ true
 whole-zeros = ap wholePlaces (length-replicate {A = ℕ} (tableSize 256) 0) ∙ whole-256
 
 module _ (c : List ℕ) {x : SetUp} {l : List ℕ} (set : after x l ≡ setUp zeros) where

@@ -1,3 +1,3 @@
 // Addercoil for C, the functions that show what a table holds: a track as numbers, and the lines of the listing. They are an object of their own in the archive: a place is read in one function of each, and `addercoil_receive` does not pay for a call.
-mod lines;
-mod tracks;
+pub mod lines;
+pub mod tracks;

@@ -74,7 +74,7 @@ abbrev pub key : ℕ
 key = 0x1ABCDEF
 
 -- the keys of C ABCDEF from the two stations
-abbrev key-3 : ℕ
+abbrev pub key-3 : ℕ
 key-3 = 0x9579BDE3
 
 abbrev key-5 : ℕ
@@ -119,16 +119,16 @@ status-first = at state refl refl 1000 (omega arith)
 abbrev other-status : Call
 other-status = at twin-state refl refl 2000 (omega arith)
 
-abbrev station-3 : Call
+abbrev pub station-3 : Call
 station-3 = at from-3 refl refl 1000 (omega arith)
 
 abbrev station-5 : Call
 station-5 = at from-5 refl refl 2000 (omega arith)
 
-abbrev refused-first : Call
+abbrev pub refused-first : Call
 refused-first = at noise refl refl 1000 (omega arith)
 
-abbrev refused : Call
+abbrev pub refused : Call
 refused = at noise refl refl 2000 (omega arith)
 
 -- ---- when the aircraft was last heard at the end of a run, one up, and the ME of its status; 0 if its track is absent

@@ -12,3 +12,4 @@ pub mod Logs
 pub mod Captured
 pub mod OfReplay
 pub mod Doubted
+pub mod OfSliceReplay

@@ -54,7 +54,7 @@ pub record LookUpMet (s : List ℕ) (key : ℕ) (x : Looked) : Type 0 where
   pub its-key : args .1 .0 ≡ key
   pub meets : look-up.Post κs args x left
 
-replay-is : {log : List ℕ} {kind : Kind} {address : ℕ} {site : Site} {x : Looked} → ReplayMet log kind address site x → x ≡ replayed log kind address site
+pub replay-is : {log : List ℕ} {kind : Kind} {address : ℕ} {site : Site} {x : Looked} → ReplayMet log kind address site x → x ≡ replayed log kind address site
 replay-is {log} {kind} {address} {site} b =
     b .meets
     ∙ ap₂ (λ (l : List ℕ) (k : Kind). replayed l k (b .args .1 .1 .0) (b .args .1 .1 .1 .0)) (b .lent) (b .its-kind)

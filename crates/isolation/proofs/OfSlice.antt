@@ -45,43 +45,47 @@ module _ {M : Type 1} (𝓤 : URA M) (H : Heap 𝓤) (A : Atoms 𝓤) (mem : Mem
     pub given : args .1 .1 .0 ≡ site
     pub leaves : after (result .answer) (result .head) (now (left .0)) ≡ r
 
-  -- `receive` was lent the places and the call's bytes, and was given the head and the time
-  pub record Received (s : Slice) (c : Call) (r : After Decoded) : Type 0 where
+  -- `receive` was lent the places and some bytes, and was given the head and the time
+  pub record Received (s : Slice) (message : List ℕ) (time : ℕ) (r : After Decoded) : Type 0 where
     pub κs : Lfts (receive.ended .signature .lifetimes)
     pub args : Args (receive.ended .signature) κs
     pub ghost : receive.clauses 𝓤 H A mem run κs args .ghost
     pub result : Res (receive.ended .signature) κs
     pub left : AtExit receive.ended κs
     pub lent : sliceOf (args .1 .0) (now (args .0)) ≡ s
-    pub message : now (args .1 .1 .0) ≡ c .message
-    pub time : args .1 .1 .1 .0 ≡ c .time
+    pub brings : now (args .1 .1 .0) ≡ message
+    pub at : args .1 .1 .1 .0 ≡ time
     pub leaves : after (result .answer) (result .head) (now (left .0)) ≡ r
 
   -- one after another, each lent the places and given the head that the one before left
   pub data Ran : Slice → List Call → List (After Decoded) → Type 0 where
     stopped : (s : Slice) → Ran s [] []
-    then : {s : Slice} {c : Call} {r : After Decoded} {cs : List Call} {rs : List (After Decoded)} → Received s c r → Ran (r .table) cs rs → Ran s (c ∷ cs) (r ∷ rs)
+    then : {s : Slice} {c : Call} {r : After Decoded} {cs : List Call} {rs : List (After Decoded)} → Received s (c .message) (c .time) r → Ran (r .table) cs rs → Ran s (c ∷ cs) (r ∷ rs)
 
   -- what their contracts promise, as clauses of the logic
   abbrev pub begun : {site : Site} {s : Slice} {r : After SetUp} → Begun site s r → SProp 𝓤
   begun b = set-up.clauses 𝓤 H A mem run (b .κs) (b .args) .ensures (b .ghost) (b .result) (b .left)
 
+  abbrev pub got : {s : Slice} {message : List ℕ} {time : ℕ} {r : After Decoded} → Received s message time r → SProp 𝓤
+  got b = receive.clauses 𝓤 H A mem run (b .κs) (b .args) .ensures (b .ghost) (b .result) (b .left)
+
   abbrev pub ran : {s : Slice} {cs : List Call} {rs : List (After Decoded)} → Ran s cs rs → SProp 𝓤
   ran (stopped s) = emp 𝓤
-  ran (then b more) = sep 𝓤 (receive.clauses 𝓤 H A mem run (b .κs) (b .args) .ensures (b .ghost) (b .result) (b .left)) (ran more)
+  ran (then b more) = sep 𝓤 (got b) (ran more)
 
   -- ---- they did what the rules say
 
-  begun-is : {site : Site} {s : Slice} {r : After SetUp} (b : Begun site s r) → ent 𝓤 (begun b) (fact 𝓤 (r ≡ setUp slice s site))
+  pub begun-is : {site : Site} {s : Slice} {r : After SetUp} (b : Begun site s r) → ent 𝓤 (begun b) (fact 𝓤 (r ≡ setUp slice s site))
   begun-is b = so-too 𝓤 _ _ (λ p. sym (b .leaves) ∙ p ∙ ap₂ (setUp slice) (b .lent) (b .given))
 
-  ran-played : {s : Slice} {cs : List Call} {rs : List (After Decoded)} (w : Ran s cs rs) → ent 𝓤 (ran w) (fact 𝓤 (Played (received slice) s cs rs))
+  pub received-is : {s : Slice} {message : List ℕ} {time : ℕ} {r : After Decoded} (b : Received s message time r) → ent 𝓤 (got b) (fact 𝓤 (r ≡ received slice s message time))
+  received-is {s} {message} b =
+      so-too 𝓤 _ _ (λ p. sym (b .leaves) ∙ p ∙ ap₂ (λ (x : Slice) (m : List ℕ). received slice x m (b .args .1 .1 .1 .0)) (b .lent) (b .brings) ∙ ap (received slice s message) (b .at))
+
+  pub ran-played : {s : Slice} {cs : List Call} {rs : List (After Decoded)} (w : Ran s cs rs) → ent 𝓤 (ran w) (fact 𝓤 (Played (received slice) s cs rs))
   ran-played (stopped s) = factI 𝓤 _ (emp 𝓤) tt
   ran-played (then {s} {c} {r} {cs} {rs} b more) =
-      both-say 𝓤 _ (ran more) _ (Played (received slice) (r .table) cs rs) _
-      (so-too 𝓤 _ (r ≡ call (received slice) s c)
-      (λ p. sym (b .leaves) ∙ p ∙ ap₂ (λ (x : Slice) (m : List ℕ). received slice x m (b .args .1 .1 .1 .0)) (b .lent) (b .message) ∙ ap (received slice s (c .message)) (b .time)))
-      (ran-played more) (λ p q. (p, q))
+      both-say 𝓤 (got b) (ran more) (r ≡ call (received slice) s c) (Played (received slice) (r .table) cs rs) _ (received-is b) (ran-played more) (λ p q. (p, q))
 
   -- two runs of the code from a set-up each, alike for an aircraft, show it the same
   pub slice-code-isolated : (key : ℕ) (site : Site) → East site → (s t : Slice) (a b : After SetUp) (u : Begun site s a) (v : Begun site t b) → a .answer ≡ Done → b .answer ≡ Done

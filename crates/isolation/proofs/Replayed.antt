@@ -80,7 +80,7 @@ module _ (site : Site) (key : ℕ) where
 -- ---- the answer
 
 -- a site with which a set-up is done is not a bad one
-done-site : {S : Type 0} (F : Form S) (s : S) (o : Site) → setUp F s o .answer ≡ Done → badSite o ≡ false
+pub done-site : {S : Type 0} (F : Form S) (s : S) (o : Site) → setUp F s o .answer ≡ Done → badSite o ≡ false
 unfolding setUp
 done-site {S} F s o =
     let P : After S SetUp → Type 0 = λ (x : After S SetUp). x .answer ≡ Done → badSite o ≡ false in
@@ -90,7 +90,7 @@ done-site {S} F s o =
     (λ _ a. absurd (not-done a))
     (λ e _. e))
 
-log-whole : (cs : List Call) → length cs ≤ 2900 → isLog (length (logOf cs)) ≡ true
+pub log-whole : (cs : List Call) → length cs ≤ 2900 → isLog (length (logOf cs)) ≡ true
 log-whole cs h =
     ap isLog (log-length cs) ∙ both (eq-eqb (22 * length cs % 22) 0 (omega arith)) (le-leb (22 * length cs / 22) 2900 (omega arith))
 

@@ -96,7 +96,7 @@ keys-apart k l a b e =
     (sym (kind-back k a) ∙ ap kindIn e ∙ kind-back l b, sym (address-back k a) ∙ ap addressIn e ∙ address-back l b)
 
 -- at a number of the list stands the kind with that number
-listed : (n a : ℕ) → 1 ≤ n → n ≤ length kinds → keyFor (kindAt n) a ≡ numbered n a
+pub listed : (n a : ℕ) → 1 ≤ n → n ≤ length kinds → keyFor (kindAt n) a ≡ numbered n a
 listed zero a l m = absurd (let z : ⊥ = omega arith in z)
 listed (suc zero) a l m = refl
 listed (suc (suc zero)) a l m = refl

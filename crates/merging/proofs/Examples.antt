@@ -49,23 +49,23 @@ use Rattle.merging.proofs.Merged.{two-antennas}
 
 -- ---- messages at one time: of I ABCDEF, the same with its last bit flipped, one of TYPE 0, and of I 123456, this also a second later
 
-abbrev mine : Call
+abbrev pub mine : Call
 mine = record { message = first .message; time = 1000; fits = omega arith }
 
-abbrev damaged : Call
+abbrev pub damaged : Call
 damaged = record { message = flipped 112 (first .message); time = 1000; fits = omega arith }
 
-abbrev silent : Call
+abbrev pub silent : Call
 silent = record { message = no-position .message; time = 1000; fits = omega arith }
 
-abbrev other : Call
+abbrev pub other : Call
 other = record { message = stranger-first .message; time = 1000; fits = omega arith }
 
-abbrev later : Call
+abbrev pub later : Call
 later = record { message = stranger-first .message; time = 2000; fits = omega arith }
 
 -- the key of a message that is acceptable, else 0
-abbrev keyIn : Decoded → ℕ
+abbrev pub keyIn : Decoded → ℕ
 keyIn (decode.Message m) = keyOf m
 keyIn (decode.Refused r) = 0
 
@@ -83,14 +83,14 @@ zero-bytes zero i = omega arith
 zero-bytes (suc n) zero = omega arith
 zero-bytes (suc n) (suc i) = zero-bytes n i
 
-abbrev ready : ℕ → List ℕ
+abbrev pub ready : ℕ → List ℕ
 ready n = setUp bytes (empty-bytes n) noSite .table
 
-zeros : (n : ℕ) → Bytes (ready n)
+pub zeros : (n : ℕ) → Bytes (ready n)
 zeros n = bytes-set-up (empty-bytes n) noSite (zero-bytes (tableSize n))
 
 -- the numbers answered: to a and then to b, and to b and then to a
-record Answers (rule : Rule (List ℕ)) (n : ℕ) (a b : Call) (i j k l : ℕ) : Type 0 where
+pub record Answers (rule : Rule (List ℕ)) (n : ℕ) (a b : Call) (i j k l : ℕ) : Type 0 where
   pub first : numberIn (offered rule (ready n) a b .first) ≡ i
   pub second : numberIn (offered rule (ready n) a b .second) ≡ j
   pub first′ : numberIn (offered rule (ready n) b a .first) ≡ k
@@ -110,7 +110,7 @@ module _ {rule : Rule (List ℕ)} {n : ℕ} {a b : Call} {i j k l : ℕ} (x : An
 -- ---- a listing, by the keys held
 
 -- the row of a key that was heard at 1000 and has said nothing of where it is
-abbrev row : ℕ → Row
+abbrev pub row : ℕ → Row
 row key = record { key = key; heard = 1000; latitude = Unknown; longitude = Unknown; altitude = Unknown; step = Unknown }
 
 abbrev rowsOf : List ℕ → List ℕ
@@ -122,11 +122,11 @@ abbrev textOf : List ℕ → List ℕ
 textOf keys = headerText 1000 (length keys) 0 ++ rowsOf keys
 
 -- a walk from a key on, with the row of each key
-data Rows (s : List ℕ) : ℕ → List ℕ → Type 0 where
+pub data Rows (s : List ℕ) : ℕ → List ℕ → Type 0 where
   last : {above : ℕ} → nextAbove bytes s above ≡ End → Rows s above []
   row-of : {above key : ℕ} {keys : List ℕ} → nextAbove bytes s above ≡ Key key → rowFor true key (view s key) ≡ some (row key) → Rows s key keys → Rows s above (key ∷ keys)
 
-record Holds (s keys : List ℕ) : Type 0 where
+pub record Holds (s keys : List ℕ) : Type 0 where
   pub whole : wholePlaces (length s) ≡ true
   pub clock : clockOf s ≡ 1000
   pub rows : Rows s 0 keys
@@ -160,11 +160,11 @@ digits-apart e = let z : _≡_ {A = ℕ} 65 49 = ap (λ (t : List ℕ). getD t 3
 
 -- ---- computed
 
-abbrev heldIn : Option Track → ℕ
+abbrev pub heldIn : Option Track → ℕ
 heldIn none = 0
 heldIn (some t) = 1
 
-record Computed : Type 0 where
+pub record Computed : Type 0 where
   pub keys : (keyIn (decoded (mine .message)) ≡ 0x1ABCDEF) × (keyIn (decoded (other .message)) ≡ 0x1123456) × (keyIn (decoded (damaged .message)) ≡ 0)
   pub two-places : Answers (received bytes) 2 mine other 0 0 0 0
   pub both-held : Holds (offered (received bytes) (ready 2) mine other .table) (0x1123456 ∷ 0x1ABCDEF ∷ [])
@@ -179,7 +179,7 @@ record Computed : Type 0 where
   pub by-overwriting : Answers (overwriting bytes) 1 mine other 0 0 0 0
   pub overwritten : (heldIn (view (offered (overwriting bytes) (ready 1) mine other .table) 0x1ABCDEF) ≡ 0) × (heldIn (view (offered (overwriting bytes) (ready 1) other mine .table) 0x1ABCDEF) ≡ 1)
 
-computed : Computed
+pub computed : Computed
 unfolding flipped remainder remainderFrom reduce opened kindOf isHeld holds setUp placeOf freePlace delivered received nextAbove better viewAt wholePlaces siteFrom keyAt bodyAt moved stored emptied numberAt lowBytes put savedFrom groupsIn lowered positionIn writtenIn meantGroups meantPosition meantSaved meant trackOf abovePole marksOf savedNumber savedBytes messageBytes spotBytes bodyOf inRange groupTrack surfaceTrack surfacePosition latitudeIn longitudeIn feet stepIn rowOf rowFor altitudeOf
 computed =
     record {
@@ -198,7 +198,7 @@ computed =
       overwritten = (refl, refl);
     }
 
-mine-other : OfOneKey mine other → ⊥
+pub mine-other : OfOneKey mine other → ⊥
 mine-other = apart mine other (computed .keys .0) (computed .keys .1) (λ e. omega arith)
 
 -- ---- not empty

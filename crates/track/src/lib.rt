@@ -160,14 +160,13 @@ fn aloft_in(g: Groups, coarse: bool, me: u64) -> Aloft
     }
 }
 
-// The saved one of the other F. A branch costs less than an index, for which both are laid out in memory.
+// The saved one of the other F.
 fn other_of(both: [Saved; 2], f: u8) -> Saved
     requires { ⌜ f < 2 ⌝ }
     ensures { λ r. ⌜ r ≡ getD both (1 - f) noSaved ⌝ }
 {
-    let even = both[0];
-    let odd = both[1];
-    if f == 0 { odd } else { even }
+    let other = (1 - f) as usize;
+    both[other]
 }
 
 // The two saved ones, with another for that of its F.
@@ -175,9 +174,9 @@ fn with_own(both: [Saved; 2], f: u8, own: Saved) -> [Saved; 2]
     requires { ⌜ f < 2 ⌝ }
     ensures { λ r. ⌜ r ≡ set both f own ⌝ }
 {
-    let even = both[0];
-    let odd = both[1];
-    if f == 0 { [own, odd] } else { [even, own] }
+    let mut saved = both;
+    saved[f as usize] = own;
+    saved
 }
 
 // A position in the air, fine or coarse, is saved by its F, and paired with the other one.

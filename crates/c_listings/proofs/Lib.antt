@@ -1,0 +1,5 @@
+pub mod Printed
+pub mod Checked
+pub mod Ordered
+pub mod Every
+pub mod Examples

@@ -1,0 +1,4 @@
+pub mod Calls
+pub mod Prints
+pub mod Checks
+pub mod Orders

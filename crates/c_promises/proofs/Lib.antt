@@ -1,0 +1,13 @@
+pub mod Followed
+pub mod Isolated
+pub mod Flipped
+pub mod Own
+pub mod Coarse
+pub mod Replayed
+pub mod Stamped
+pub mod Timed
+pub mod Degrees
+pub mod Every
+pub mod Examples
+pub mod StampExamples
+pub mod DegreeExamples

@@ -1,0 +1,7 @@
+pub mod Calls
+pub mod Runs
+pub mod Flips
+pub mod Logs
+pub mod Stamps
+pub mod Times
+pub mod Degrees
