@@ -221,6 +221,11 @@ uint32_t addercoil_next(const uint8_t *table, size_t table_len, uint32_t key, ui
  * heard it is 0; kinds T, M, N and C are version 1. Up to three bits supplement the TYPE: A (versions 1 and 2) and C
  * (version 2, on the surface) stand in the status, B (version 2, in the air) in the position message. A coarse message
  * has no TYPE, and says nothing of it: of kind C the integrity is unknown.
+ *
+ * What is said of each entry holds of a table that a set-up made. Of bytes that none made five entries can say more:
+ * VELOCITY is any ME under a key of any kind, if its mark says that it is a coarse message; POSITION_TYPE is any number
+ * of 5 bits, of kind C too; POSITION_BIT8 and SUPPLEMENT_B can be 1 beside a TYPE of the surface; and ON_GROUND goes by
+ * the encoded positions and the ME of the surface, whatever POSITION_TYPE is. No reading is refused for that.
  */
 enum {
     ADDERCOIL_TRACK_HELD,                  /* 0 or 1 */

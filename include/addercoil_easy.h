@@ -400,13 +400,14 @@ static inline uint32_t addercoil_easy_replay(const uint8_t *log, size_t length, 
     return addercoil_easy_to_track(number, row, track);
 }
 
-/* The same with a site, at which kind C does not look, not even at a bad one. */
+/* The same with a site. Kind C does not look at it, but a latitude beyond a pole is refused all the same. */
 static inline uint32_t addercoil_easy_replay_at(const uint8_t *log, size_t length, uint32_t key,
                                                 struct addercoil_spot site, struct addercoil_track *track) {
     uint64_t row[ADDERCOIL_TRACK];
     uint32_t number;
     if (ADDERCOIL_KEY_IS_COARSE(key)) {
-        return addercoil_easy_replay_coarse(log, length, key, track);
+        int beyond = site.latitude < -0x40000000 || site.latitude > 0x40000000;
+        return addercoil_easy_replay_coarse(log, length, beyond ? 0 : key, track); /* 0 is no key, with the same number */
     }
     number = addercoil_replay_at(log, length, ADDERCOIL_KEY_KIND(key), ADDERCOIL_KEY_AA(key), site.latitude,
                                  site.longitude, row, ADDERCOIL_TRACK);

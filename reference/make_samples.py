@@ -318,7 +318,7 @@ def hex_listing(strings, step, every):
 
 
 SAMPLES = {"example": example, "busy-hour": busy_hour, "crowd": crowd, "gliders": gliders, "airport": airport, "stations": stations}
-RUN = "example"  # its two listings are the same
+RUN = "stations"  # what the crate is run on: its two listings differ, so that the default is seen
 LISTINGS = {"listing": True, "positioned": False}  # the ending of a sample's listing, and whether all are asked for
 
 
@@ -330,6 +330,8 @@ def files():
         for ending, every in LISTINGS.items():
             yield f"samples/{name}.{ending}", listing(whole, every).encode("ascii")
         if name == RUN:
+            if listing(whole, False) == listing(whole, True):
+                sys.exit(f"the two listings of {name} are the same")
             yield "crates/listing/stdin", whole
             yield "crates/listing/stdout", listing(whole, False).encode("ascii")
     strings = list(minute())

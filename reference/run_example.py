@@ -1,16 +1,18 @@
 """Runs the example in C on its sample, and on lines that no receiver prints, and compares with the model: of all tracks,
-with and without being asked, and of those with a position. A choice that is neither is a usage line.
+with and without being asked, and of those with a position. Words that it does not take are a usage line; an input that
+cannot be read and an output that cannot be written are said.
 
     python3 reference/run_example.py
 
 tools/build-c must have built target/c/PROCESSOR/listing.
 """
 
+import subprocess
 import sys
 from itertools import product
 
 from make_samples import STEP, hex_lines, hex_listing, minute
-from programs import C, ran
+from programs import C, ROOT, ran
 
 GOOD = "8DABCDEF58378200010000300279"
 
@@ -43,6 +45,21 @@ def cases():
     yield b"", [], 1
 
 
+WRONG = [1, 2], ["x"], [""], ["-1"], ["1x"], [" 1"], [2**64], [1, "x"], [1, ""], [1, -1], [1, 2**32], [1, 1, 1]
+
+
+def failures():
+    """What it does otherwise than it must with such words, or such an input or output."""
+    for words in WRONG:
+        done = ran(f"{C}/listing", *words, given=GOOD.encode("ascii"))
+        if (done.returncode, done.stdout, done.stderr[:14]) != (2, b"", b"usage: listing"):
+            yield f"listing {words}: status {done.returncode}, {done.stdout}, {done.stderr}"
+    for words, said in {"< /": b"the input cannot be read to its end", "< /dev/null > /dev/full": b"the output cannot be written"}.items():
+        done = subprocess.run(["sh", "-c", f"exec tools/run target/{C}/listing {words}"], cwd=ROOT, capture_output=True, timeout=60, check=False)
+        if (done.returncode, done.stdout, done.stderr) != (1, b"", b"0 refused\nlisting: " + said + b"\n"):
+            yield f"listing {words}: status {done.returncode}, {done.stdout}, {done.stderr}"
+
+
 def main():
     for (given, strings, step), (words, every) in product(cases(), CHOICES.items()):
         done = ran(f"{C}/listing", step, *words, given=given)
@@ -51,12 +68,9 @@ def main():
             print(f"status {done.returncode}; the model says {refused} refused and\n{listing.decode()}and the example")
             print((done.stderr + done.stdout).decode())
             return 1
-    done = ran(f"{C}/listing", 1, 2, given=b"")
-    if (done.returncode, done.stdout) != (2, b"") or b"usage" not in done.stderr:
-        print(f"a choice that is neither: status {done.returncode}, {done.stdout}, {done.stderr}")
-        return 1
-    print("the example prints what the model says, both ways")
-    return 0
+    wrong = list(failures())
+    print("\n".join(wrong) if wrong else "the example prints what the model says, both ways, and says what it cannot do")
+    return 1 if wrong else 0
 
 
 if __name__ == "__main__":

@@ -95,12 +95,12 @@ def number_of(made, line, time):
     return 0
 
 
-def model(given, site=None):
-    """The listing of lines, and how many got each number."""
+def model(given, site=None, every=True):
+    """The listing of lines, of all tracks or of those with a position, and how many got each number."""
     made = bytearray(table.length_of(PLACES))
     table.set_up(made, site)
     counts = Counter(number_of(made, line, time) for time, line in enumerate(lines_of(given)))
-    return listings(listing_of(made, 0, True))[0], counts
+    return listings(listing_of(made, 0, every))[0], counts
 
 
 def counted(counts):
@@ -118,11 +118,12 @@ def compare(what, found, expected):
 
 
 def try_at_once(what, given, *words, site=None):
-    """Lines that come at once: the last listing and the counts. How many got each number."""
-    expected, counts = model(given, site)
-    done = ran(PROGRAM, *words, given=given, seconds=60)
-    due(f"{what}: its end", (done.returncode, done.stderr.decode()), (0, counted(counts)))
-    compare(what, last_listing(done.stdout), expected)
+    """Lines that come at once, with all tracks asked for and without: the last listing and the counts. How many got each number."""
+    for asked in (["all"], []):
+        expected, counts = model(given, site, bool(asked))
+        done = ran(PROGRAM, *asked, *words, given=given, seconds=60)
+        due(f"{what}: its end", (done.returncode, done.stderr.decode()), (0, counted(counts)))
+        compare(f"{what} {asked}", last_listing(done.stdout), expected)
     return counts
 
 
@@ -191,6 +192,8 @@ def real_lines():
     """The sample in all forms; the tracks are those of its listing, and each form has the same counts."""
     strings = list(minute())
     sample = listings((ROOT / "samples/minute.listing").read_text(encoding="ascii"))[0]
+    if model(hex_lines(strings), every=False)[0].rows == sample.rows:
+        sys.exit("the minute's tracks all have a position: the choice is not seen")
     for form, given in forms(strings):
         due(f"{form}: the model and the sample", model(given)[0].rows, sample.rows)
         counts = try_at_once(f"the minute, {form}", given)
@@ -216,11 +219,12 @@ def damage():
 
 
 def crowd():
-    """One aircraft more than there are places."""
+    """One aircraft more than there are places; none has a position."""
     strings = [traffic.identification(TRANSPONDER, aa, "CROWD") for aa in range(1, MOST + 2)]
-    done = ran(PROGRAM, given=hex_lines(strings))
-    due("a full table", done.stderr.decode(), counted(Counter({0: MOST, 6: 1})))
-    due("a full table: its tracks", len(last_listing(done.stdout).rows), MOST)
+    for asked, shown in ((["all"], MOST), ([], 0)):
+        done = ran(PROGRAM, *asked, given=hex_lines(strings))
+        due("a full table", done.stderr.decode(), counted(Counter({0: MOST, 6: 1})))
+        due("a full table: its tracks", len(last_listing(done.stdout).rows), shown)
 
 
 def sites():
@@ -277,7 +281,7 @@ def pieces():
 
 def silence():
     """Listings come while no line does, each a second or more after the last; the last comes at the end of the input."""
-    with running("1") as process:
+    with running("all", "1") as process:
         send(process, b"*%b;\n" % GOOD.hex().encode())
         found = [next_listing(process) for _ in range(3)]
         send(process, b"*%b;\n" % LATER.hex().encode())
@@ -294,7 +298,7 @@ def silence():
 
 def interrupted():
     """An interrupt is an end too; a line that has not ended is none."""
-    with running("1") as process:
+    with running("all", "1") as process:
         send(process, b"*%b;\n*8D" % GOOD.hex().encode())
         next_listing(process)
         process.send_signal(signal.SIGINT)
@@ -329,7 +333,7 @@ def terminal():
 
 # Words that ask for nothing that there is
 WRONG = [""], ["0"], ["0.9"], ["-1"], ["x"], ["1x"], ["nan"], ["inf"], ["86401"], ["1", "45"], ["1", "90.001", "0"], ["1", "0", "180.1"]
-WRONG += ["1", "nan", "0"], ["1", "0", "x"], ["1", "0", ""], ["1", "0", "0", "0"]
+WRONG += ["1", "nan", "0"], ["1", "0", "x"], ["1", "0", ""], ["1", "0", "0", "0"], ["All"], ["1", "all"], ["all", "all"], ["all", "0"]
 
 
 def failures():

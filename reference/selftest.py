@@ -1297,9 +1297,13 @@ def receiver_lines():
     skipped = ["*02E197B0F70AF6;", "@00000000000102E197B0F70AF6;", "7 02E197B0F70AF6"]
     skipped += ["", "hello", f"*{first}", f"{first};", f"*{first}00;", f"*{first[:-1]};"]
     skipped += [f"@{first};", f"-1 {first}", "*;", "\xff"]
-    due = [(9, one), (9, other)], "2 taken, 3 short, 10 other lines"
+    due = [(20, one), (9, other)], "2 taken, 3 short, 10 other lines"  # eleven lines before the first have no time
     equal("what is skipped", made_capture("\n".join([*skipped, f"*{first};", f"9 {second}"]), "--start", "9"), due)
     equal("nothing", made_capture(""), ([], "0 taken, 0 short, 0 other lines"))
+    strings, step = list(make_samples.minute()), make_samples.STEP
+    records = made_capture(make_samples.hex_lines(strings).decode("ascii"), "--step", str(step))[0]
+    due = make_samples.hex_listing(strings, step, True)[0]
+    equal("the clock of the C example", captures.listing(captures.capture(records), True).encode("ascii"), due)
     damaged = message_vectors.flipped(one, 7)
     equal("nothing is judged", made_capture(f"8 {damaged.hex()}")[0], [(8, damaged)])
 

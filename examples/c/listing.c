@@ -1,12 +1,13 @@
 /*
  * Reads messages in hex on standard input, one a line as *HEX; or HEX, keeps a table of 256 places and prints the
- * listing at the end: listing [STEP [ALL]]. Message k, from 0, arrives at k times STEP milliseconds, or k. The listing
- * has all tracks, or with 0 for ALL those whose position is known.
+ * listing at the end: listing [STEP [ALL]]. Line k, from 0, arrives at k times STEP milliseconds, or k. The listing has
+ * all tracks, or with 0 for ALL those whose position is known.
  *
  * tools/staticlib && gcc -std=c99 -Iinclude examples/c/listing.c target/staticlib/$(uname -m)/libaddercoil.a -o c-listing
  */
 #include <addercoil.h>
 #include <ctype.h>
+#include <errno.h>
 #include <stdio.h>
 #include <stdlib.h>
 
@@ -55,21 +56,43 @@ static unsigned long receive_all(FILE *in, uint64_t step) {
     return refused;
 }
 
-int main(int count, char **arguments) {
+/* A word that is a whole number up to so many; whether it is one. */
+static int number_in(const char *word, unsigned long long most, uint64_t *number) {
+    char *end;
+    errno = 0;
+    *number = strtoull(word, &end, 10);
+    return isdigit((unsigned char)word[0]) && *end == '\0' && errno == 0 && *number <= most;
+}
+
+/* The listing; whether it could be written. */
+static int print_listing(uint32_t all) {
     uint8_t text[ADDERCOIL_LINE];
     uint64_t key[1] = {0};
-    uint64_t step = count > 1 ? strtoull(arguments[1], NULL, 10) : 1;
-    uint32_t all = count > 2 ? (uint32_t)strtoul(arguments[2], NULL, 10) : 1;
-    addercoil_set_up(table, sizeof table);
-    fprintf(stderr, "%lu refused\n", receive_all(stdin, step));
-    if (addercoil_header(table, sizeof table, 0, all, text, sizeof text) != ADDERCOIL_OK) {
-        fputs("usage: listing [STEP [ALL]], with 0 or 1 for ALL\n", stderr);
-        return 2;
-    }
+    addercoil_header(table, sizeof table, 0, all, text, sizeof text);
     fputs((const char *)text, stdout);
     while (addercoil_next(table, sizeof table, (uint32_t)key[0], key, 1) == ADDERCOIL_OK && key[0] != 0) {
         addercoil_line(table, sizeof table, (uint32_t)key[0], all, text, sizeof text);
         fputs((const char *)text, stdout);
+    }
+    return fflush(stdout) == 0 && !ferror(stdout);
+}
+
+int main(int count, char **arguments) {
+    uint64_t step = 1, all = 1;
+    if (count > 3 || (count > 1 && !number_in(arguments[1], UINT64_MAX, &step)) ||
+        (count > 2 && !number_in(arguments[2], 1, &all))) {
+        fputs("usage: listing [STEP [ALL]], STEP a whole number of milliseconds, and 0 or 1 for ALL\n", stderr);
+        return 2;
+    }
+    addercoil_set_up(table, sizeof table);
+    fprintf(stderr, "%lu refused\n", receive_all(stdin, step));
+    if (ferror(stdin)) {
+        fputs("listing: the input cannot be read to its end\n", stderr);
+        return 1;
+    }
+    if (!print_listing((uint32_t)all)) {
+        fputs("listing: the output cannot be written\n", stderr);
+        return 1;
     }
     return 0;
 }

@@ -1,11 +1,12 @@
 /*
- * Shows the aircraft of a receiver while its lines come on standard input: live [SECONDS [LATITUDE LONGITUDE]]. A line
- * is *HEX; or @TTTTTTTTTTTTHEX; as dump1090 and readsb print them on port 30002; the twelve digits are the receiver's
- * time, which is not used: a message arrives when its line does. Every so many seconds, or each second, the listing of
- * all tracks is printed, on a terminal in place of the last one; and once more at the end of the input, or when the
- * program is interrupted. Then it says how many messages were taken, how many were refused with which number, and how
- * many lines had no message. With the receiver's latitude and longitude in degrees, north and east above zero,
- * positions on the ground are read against them.
+ * Shows the aircraft of a receiver while its lines come on standard input: live [all] [SECONDS [LATITUDE LONGITUDE]]. A
+ * line is *HEX; or @TTTTTTTTTTTTHEX; as dump1090 and readsb print them on port 30002; the twelve digits are the
+ * receiver's time, which is not used: a message arrives when its line does. Every so many seconds, or each second, the
+ * listing is printed, on a terminal in place of the last one; and once more at the end of the input, or when the program
+ * is interrupted. It has the aircraft whose position is known, or with the word all every one that is held. Then the
+ * program says how many messages were taken, how many were refused with which number, and how many lines had no message.
+ * With the receiver's latitude and longitude in degrees, north and east above zero, positions on the ground are read
+ * against them.
  *
  * tools/staticlib && gcc -std=c99 -Iinclude examples/c/live.c target/staticlib/$(uname -m)/libaddercoil.a -o live
  * nc localhost 30002 | ./live
@@ -18,6 +19,7 @@
 #include <signal.h>
 #include <stdio.h>
 #include <stdlib.h>
+#include <string.h>
 #include <time.h>
 #include <unistd.h>
 
@@ -37,6 +39,7 @@ struct line {
 static uint8_t table[ADDERCOIL_TABLE_BYTES(1024)];
 static unsigned long answered[NUMBERS]; /* how many messages got each number */
 static unsigned long others;            /* how many lines had no message */
+static uint32_t all;                    /* 1 if every aircraft that is held is shown, 0 for those with a position */
 static uint64_t start;
 static volatile sig_atomic_t interrupted;
 
@@ -122,10 +125,10 @@ static int print_listing(uint64_t time) {
     if (isatty(STDOUT_FILENO)) {
         fputs("\033[H\033[J", stdout); /* home, and clear */
     }
-    addercoil_header(table, sizeof table, 0, 1, text, sizeof text);
+    addercoil_header(table, sizeof table, 0, all, text, sizeof text);
     fputs((const char *)text, stdout);
     while (addercoil_next(table, sizeof table, (uint32_t)key, &key, 1) == ADDERCOIL_OK && key != 0) {
-        addercoil_line(table, sizeof table, (uint32_t)key, 1, text, sizeof text);
+        addercoil_line(table, sizeof table, (uint32_t)key, all, text, sizeof text);
         fputs((const char *)text, stdout);
     }
     return fflush(stdout) == 0 && !ferror(stdout);
@@ -211,8 +214,9 @@ static int set_up(int count, char **words, double *seconds) {
 int main(int count, char **arguments) {
     double seconds = 1;
     const char *fault;
-    if (!set_up(count - 1, arguments + 1, &seconds)) {
-        fputs("usage: live [SECONDS [LATITUDE LONGITUDE]], 1 second or more, degrees to the north and east\n", stderr);
+    all = count > 1 && strcmp(arguments[1], "all") == 0;
+    if (!set_up(count - 1 - (int)all, arguments + 1 + all, &seconds)) {
+        fputs("usage: live [all] [SECONDS [LATITUDE LONGITUDE]], 1 second or more, degrees to the north and east\n", stderr);
         return 2;
     }
     signal(SIGINT, interrupt);

@@ -134,8 +134,18 @@ static uint32_t look_up(struct addercoil_table table, uint32_t key, uint64_t *ro
     return put_track(addercoil_easy_look_up(table, key, &track), &track, row);
 }
 
+/* Whether a replay with a site beyond either pole is refused with the number of a field, and leaves the struct. */
+static int beyond_refused(const uint8_t *log, size_t size, uint32_t key) {
+    struct addercoil_track track, fresh;
+    memset(&fresh, FRESH, sizeof fresh);
+    track = fresh;
+    return addercoil_easy_replay_at(log, size, key, spot(0x40000001, 0), &track) == ADDERCOIL_REFUSED_FIELD &&
+           addercoil_easy_replay_at(log, size, key, spot(-(uint64_t)0x40000001, 0), &track) == ADDERCOIL_REFUSED_FIELD &&
+           memcmp(&track, &fresh, sizeof track) == 0;
+}
+
 /* Of a kind and an address, with a site or without; or of an address, a flag and a station. A site changes nothing of
- * the latter. */
+ * the latter, but one beyond a pole is refused. */
 static uint32_t replay(const struct call *call, const uint8_t *log, uint64_t *row) {
     const uint64_t *n = call->numbers;
     struct addercoil_track track;
@@ -145,8 +155,8 @@ static uint32_t replay(const struct call *call, const uint8_t *log, uint64_t *ro
         key = ADDERCOIL_KEY_COARSE(n[0], n[1], n[2]);
         number = (n[0] + n[2]) % 2 == 0
                      ? addercoil_easy_replay(log, call->given_size, key, &track)
-                     : addercoil_easy_replay_at(log, call->given_size, key, spot(0x7FFFFFFF, n[0]), &track);
-        return put_track(number, &track, row);
+                     : addercoil_easy_replay_at(log, call->given_size, key, spot(0x40000000, n[0]), &track);
+        return number != ADDERCOIL_OK || beyond_refused(log, call->given_size, key) ? put_track(number, &track, row) : NO_NUMBER;
     }
     number = call->function == REPLAY ? addercoil_easy_replay(log, call->given_size, key, &track)
                                       : addercoil_easy_replay_at(log, call->given_size, key, spot(n[2], n[3]), &track);

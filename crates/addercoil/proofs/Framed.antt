@@ -22,8 +22,7 @@ use Rattle.layouts.specs.Bodies.{layoutBy, isTaken, layoutWidths, takenAs, body
 use Rattle.layouts.proofs.BothWays.{fields-read, flag-read, station-read}
 use Rattle.messages.specs.declared.Frame.{Frame}
 use Rattle.messages.specs.Message.{kindOf, messageKind, keyOf, trafficBy, withBody}
-use Rattle.messages.specs.Accepted.{frameCoarse, frameKind, frameKey, frameSays}
-use Rattle.messages.proofs.Acceptance.{messageOf}
+use Rattle.messages.specs.Accepted.{frameCoarse, frameKind, frameKey, frameSays, messageOf}
 use Rattle.messages.proofs.Flags.{traffic-is}
 use Rattle.readings.specs.Bodies.{readingsOf}
 use Rattle.rows.specs.Rows.{rowOf, fourOf, fourIn, messageFour, messageRow, meRow, rowInto}

@@ -12,7 +12,7 @@ use Rattle.encoder.specs.declared.Encoded.{Encoded}
 use Rattle.encoder.specs.declared.Encoded.the-variants as encode
 use Rattle.encoder.specs.Encoded.{encoded, encodedBytes}
 use Rattle.rows.specs.From.{messageFrom}
-use Rattle.rows.specs.Rows.{messageRow}
+use Rattle.rows.specs.Rows.{rowSize, messageRow}
 use Rattle.entries.specs.Sent.{Sent, sent}
 
 -- a decoded message
@@ -31,4 +31,4 @@ encodedAs out (decode.Refused r) = sent (numberOf r) out
 
 -- 1 for a wrong length of either, then 8
 unfoldable pub encodedFrom : List ℕ → List ℕ → Sent
-encodedFrom fields out = cond (not (eqb (length fields) 28) || not (eqb (length out) 14)) (sent 1 out) (encodedAs out (messageFrom fields))
+encodedFrom fields out = cond (not (eqb (length fields) rowSize) || not (eqb (length out) 14)) (sent 1 out) (encodedAs out (messageFrom fields))

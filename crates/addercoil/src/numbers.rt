@@ -8,10 +8,11 @@ ghost use lib.ListN.{length};
 ghost use Rattle.messages.specs.Message.{decoded};
 ghost use Rattle.messages.specs.Accepted.{frameSays, decodedBy};
 ghost use Rattle.entries.specs.Sent.{sent, given, into};
+ghost use Rattle.rows.specs.Rows.{rowSize};
 ghost use Rattle.addercoil.specs.Messages.{messageSaid, encodedNumber, encodedAs, encodedFrom};
 
 fn give_frame(out: &mut [u64], f: Frame) -> u32
-    requires { ⌜ length (now out) ≡ 28 ⌝ }
+    requires { ⌜ length (now out) ≡ rowSize ⌝ }
     ensures { λ r. ⌜ sent r (now (out .exit)) ≡ given (now (out .entry)) (messageSaid (frameSays f)) ⌝ }
 {
     let layout = layouts::layout_by(messages::frame_coarse(f), f.me);
@@ -27,7 +28,7 @@ fn give_frame(out: &mut [u64], f: Frame) -> u32
 }
 
 fn give_message(out: &mut [u64], answer: Accepted) -> u32
-    requires { ⌜ length (now out) ≡ 28 ⌝ }
+    requires { ⌜ length (now out) ≡ rowSize ⌝ }
     ensures { λ r. ⌜ sent r (now (out .exit)) ≡ given (now (out .entry)) (messageSaid (decodedBy answer)) ⌝ }
 {
     match answer {
@@ -39,9 +40,9 @@ fn give_message(out: &mut [u64], answer: Accepted) -> u32
 // What a message says, into 28 entries. Or 1, then 3, 4, 5.
 #[no_mangle]
 pub extern "C" fn addercoil_decode(message: &[u8], fields: &mut [u64]) -> u32
-    ensures { λ r. ⌜ sent r (now (fields .exit)) ≡ into 28 (now (fields .entry)) (messageSaid (decoded (now (message .entry)))) ⌝ }
+    ensures { λ r. ⌜ sent r (now (fields .exit)) ≡ into rowSize (now (fields .entry)) (messageSaid (decoded (now (message .entry)))) ⌝ }
 {
-    if fields.len() != 28 {
+    if fields.len() != rows::ROW {
         return 1;
     }
     give_message(fields, messages::frame_in(message))
@@ -70,7 +71,7 @@ fn encode_into(out: &mut [u8], answer: Decoded) -> u32
 pub extern "C" fn addercoil_encode(fields: &[u64], message: &mut [u8]) -> u32
     ensures { λ r. ⌜ sent r (now (message .exit)) ≡ encodedFrom (now (fields .entry)) (now (message .entry)) ⌝ }
 {
-    if (fields.len() != 28) | (message.len() != 14) {
+    if (fields.len() != rows::ROW) | (message.len() != 14) {
         return 1;
     }
     encode_into(message, rows::message_from(fields))

@@ -5,6 +5,7 @@ use whereabouts::Site;
 ghost use mathlib.Core.Path.{_≡_};
 ghost use Rattle.whereabouts.specs.Located.{noSite, siteAt};
 ghost use Rattle.entries.specs.Sent.{sent, given, into};
+ghost use Rattle.track_rows.specs.Tracks.{trackSize};
 ghost use Rattle.audit.specs.Replays.{workedOut, replaySaid, coarseSaid};
 
 fn give_of(out: &mut [u64], log: &[u8], kind: Kind, address: u32, site: Site) -> u32
@@ -44,9 +45,9 @@ fn give_coarse(out: &mut [u64], log: &[u8], address: u32, flag: u32, station: u3
 // The track of a kind and an address after the records of a log, zeros if it is not held, into 72 entries. Or 1, then 14, then 8.
 #[no_mangle]
 pub extern "C" fn addercoil_replay(log: &[u8], kind: u32, address: u32, out: &mut [u64]) -> u32
-    ensures { λ r. ⌜ sent r (now (out .exit)) ≡ into 72 (now (out .entry)) (replaySaid (now (log .entry)) kind address noSite) ⌝ }
+    ensures { λ r. ⌜ sent r (now (out .exit)) ≡ into trackSize (now (out .entry)) (replaySaid (now (log .entry)) kind address noSite) ⌝ }
 {
-    if out.len() != 72 {
+    if out.len() != track_rows::TRACK {
         return 1;
     }
     give_replay(out, log, kind, address, whereabouts::no_site())
@@ -62,9 +63,9 @@ pub extern "C" fn addercoil_replay_at(
     longitude: u32,
     out: &mut [u64],
 ) -> u32
-    ensures { λ r. ⌜ sent r (now (out .exit)) ≡ into 72 (now (out .entry)) (replaySaid (now (log .entry)) kind address (siteAt (record { latitude = latitude; longitude = longitude }))) ⌝ }
+    ensures { λ r. ⌜ sent r (now (out .exit)) ≡ into trackSize (now (out .entry)) (replaySaid (now (log .entry)) kind address (siteAt (record { latitude = latitude; longitude = longitude }))) ⌝ }
 {
-    if out.len() != 72 {
+    if out.len() != track_rows::TRACK {
         return 1;
     }
     let spot = Spot {
@@ -87,9 +88,9 @@ pub extern "C" fn addercoil_replay_coarse(
     station: u32,
     out: &mut [u64],
 ) -> u32
-    ensures { λ r. ⌜ sent r (now (out .exit)) ≡ into 72 (now (out .entry)) (coarseSaid (now (log .entry)) address flag station) ⌝ }
+    ensures { λ r. ⌜ sent r (now (out .exit)) ≡ into trackSize (now (out .entry)) (coarseSaid (now (log .entry)) address flag station) ⌝ }
 {
-    if out.len() != 72 {
+    if out.len() != track_rows::TRACK {
         return 1;
     }
     give_coarse(out, log, address, flag, station)

@@ -38,10 +38,9 @@ use Rattle.feed.proofs.Ways.{counted-all}
 use Rattle.compare.specs.declared.Checked.{Checked}
 use Rattle.compare.specs.declared.Checked.the-variants as checking
 use Rattle.report.specs.Listing.{listing}
-use Rattle.compare.specs.Compared.{tableOf, ours, ourRows, checked}
+use Rattle.compare.specs.Compared.{tableOf, zeros, ours, ourRows, checked}
 use Rattle.compare.specs.Right.{AllAgree, both-none, both-one, Broken, other-line, missing-line, surplus-line, First, Faulty, header-faulty, row-faulty}
 use Rattle.compare.proofs.Laws.{yes-exactly, fault-first, fourteen-exactly, sixteen-exactly, only-these, bad-most, own-listing-yes}
-use Rattle.compare.proofs.Ways.{zeros}
 use Rattle.addercoil.specs.Blocks.{Both, both, fedSaid, fedInto}
 use Rattle.addercoil.proofs.Laws.{some-number}
 use Rattle.arbiter.specs.Checks.{checkSaid}

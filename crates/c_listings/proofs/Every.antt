@@ -19,9 +19,9 @@ use Rattle.feed.proofs.Lengths.{blocks-length}
 use Rattle.feed.proofs.Ways.{counted-all}
 use Rattle.report.specs.Walked.{Walked, Walked.ended, Walked.then}
 use Rattle.report.proofs.Walking.{walk-ends}
-use Rattle.compare.specs.Compared.{checked}
+use Rattle.compare.specs.Compared.{zeros, checked}
 use Rattle.compare.proofs.Laws.{bad-most}
-use Rattle.compare.proofs.Ways.{zeros, whole-zeros}
+use Rattle.compare.proofs.Ways.{whole-zeros}
 use Rattle.addercoil.specs.Blocks.{Both, both, fedInto}
 use Rattle.addercoil.specs.Tables.{nextSaid, setUpSent}
 use Rattle.arbiter.specs.Checks.{checkSaid}

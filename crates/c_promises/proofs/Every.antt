@@ -22,6 +22,7 @@ use Rattle.addercoil.specs.Stamps.{receivedStamp}
 use Rattle.addercoil.specs.Tables.{setUpSent, receivedSent, clockSaid}
 use Rattle.audit.specs.Replays.{replaySaid, coarseSaid}
 use Rattle.c_promises.specs.Calls.{SetUp, SetUpAt, Receive, LookUp, Clock, Decode, Replay, ReplayAt, ReplayCoarse, ReceiveStamp, InDegrees, FromDegrees}
+use Rattle.c_promises.specs.Backs.{backsOf, stampedBacks}
 use Rattle.c_promises.specs.Runs.{Site, Begin, Ran, Ran.stopped, Ran.then, Run}
 use Rattle.c_promises.specs.Stamps as stamps
 use Rattle.c_promises.specs.Stamps.{RanStamps, RunStamps}
@@ -197,10 +198,6 @@ from-degrees-met x y out =
 
 -- ---- a run
 
-abbrev pub backsOf : List ℕ → List Call → List Sent
-backsOf table [] = []
-backsOf table (c ∷ cs) = receivedSent (received table (c .message) (c .time)) ∷ backsOf (received table (c .message) (c .time) .table) cs
-
 pub ran-met : (table : List ℕ) (cs : List Call) → Ran table cs (backsOf table cs)
 unfolding receivedSent
 ran-met table [] = stopped
@@ -226,25 +223,19 @@ run-met site table done cs =
 -- ---- with stamps
 
 module _ {C : Type 0} (message : C → List ℕ) (stamp : C → ℕ) where
-  abbrev pub stampedBacks : List ℕ → List ℕ → List C → List Both
-  stampedBacks table state [] = []
-  stampedBacks table state (c ∷ cs) =
-      let x = receivedStamp table (message c) (stamp c) state in
-      x ∷ stampedBacks (x .table) (x .sent .array) cs
-
   -- of calls whose stamps have 32 bits
   abbrev pub Narrow : List C → Type 0
   Narrow [] = Unit {0}
   Narrow (c ∷ cs) = (stamp c < 2 ^ 32) × Narrow cs
 
-  ran-stamps-met : (table state : List ℕ) (cs : List C) → Narrow cs → RanStamps message stamp table state cs (stampedBacks table state cs)
+  ran-stamps-met : (table state : List ℕ) (cs : List C) → Narrow cs → RanStamps message stamp table state cs (stampedBacks message stamp table state cs)
   ran-stamps-met table state [] n = stamps.RanStamps.stopped
   ran-stamps-met table state (c ∷ cs) n =
       let x = receivedStamp table (message c) (stamp c) state in
       stamps.RanStamps.then (n .0) (receive-stamp-met table (message c) (stamp c) state) (ran-stamps-met (x .table) (x .sent .array) cs (n .1))
 
   pub run-stamps-met : (site : Option Site) (table : List ℕ) → setUpSent (rules.setUp bytes table (siteOf site)) .number ≡ 0
-      → (cs : List C) → Narrow cs → RunStamps message stamp site cs (stampedBacks (rules.setUp bytes table (siteOf site) .table) (0 ∷ 0 ∷ []) cs)
+      → (cs : List C) → Narrow cs → RunStamps message stamp site cs (stampedBacks message stamp (rules.setUp bytes table (siteOf site) .table) (0 ∷ 0 ∷ []) cs)
   unfolding setUpSent
   run-stamps-met site table done cs n =
       record {

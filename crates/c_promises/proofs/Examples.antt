@@ -37,7 +37,8 @@ use Rattle.c_promises.specs.Calls.{Replay}
 use Rattle.c_promises.specs.Runs.{Run, Never6, SameTo}
 use Rattle.c_promises.specs.Logs.{leftBy, leftOf, SameAsTable}
 use Rattle.c_promises.proofs.Isolated.{isolated}
-use Rattle.c_promises.proofs.Every.{backsOf, run-met, look-up-met, replay-met}
+use Rattle.c_promises.specs.Backs.{backsOf}
+use Rattle.c_promises.proofs.Every.{run-met, look-up-met, replay-met}
 
 -- ---- a table of n places, set up without a site, and calls
 

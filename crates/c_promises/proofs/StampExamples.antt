@@ -36,7 +36,8 @@ use Rattle.c_promises.specs.Stamps.{tablesOf, RunEqual}
 use Rattle.c_promises.specs.Times.{RunTrue, accepted, FirstTrue, NoneFar, Right}
 use Rattle.c_promises.proofs.Examples.{computed, zero-not-six}
 use Rattle.c_promises.proofs.Stamped.{stamped-isolated}
-use Rattle.c_promises.proofs.Every.{clock-met, stampedBacks, Narrow, run-stamps-met}
+use Rattle.c_promises.specs.Backs.{stampedBacks}
+use Rattle.c_promises.proofs.Every.{clock-met, Narrow, run-stamps-met}
 
 -- ---- demand 3 over equal stamps: the calls of Examples, their times for stamps
 

@@ -1,5 +1,6 @@
 pub mod Calls
 pub mod Runs
+pub mod Backs
 pub mod Flips
 pub mod Logs
 pub mod Stamps

@@ -11,7 +11,7 @@ use Rattle.refusals.specs.declared.Refusal.the-variants as refusal
 use Rattle.refusals.specs.declared.Refusal.{Refusal}
 use Rattle.fields.proofs.Bools.{each, by-test}
 use Rattle.parity.specs.Parity.{remainder}
-use Rattle.capture.specs.Block.{zeros, part, countOf, startOf, good, blockOf}
+use Rattle.capture.specs.Block.{zeros, part, countOf, startOf, good, blockOf, Kept}
 use Rattle.capture.specs.declared.Block.{Block}
 use Rattle.capture.specs.declared.Block.the-variants.{Good, Refused}
 use Rattle.capture.proofs.Parts.{zero-within}
@@ -21,13 +21,6 @@ all-three a b c e =
     let p = each (a && b) c e in
     let q = each a b (p .0) in
     (q .0, q .1, p .1)
-
-pub record Kept (b : List ℕ) : Type 0 where
-  pub size : length b ≡ 512
-  pub some : 1 ≤ countOf b
-  pub most : countOf b ≤ 23
-  pub unused : zeros (part (startOf (countOf b)) 509 b) ≡ true
-  pub parity : remainder b ≡ 0
 
 -- a good block keeps each of the rules
 pub good-keeps : (b : List ℕ) → good b ≡ true → Kept b

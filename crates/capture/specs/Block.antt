@@ -1,6 +1,6 @@
 -- A capture's block of 512 bytes: byte 0 is the count, bytes 1 and 2 are the serial, which isn't tested, bytes 3 to 508 are 23 records of 22 bytes,
 -- and bytes 509 to 511 are the three that make the parity remainder 0. Records are counted from 0.
-use Prim.Native.Nat.{ℕ, _+_, _-_, _*_}
+use Prim.Native.Nat.{ℕ, _+_, _-_, _*_, _≤_}
 use mathlib.Core.Bool.{Bool, true, cond, _&&_}
 use mathlib.Core.List.{List, [], _∷_}
 use lib.Dec.{eqb, leb, ltb}
@@ -12,6 +12,7 @@ use Rattle.capture.specs.declared.Block.{Block}
 use Rattle.capture.specs.declared.Block.the-variants.{Good, Refused}
 use Rattle.capture.specs.declared.Record.{Record}
 use Rattle.capture.specs.declared.Record.the-variants.{At, Ended}
+use mathlib.Core.Path.{_≡_}
 
 -- the bytes from one number up to another, counted from 0, the last not included
 abbrev pub part : ℕ → ℕ → List ℕ → List ℕ
@@ -61,3 +62,10 @@ recordOf b i = cond (hasRecord b i) (At (timeOf b i) (startOf i + 8)) Ended
 -- its message; past the end no bytes
 unfoldable pub messageOf : List ℕ → ℕ → List ℕ
 messageOf b i = cond (hasRecord b i) (part (startOf i + 8) (startOf i + 22) b) []
+
+pub record Kept (b : List ℕ) : Type 0 where
+  pub size : length b ≡ 512
+  pub some : 1 ≤ countOf b
+  pub most : countOf b ≤ 23
+  pub unused : zeros (part (startOf (countOf b)) 509 b) ≡ true
+  pub parity : remainder b ≡ 0

@@ -16,8 +16,8 @@ use Rattle.text.specs.Lines.{textIn}
 use Rattle.report.specs.Listing.{headerIn}
 use Rattle.report.specs.Walked.{Walked}
 use Rattle.report.proofs.Walking.{walk-prints}
-use Rattle.compare.specs.Compared.{tableOf, badOf, ours}
-use Rattle.compare.proofs.Ways.{zeros, emptied-is, whole-emptied}
+use Rattle.compare.specs.Compared.{tableOf, badOf, ours, zeros}
+use Rattle.compare.proofs.Ways.{emptied-is, whole-emptied}
 
 module _ (c : List ℕ) {x : SetUp} {l : List ℕ} (set : after x l ≡ setUp zeros) where
   -- the table, and the number of bad blocks

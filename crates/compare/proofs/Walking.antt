@@ -24,15 +24,16 @@ use Rattle.rules.proofs.Laws.{looked-up}
 use Rattle.rules.proofs.KeyOrder.{next-follows}
 use Rattle.table.specs.Bytes.{bytes}
 use Rattle.table.specs.Table.{nextAbove, lookedUp}
-use Rattle.table.specs.View.{view, Follows}
+use Rattle.table.specs.View.{view}
+use Rattle.table.specs.Code.{Follows}
 use Rattle.report.specs.Listing.{rowOf, rowFor, asList, rowsBelow, rowsIn}
-use Rattle.report.specs.Walked.{keyOrLimit}
+use Rattle.report.specs.Code.{keyOrLimit}
 use Rattle.report.proofs.Held.{held-seen, held-is-key}
 use Rattle.report.proofs.Keys.{Least, least, none-zero, skipped, rows-none, rows-next}
 use Rattle.agree.specs.Near.{agreesOf}
 use Rattle.compare.specs.declared.Checked.the-variants.{Yes, Fault}
 use Rattle.compare.specs.Compared.{compared}
-use Rattle.compare.specs.Walk.{rowsFrom, rowsLeft}
+use Rattle.compare.specs.Code.{rowsFrom, rowsLeft}
 
 module _ (s : List ℕ) where
   -- ---- our rows

@@ -7,7 +7,7 @@ use mathlib.Core.Logic.{inl, inr}
 use mathlib.Core.Bool.{Bool, true, false, cond, not, false≢true}
 use mathlib.Core.List.{List, []}
 use borrow.Author.Tests.{not-true, not-false, lt-ltb, le-ltb}
-use lib.ListN.{length, take, drop, replicate, length-replicate}
+use lib.ListN.{length, take, drop, length-replicate}
 use Rattle.refusals.specs.declared.Refusal.{Refusal}
 use Rattle.refusals.specs.declared.Refusal.the-variants.{Log, Form}
 use Rattle.memory.specs.Offsets.{tableSize, wholePlaces}
@@ -30,7 +30,7 @@ use Rattle.form.proofs.Loops.{from-here}
 use Rattle.agree.proofs.Shown.{line-same}
 use Rattle.compare.specs.declared.Checked.{Checked}
 use Rattle.compare.specs.declared.Checked.the-variants.{Fault, Refused}
-use Rattle.compare.specs.Compared.{tableOf, linesOf, recordsOf, compared, against, verdict, checked}
+use Rattle.compare.specs.Compared.{tableOf, linesOf, recordsOf, compared, against, verdict, checked, zeros}
 
 -- ---- the header
 
@@ -78,10 +78,6 @@ within u (inl q) = omega (arith, q .0)
 within u (inr q) = q .high
 
 -- ---- ours
-
--- the bytes of a table of 256 places, before its set-up
-abbrev pub zeros : List ℕ
-zeros = replicate (tableSize 256) 0
 
 whole-256 : wholePlaces (tableSize 256) ≡ true
 unfolding wholePlaces

@@ -66,3 +66,7 @@ recordsOf c = recordsIn c (blocksIn c)
 -- "14 for over 2,900 records in good blocks, then 16 for text not in the form"
 unfoldable pub checked : List ℕ → List ℕ → Checked
 checked c l = cond (ltb mostRecords (recordsOf c)) (Refused Log) (cond (not (inForm l)) (Refused Form) (verdict c l))
+
+-- the bytes of a table of 256 places, before its set-up
+abbrev pub zeros : List ℕ
+zeros = replicate (tableSize 256) 0

@@ -1,4 +1,4 @@
 pub mod Compared
 pub mod Right
 pub mod Said
-pub mod Walk
+pub mod Code

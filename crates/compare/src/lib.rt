@@ -9,7 +9,7 @@ ghost use lib.ListN.{length};
 ghost use Rattle.memory.specs.Offsets.{wholePlaces};
 ghost use Rattle.table.specs.Table.{nextAbove};
 ghost use Rattle.report.specs.Listing.{headerFor, rowsIn};
-ghost use Rattle.report.specs.Walked.{keyOrLimit};
+ghost use Rattle.report.specs.Code.{keyOrLimit};
 ghost use Rattle.form.specs.Scan.{linesFrom};
 ghost use Rattle.compare.specs.Compared.{compared, against as againstOf, verdict as verdictOf, checked};
 

@@ -18,7 +18,8 @@ use Rattle.report.specs.declared.Printed.the-variants.{Refused}
 use Rattle.report.specs.declared.Report.{Report}
 use Rattle.report.specs.Listing.{rowFor, lineText, headerFor, without, with, headerIn, reported, lineIn}
 use Rattle.entries.specs.Sent.{sent, given}
-use Rattle.display.specs.Lines.{chosen, noChoice, linesSaid, headerSaid, lineSaid, reportSaid}
+use Rattle.display.specs.Lines.{chosen, linesSaid, headerSaid, lineSaid}
+use Rattle.display.specs.Code.{noChoice, reportSaid}
 
 module _ (out : List ℕ) where
   with-text : (text : List ℕ) → given out (reportSaid (with text)) ≡ given out (gives text)

@@ -4,14 +4,10 @@ use mathlib.Core.Bool.{Bool, cond, not}
 use mathlib.Core.List.{List}
 use lib.Dec.{eqb, ltb}
 use lib.ListN.{length}
-use Rattle.refusals.specs.Numbers.{numberOf}
 use Rattle.refusals.specs.Said.{Said, number, gives}
 use Rattle.memory.specs.Offsets.{wholePlaces}
 use Rattle.table.specs.View.{view}
 use Rattle.text.specs.Lines.{lineRoom}
-use Rattle.report.specs.declared.Printed.{Printed}
-use Rattle.report.specs.declared.Printed.the-variants.{Text, Nothing, Refused}
-use Rattle.report.specs.declared.Report.{Report}
 use Rattle.report.specs.Listing.{headerFor, lineFor}
 
 -- one byte more than a line has room for, so that it always ends in a zero
@@ -21,10 +17,6 @@ lineBuffer = lineRoom + 1
 -- all tracks are asked for by 1, those with a position by 0
 abbrev pub chosen : ℕ → Bool
 chosen all = eqb all 1
-
--- what a choice that is neither earns: 7 comes before 8
-abbrev pub noChoice : List ℕ → ℕ
-noChoice s = cond (not (wholePlaces (length s))) 7 8
 
 -- 7, 8 for a choice that is neither 0 nor 1, or the text
 abbrev pub linesSaid : ℕ → List ℕ → List ℕ → Said (List ℕ)
@@ -37,12 +29,3 @@ headerSaid all s bad = linesSaid all s (headerFor (chosen all) s bad)
 -- the line of a key; no text for one that is not held or not shown
 unfoldable pub lineSaid : ℕ → List ℕ → ℕ → Said (List ℕ)
 lineSaid all s key = linesSaid all s (lineFor (chosen all) key (view s key))
-
--- what a report says, by the bytes of its line
-abbrev pub printedSaid : Printed → List ℕ → Said (List ℕ)
-printedSaid Text bytes = gives bytes
-printedSaid Nothing bytes = gives bytes
-printedSaid (Refused r) bytes = number (numberOf r)
-
-abbrev pub reportSaid : Report → Said (List ℕ)
-reportSaid r = printedSaid (r .answer) (r .line .bytes)

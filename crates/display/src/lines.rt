@@ -5,7 +5,8 @@ use text::Line;
 ghost use mathlib.Core.Path.{_≡_};
 ghost use Rattle.refusals.specs.Said.{gives};
 ghost use Rattle.entries.specs.Sent.{sent, given, into};
-ghost use Rattle.display.specs.Lines.{lineBuffer, noChoice, headerSaid, lineSaid, reportSaid};
+ghost use Rattle.display.specs.Lines.{lineBuffer, headerSaid, lineSaid};
+ghost use Rattle.display.specs.Code.{noChoice, reportSaid};
 
 // A line's buffer: one byte more than a line has room for, so that it always ends in a zero.
 const BUFFER: usize = text::LINE + 1;

@@ -7,17 +7,10 @@ use lib.ListN.{length}
 use Rattle.refusals.specs.declared.Refusal.the-variants.{Length, Field}
 use Rattle.refusals.specs.Numbers.{numberOf}
 use Rattle.refusals.specs.Said.{Said, number, gives}
-use Rattle.layouts.specs.Bodies.{bodyMe}
-use Rattle.layouts.specs.declared.bodies.Written.{Written}
-use Rattle.layouts.specs.declared.bodies.Written.the-variants as write
 use Rattle.messages.specs.declared.Message.{Message}
 use Rattle.messages.specs.Message.{messageFits, messageBytes}
 use Rattle.encoder.specs.declared.Encoded.{Encoded}
 use Rattle.encoder.specs.declared.Encoded.the-variants as encode
-
--- ME of a message that fits
-abbrev pub meOf : Message → Written
-meOf m = cond (messageFits m) (write.Me (bodyMe (m .body))) (write.Refused Field)
 
 -- 1, then 8
 abbrev pub encoded : Message → List ℕ → Encoded

@@ -9,7 +9,8 @@ ghost use lib.ListN.{length};
 ghost use Rattle.fields.specs.Packing.{pack, fits};
 ghost use Rattle.fields.specs.Bytes.{bytesOf};
 ghost use Rattle.messages.specs.Message.{headTaken, headWidths, headFields, sealedBy};
-ghost use Rattle.encoder.specs.Encoded.{meOf, encoded, encodedBytes};
+ghost use Rattle.encoder.specs.Encoded.{encoded, encodedBytes};
+ghost use Rattle.encoder.specs.Code.{meOf};
 
 pub enum Encoded {
     Written,

@@ -10,7 +10,8 @@ use lib.Dec.{eqb, ltb}
 use lib.ListN.{length, drop, getD, length-take, length-drop, drop-of-length-le}
 use lib.Seq.{drop-cons}
 use Rattle.form.specs.Form.{pieces, same, clockWord, tracksWord, badWord, fits, allFit, isKind, isCoarse, isAddress, isFigure, headerForm, lineForm, linesForm, bodyForm, textForm, inForm}
-use Rattle.form.specs.Scan.{part, piecesFrom, Ends, sortOf, sortsOf}
+use Rattle.form.specs.Scan.{part, piecesFrom}
+use Rattle.form.specs.Code.{Ends, sortOf, sortsOf}
 use Rattle.form.proofs.Pieces.{some-piece}
 use Rattle.form.proofs.Loops.{past, from-here, same-length}
 

@@ -19,11 +19,11 @@ use Rattle.text.specs.declared.Figure.{Figure}
 use Rattle.text.specs.declared.Figure.the-variants.{Unknown, Known}
 use Rattle.text.specs.declared.Row.{Row}
 use Rattle.form.specs.Form.{pieces, same, isDigit, all, isPositive, isNegative, isFigure}
-use Rattle.form.specs.Own.{Sized}
+use Rattle.form.specs.Own.{Sized, word}
 use Rattle.form.proofs.Loops.{same-equal}
 use Rattle.form.proofs.Pieces.{pieces-cut}
 use Rattle.form.proofs.Own.{pow-ten, decimal-digits, decimal-positive}
-use Rattle.form.proofs.OwnLines.{keyWords, word, columnWords, rowLine, row-cut, row-over, row-pieces}
+use Rattle.form.proofs.OwnLines.{keyWords, columnWords, rowLine, row-cut, row-over, row-pieces}
 
 -- ---- numbers
 

@@ -10,13 +10,13 @@ use Rattle.fields.proofs.Bools.{both, and-left, and-right}
 use Rattle.keys.specs.Keys.{kinds, letterOf, coarseIn, flagIn, stationIn, kindIn, letterIn, addressIn}
 use Rattle.keys.specs.declared.Kind.{Kind}
 use Rattle.keys.specs.declared.Kind.the-variants.{I, O, T, M, N, C}
-use Rattle.text.specs.Numbers.{decimal, hex, minus, signed}
+use Rattle.text.specs.Numbers.{decimal, hex}
 use Rattle.text.specs.Lines.{space, newline, field, figure, clockLabel, tracksLabel, badLabel, headerText, senderText, keyText, rowText}
 use Rattle.text.specs.declared.Figure.{Figure}
 use Rattle.text.specs.declared.Figure.the-variants.{Unknown, Known}
 use Rattle.text.specs.declared.Row.{Row}
 use Rattle.form.specs.Form.{pieces, same, isFigure, isKind, isCoarse, fits, allFit, clockWord, tracksWord, badWord, headerSorts, columnSorts, lineSorts, coarseSorts, headerForm, lineForm, linesForm, bodyForm, textForm, inForm}
-use Rattle.form.specs.Own.{Sized, Fitting}
+use Rattle.form.specs.Own.{Sized, Fitting, word}
 use Rattle.form.proofs.Pieces.{over, over-append, over-less, pieces-cut, pieces-one, same-self}
 use Rattle.form.proofs.Own.{either-left, either-right, decimal-figure, signed-figure, dash-figure, decimal-over, signed-over, hex-over, hex-address}
 
@@ -124,11 +124,6 @@ key-form : (key : ℕ) (ws : List (List ℕ)) → allFit columnSorts ws ≡ true
 key-form key ws p = form-by (flagIn key) (stationIn key) (key / 2 ^ 24 - 1) (addressIn key) ws p (omega arith) (omega arith) (coarseIn key)
 
 -- ---- the columns
-
--- a figure's word
-abbrev pub word : Figure → List ℕ
-word Unknown = minus
-word (Known z) = signed z
 
 figure-word : (f : Figure) → figure f ≡ 32 ∷ word f
 unfolding figure

@@ -10,7 +10,8 @@ use lib.ListN.{length, take, drop, getD, length-drop, length-append}
 use lib.Seq.{take-suc, getD-drop, length-take-le}
 use Rattle.text.specs.Lines.{newline}
 use Rattle.form.specs.Form.{pieces, headerForm, bodyForm, textForm, inForm, linesIn}
-use Rattle.form.specs.Scan.{part, piecesFrom, Ends, linesFrom, LineTo, endOf, NextLine}
+use Rattle.form.specs.Scan.{part, piecesFrom, linesFrom, LineTo, endOf, NextLine}
+use Rattle.form.specs.Code.{Ends}
 use Rattle.form.proofs.Pieces.{some-piece}
 use Rattle.form.proofs.Loops.{past, from-here}
 

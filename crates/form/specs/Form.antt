@@ -34,9 +34,6 @@ isDigit b = leb 48 b && leb b 57
 abbrev pub isHexDigit : ℕ → Bool
 isHexDigit b = isDigit b || (leb 65 b && leb b 70)
 
-abbrev pub digitOf : Bool → ℕ → Bool
-digitOf hex = cond hex isHexDigit isDigit
-
 -- each byte passes a test
 unfoldable pub all : (ℕ → Bool) → List ℕ → Bool
 all test [] = true

@@ -1,9 +1,11 @@
 -- The rows whose numbers have at most 20 digits, as every row in the code does: 64 bits hold no longer one.
-use Prim.Native.Nat.{_^_, _<_}
+use Prim.Native.Nat.{_^_, _<_, ℕ}
 use lib.IntN.{natAbs}
 use Rattle.text.specs.declared.Figure.{Figure}
 use Rattle.text.specs.declared.Figure.the-variants.{Unknown, Known}
 use Rattle.text.specs.declared.Row.{Row}
+use mathlib.Core.List.{List}
+use Rattle.text.specs.Numbers.{minus, signed}
 
 abbrev pub Sized : Figure → Type 0
 Sized Unknown = Unit {0}
@@ -15,3 +17,8 @@ pub record Fitting (r : Row) : Type 0 where
   pub longitude : Sized (r .longitude)
   pub altitude : Sized (r .altitude)
   pub step : Sized (r .step)
+
+-- a figure's word
+abbrev pub word : Figure → List ℕ
+word Unknown = minus
+word (Known z) = signed z

@@ -4,10 +4,10 @@ use mathlib.Core.Path.{_≡_}
 use mathlib.Core.Bool.{cond}
 use mathlib.Core.List.{List, [], _∷_, _++_}
 use mathlib.Core.Logic.{_⊎_}
-use lib.Dec.{eqb, leb}
-use lib.ListN.{length, take, drop, getD}
+use lib.Dec.{leb}
+use lib.ListN.{length, take, drop}
 use Rattle.text.specs.Lines.{newline}
-use Rattle.form.specs.Form.{pieces, linesIn, Sort, Kind, Coarse, Address, Figure, Word, clockWord, tracksWord, badWord}
+use Rattle.form.specs.Form.{pieces, linesIn}
 
 -- from one place up to another
 abbrev pub part : ℕ → ℕ → List ℕ → List ℕ
@@ -16,13 +16,6 @@ part from to s = take (to - from) (drop from s)
 -- the pieces from a place on; past the end there are none
 unfoldable pub piecesFrom : ℕ → List ℕ → ℕ → List (List ℕ)
 piecesFrom sep s at = cond (leb at (length s)) (pieces sep (drop at s)) []
-
--- the piece from a place on ends at r
-pub record Ends (sep : ℕ) (s : List ℕ) (from r : ℕ) : Type 0 where
-  pub low : from ≤ r
-  pub high : r ≤ length s
-  pub cut : piecesFrom sep s from ≡ part from r s ∷ piecesFrom sep s (r + 1)
-  pub stop : r < length s → getD s r 0 ≡ sep
 
 -- the lines from a place on
 abbrev pub linesFrom : List ℕ → ℕ → List (List ℕ)
@@ -44,18 +37,3 @@ endOf at (l ∷ ls) = at + length l + 1
 -- a line there, or none, and r is 0
 abbrev pub NextLine : List ℕ → ℕ → ℕ → Type 0
 NextLine s at r = ((r ≡ 0) × (linesFrom s at ≡ [])) ⊎ LineTo s at r
-
--- K, C, A, F, c, t and any other
-unfoldable pub sortOf : ℕ → Sort
-sortOf k =
-    cond (eqb k 75) Kind
-    (cond (eqb k 67) Coarse
-    (cond (eqb k 65) Address
-    (cond (eqb k 70) Figure
-    (cond (eqb k 99) (Word clockWord)
-    (cond (eqb k 116) (Word tracksWord)
-    (Word badWord))))))
-
-unfoldable pub sortsOf : List ℕ → List Sort
-sortsOf [] = []
-sortsOf (k ∷ ks) = sortOf k ∷ sortsOf ks

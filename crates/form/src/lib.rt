@@ -7,7 +7,8 @@ ghost use mathlib.Core.Path.{_≡_};
 ghost use Prim.Native.Nat.{_≤_};
 ghost use lib.ListN.{length};
 ghost use Rattle.form.specs.Form.{same as sameText, inForm};
-ghost use Rattle.form.specs.Scan.{Ends, linesFrom, endOf, NextLine};
+ghost use Rattle.form.specs.Scan.{linesFrom, endOf, NextLine};
+ghost use Rattle.form.specs.Code.{Ends};
 
 // Whether two texts are equal, byte for byte.
 pub fn same(a: &[u8], b: &[u8]) -> bool

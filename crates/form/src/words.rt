@@ -2,8 +2,8 @@
 use crate::piece_end;
 use crate::same;
 ghost use mathlib.Core.Path.{_≡_};
-ghost use Rattle.form.specs.Form.{pieces, all, digitOf, isPositive, isNegative, isFigure, isKind, isCoarse, isAddress, fits, allFit, lineForm};
-ghost use Rattle.form.specs.Scan.{sortOf, sortsOf};
+ghost use Rattle.form.specs.Form.{pieces, all, isPositive, isNegative, isFigure, isKind, isCoarse, isAddress, fits, allFit, lineForm};
+ghost use Rattle.form.specs.Code.{digitOf, sortOf, sortsOf};
 
 fn is_digit(b: u8, hex: bool) -> bool
     ensures { λ r. ⌜ r ≡ digitOf hex b ⌝ }

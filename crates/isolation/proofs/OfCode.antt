@@ -25,7 +25,8 @@ use Rattle.table.proofs.set_up_at.Reads as set-up-at
 use Rattle.table.proofs.receive.Kinds as receive-kinds
 use Rattle.table.proofs.receive.Reads as receive
 use Rattle.isolation.specs.Runs.{Call, Alike}
-use Rattle.isolation.specs.Played.{Played, shown, NotFull}
+use Rattle.isolation.specs.Played.{shown, NotFull}
+use Rattle.isolation.specs.Code.{Played}
 use Rattle.isolation.proofs.Both.{bytes-isolated}
 use Rattle.isolation.proofs.Played.{played-isolated}
 

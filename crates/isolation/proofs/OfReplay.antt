@@ -28,7 +28,8 @@ use Rattle.table.proofs.Lawful.{bytes-lawful}
 use Rattle.table.proofs.look_up.Kinds as look-up-kinds
 use Rattle.table.proofs.look_up.Reads as look-up
 use Rattle.isolation.specs.Runs.{Call}
-use Rattle.isolation.specs.Played.{Played, leftBy, NotFull}
+use Rattle.isolation.specs.Played.{leftBy, NotFull}
+use Rattle.isolation.specs.Code.{Played}
 use Rattle.isolation.specs.Logs.{logOf}
 use Rattle.isolation.proofs.OfCode.{Begun, Ran, given, begun-is, ran-played}
 use Rattle.isolation.proofs.Played.{played-left, played-never}

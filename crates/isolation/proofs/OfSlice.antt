@@ -27,7 +27,8 @@ use Rattle.refusals.proofs.Clauses.{so-too, both-say}
 use Rattle.slice_table.proofs.set_up as set-up
 use Rattle.slice_table.proofs.receive as receive
 use Rattle.isolation.specs.Runs.{Call, Alike, call}
-use Rattle.isolation.specs.Played.{Played, shown, NotFull}
+use Rattle.isolation.specs.Played.{shown, NotFull}
+use Rattle.isolation.specs.Code.{Played}
 use Rattle.isolation.proofs.Both.{slice-isolated}
 use Rattle.isolation.proofs.Played.{played-isolated}
 

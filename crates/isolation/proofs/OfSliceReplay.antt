@@ -33,7 +33,8 @@ use Rattle.slice_table.specs.Tracks.{After}
 use Rattle.slice_table.proofs.Lawful.{slice-lawful}
 use Rattle.slice_table.proofs.look_up as look-up
 use Rattle.isolation.specs.Runs.{Call}
-use Rattle.isolation.specs.Played.{Played, leftBy, NotFull}
+use Rattle.isolation.specs.Played.{leftBy, NotFull}
+use Rattle.isolation.specs.Code.{Played}
 use Rattle.isolation.specs.Logs.{logOf}
 use Rattle.isolation.proofs.OfReplay.{ReplayMet, replay-is}
 use Rattle.isolation.proofs.OfSlice.{Begun, Ran, begun, ran, begun-is, ran-played}

@@ -19,7 +19,8 @@ use Rattle.stamps.specs.declared.Stamped.{Stamped}
 use Rattle.stamps.specs.Stamps.{fresh}
 use Rattle.stamps.proofs.OfCode.{Received, received-is}
 use Rattle.isolation.specs.Runs.{Call, Alike}
-use Rattle.isolation.specs.Played.{Played, shown, NotFull}
+use Rattle.isolation.specs.Played.{shown, NotFull}
+use Rattle.isolation.specs.Code.{Played}
 use Rattle.isolation.specs.Stamped.{Kept, beside, kept, keeping, byStamp, StampedIsolation}
 use Rattle.isolation.proofs.OfCode.{Begun, given, begun-is}
 use Rattle.isolation.proofs.Played.{played-isolated}

@@ -10,7 +10,8 @@ use Rattle.rules.specs.declared.answers.SetUp.the-variants.{Done}
 use Rattle.rules.specs.Form.{Form, East}
 use Rattle.rules.specs.Rules.{After, setUp}
 use Rattle.isolation.specs.Runs.{Call, Alike, Rule, NeverFull, Seen, saw, seen, Isolation}
-use Rattle.isolation.specs.Played.{Played, leftBy, shown, NotFull}
+use Rattle.isolation.specs.Played.{leftBy, shown, NotFull}
+use Rattle.isolation.specs.Code.{Played}
 use Rattle.isolation.specs.Logs.{left}
 
 module _ {S : Type 0} (F : Form S) (rule : Rule S) (key : ℕ) where

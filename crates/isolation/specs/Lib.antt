@@ -5,3 +5,4 @@ pub mod Played
 pub mod Twin
 pub mod Stamped
 pub mod Logs
+pub mod Code

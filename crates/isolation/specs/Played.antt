@@ -8,14 +8,7 @@ use Rattle.messages.specs.declared.Decoded.{Decoded}
 use Rattle.messages.specs.declared.Decoded.the-variants as decode
 use Rattle.rules.specs.Form.{Form}
 use Rattle.rules.specs.Rules.{After}
-use Rattle.isolation.specs.Runs.{Call, own, Rule, call, Seen, saw}
-
--- each call did what a rule says, to the table that the one before it left
-abbrev pub Played : {S : Type 0} → Rule S → S → List Call → List (After S Decoded) → Type 0
-Played rule s [] [] = Unit {0}
-Played rule s (c ∷ cs) (r ∷ rs) = (r ≡ call rule s c) × Played rule (r .table) cs rs
-Played rule s [] (r ∷ rs) = ⊥
-Played rule s (c ∷ cs) [] = ⊥
+use Rattle.isolation.specs.Runs.{Call, own, Seen, saw}
 
 -- the table that the last of them left
 abbrev pub leftBy : {S : Type 0} → S → List (After S Decoded) → S

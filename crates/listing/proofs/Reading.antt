@@ -17,7 +17,7 @@ use Rattle.feed.specs.Feed.{fed, fedBlock}
 use Rattle.feed.proofs.Answers.{block-refused}
 use Rattle.feed.proofs.Stream.{block-then, bad-grows}
 use Rattle.feed.proofs.Ways.{feed-on}
-use Rattle.listing.specs.Input.{SomeFed, WholeFed}
+use Rattle.listing.specs.Code.{SomeFed, WholeFed}
 
 -- 256 places
 whole-256 : (s : List ℕ) → length s ≡ tableSize 256 → wholePlaces (length s) ≡ true

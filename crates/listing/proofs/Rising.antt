@@ -14,7 +14,7 @@ use Rattle.rules.specs.Rules as rules
 use Rattle.rules.proofs.KeyOrder.{next-follows}
 use Rattle.table.specs.Bytes.{bytes}
 use Rattle.table.specs.Table.{nextAbove}
-use Rattle.table.specs.View.{Follows}
+use Rattle.table.specs.Code.{Follows}
 
 no-next : (s : List ℕ) (above : ℕ) → wholePlaces (length s) ≡ false → nextAbove s above ≡ Refused Places
 unfolding rules.nextAbove

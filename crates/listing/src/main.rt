@@ -12,7 +12,7 @@ ghost use mathlib.Core.Path.{_≡_};
 ghost use lib.ListN.{length};
 ghost use Rattle.memory.specs.Offsets.{tableSize};
 ghost use Rattle.table_bytes.specs.Layout.{emptied};
-ghost use Rattle.listing.specs.Input.{SomeFed};
+ghost use Rattle.listing.specs.Code.{SomeFed};
 
 // The bytes of a table of 256 places.
 const TABLE: usize = memory::HEAD + memory::PLACE * 256;

@@ -1,3 +1,4 @@
 pub mod Bytes
 pub mod Offsets
 pub mod Ranges
+pub mod Code

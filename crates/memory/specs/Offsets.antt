@@ -64,14 +64,6 @@ oddAt = evenAt + savedSize
 abbrev pub bodySize : ℕ
 bodySize = oddAt + savedSize
 
--- its parts: the messages that are kept; the spot with its time
-
-abbrev pub messagesSize : ℕ
-messagesSize = marksAt - identificationAt
-
-abbrev pub spotSize : ℕ
-spotSize = evenAt - latitudeAt
-
 -- ---- the places
 
 abbrev pub keySize : ℕ

@@ -1,6 +1,7 @@
 // Whether a place is held at the clock, read off its key and its body: its ranges and its age.
 use crate::HEARD;
 use crate::LATITUDE;
+use crate::NORTH;
 use crate::words::get4;
 use crate::words::get8;
 ghost use mathlib.Core.Path.{_≡_};
@@ -13,7 +14,7 @@ fn in_range(key: u32, p: &[u8]) -> bool
     requires { ⌜ length (now p) ≡ bodySize ⌝ }
     ensures { λ r. ⌜ r ≡ inRange key (now (p .entry)) ⌝ }
 {
-    keys::is_key(key) & (get4(p, LATITUDE) <= 2147483648)
+    keys::is_key(key) & (get4(p, LATITUDE) <= NORTH)
 }
 
 // Whether the place is held at the clock: in range, and its track in date.

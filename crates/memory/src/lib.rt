@@ -43,11 +43,31 @@ pub const SURFACE: usize = VELOCITY + 7;
 // The ME that gave the status, 0 if none.
 pub const STATUS: usize = SURFACE + 7;
 
-// Bits 0-11 the pressure altitude code, bits 12-23 the GNSS height code, bit 24 whether the position is known; of the latest position message bits 25-29 TYPE, 0 if none was heard, and bit 30 bit 8 of ME.
+// Bits 0-11 the pressure altitude code, bits 12-23 the GNSS height code, bit 24 whether the position is known; of the latest position message bits 25-29 TYPE, 0 if none was heard, and bit 30 bit 8 of ME;
+// bit 31 whether the ME that gave the velocity is a coarse message's.
 pub const MARKS: usize = STATUS + 7;
+
+// How many codes 12 bits have, which is also the place of the second code.
+pub const CODES: u32 = 0x1000;
+
+// Bits 24, 25, 30 and 31 of the marks, and how many TYPEs there are.
+pub const KNOWN_MARK: u32 = 0x100_0000;
+
+pub const TYPE_MARK: u32 = 0x200_0000;
+
+pub const TYPES: u32 = 32;
+
+pub const BIT8_MARK: u32 = 0x4000_0000;
+
+pub const COARSE_MARK: u32 = 0x8000_0000;
 
 // The latitude of the position plus 2^30: 0 to 2^31. With a number out of its range the place is free.
 pub const LATITUDE: usize = MARKS + 4;
+
+// How far up a latitude is held, and the number of the north pole.
+pub const UP: u32 = 0x4000_0000;
+
+pub const NORTH: u32 = 0x8000_0000;
 
 // The longitude of the position.
 pub const LONGITUDE: usize = LATITUDE + 4;
@@ -74,8 +94,18 @@ pub const TO_LONGITUDE: usize = LONGITUDE - LATITUDE;
 
 pub const TO_TIME: usize = TIME - LATITUDE;
 
-// An encoded position: bits 0-16 the latitude count, bits 17-33 the longitude count, bit 34 whether there is one; then its time.
+// An encoded position: bits 0-16 the latitude count, bits 17-33 the longitude count, bit 34 whether there is one, bit 35 whether it is coarse; then its time.
 pub const SAVED_TIME: usize = 5;
+
+// How many counts 17 bits have, which is also the place of the second count; of a coarse position 12 bits count.
+pub const COUNTS: u64 = 0x2_0000;
+
+pub const COARSE_COUNTS: u64 = 0x1000;
+
+// Bits 34 and 35 of an encoded position.
+pub const SAVED_MARK: u64 = 0x4_0000_0000;
+
+pub const SAVED_COARSE_MARK: u64 = 0x8_0000_0000;
 
 pub const SAVED: usize = SAVED_TIME + 8;
 

@@ -21,10 +21,9 @@ use Rattle.layouts.specs.declared.bodies.Taken.{Taken}
 use Rattle.layouts.specs.declared.bodies.Taken.the-variants as read
 use Rattle.layouts.proofs.BothWays.{read-good}
 use Rattle.messages.specs.Message.{bits, formatTaken, opened, decoded}
-use Rattle.messages.specs.Accepted.{frameOf, frameCoarse, frameReserved, frameRefused, framed, accepted, headed, frameIn, frameSays, decodedBy, openedAs, IsAccepted}
+use Rattle.messages.specs.Accepted.{frameOf, frameCoarse, frameReserved, frameRefused, framed, accepted, headed, frameIn, frameSays, decodedBy, openedAs, IsAccepted, messageOf, Opens}
 use Rattle.messages.specs.Said.{acceptedSaid, earns1, earns3, earns4, acceptTable}
 use Rattle.messages.specs.declared.Frame.{Frame}
-use Rattle.messages.specs.declared.Message.{Message}
 use Rattle.messages.specs.declared.Accepted.{Accepted}
 use Rattle.messages.specs.declared.Accepted.the-variants as accept
 use Rattle.messages.specs.declared.Decoded.the-variants as decode
@@ -96,17 +95,6 @@ frame-says s =
     by-cases true true true false = refl
 
 -- ---- the message of a frame
-
-abbrev pub messageOf : Frame → Body → Message
-messageOf f b = record { format = f .format; control = f .control; address = f .address; body = b }
-
--- a frame that was accepted opens to a body that fits, whose bits are its ME
-pub record Opens (f : Frame) : Type 0 where
-  pub body : Body
-  pub reads : takenBy (frameCoarse f) (f .me) ≡ read.Body body
-  pub message : openedAs (accept.Frame f) ≡ decode.Message (messageOf f body)
-  pub fits : bodyFits body ≡ true
-  pub same : bodyMe body ≡ f .me
 
 no-frame : {A : Type 0} {r : Refusal} {f : Frame} → accept.Refused r ≡ accept.Frame f → A
 no-frame e = let z : _≡_ {A = ℕ} 0 1 = cc in let w : ⊥ = omega arith in absurd w

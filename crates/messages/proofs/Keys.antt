@@ -16,13 +16,12 @@ use Rattle.layouts.specs.declared.bodies.Taken.{Taken}
 use Rattle.layouts.specs.declared.bodies.Taken.the-variants as read
 use Rattle.layouts.proofs.BothWays.{coarse-read, flag-read, station-read}
 use Rattle.messages.specs.Message.{bits, formatTaken, coarseBy, reservedIn, withBody, opened, decoded, kindOf, messageKind, keyOf}
-use Rattle.messages.specs.Accepted.{frameOf, frameCoarse, frameKind, frameKey}
+use Rattle.messages.specs.Accepted.{frameOf, frameCoarse, frameKind, frameKey, messageOf, Opens}
 use Rattle.messages.specs.Said.{coarseAt, kindAt, keyIn}
 use Rattle.messages.specs.declared.Frame.{Frame}
 use Rattle.messages.specs.declared.Message.{Message}
 use Rattle.messages.specs.declared.Decoded.{Decoded}
 use Rattle.messages.specs.declared.Decoded.the-variants as decode
-use Rattle.messages.proofs.Acceptance.{messageOf, Opens}
 use Rattle.messages.proofs.Flags.{flag-in, station-in, coarse-is}
 
 -- a message's key is one

@@ -12,12 +12,11 @@ use Rattle.keys.specs.declared.Kind.{Kind}
 use Rattle.layouts.specs.Bodies.{isTaken, bodyType}
 use Rattle.layouts.proofs.BothWays.{type-read}
 use Rattle.messages.specs.Message.{bits, coarseBy, trafficBy, decoded, messageKind, traffic, startsBy, starts}
-use Rattle.messages.specs.Accepted.{frameCoarse, frameStarts}
+use Rattle.messages.specs.Accepted.{frameCoarse, frameStarts, messageOf, Opens}
 use Rattle.messages.specs.Said.{coarseAt, layoutIn, typeAt, flagAt, stationAt, earns5, startsIn}
 use Rattle.messages.specs.declared.Frame.{Frame}
 use Rattle.messages.specs.declared.Message.{Message}
 use Rattle.messages.specs.declared.Decoded.the-variants as decode
-use Rattle.messages.proofs.Acceptance.{messageOf, Opens}
 use Rattle.messages.proofs.Exactly.{accepted-exactly}
 use Rattle.messages.proofs.Flags.{type-in, traffic-is}
 use Rattle.messages.proofs.Keys.{decoded-from, decoded-kind, frame-kind}

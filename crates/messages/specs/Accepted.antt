@@ -2,14 +2,14 @@
 use Prim.Native.Nat.{ℕ}
 use mathlib.Core.List.{List}
 use mathlib.Core.Path.{_≡_}
-use mathlib.Core.Bool.{Bool, cond, not, _||_}
+use mathlib.Core.Bool.{Bool, cond, not, _||_, true}
 use lib.Dec.{eqb}
 use lib.ListN.{length}
 use Rattle.refusals.specs.declared.Refusal.the-variants.{Length, Parity, Format, TypeCode}
 use Rattle.keys.specs.Keys.{keyFor, isTraffic}
 use Rattle.keys.specs.declared.Kind.{Kind}
 use Rattle.parity.specs.Parity.{remainder}
-use Rattle.layouts.specs.Bodies.{layoutBy, typeBy, isTaken, flagIn, stationIn, takenBy}
+use Rattle.layouts.specs.Bodies.{layoutBy, typeBy, isTaken, flagIn, stationIn, takenBy, bodyMe, bodyFits}
 use Rattle.messages.specs.declared.Frame.{Frame}
 use Rattle.messages.specs.declared.Message.{Message}
 use Rattle.messages.specs.declared.Accepted.{Accepted}
@@ -17,6 +17,8 @@ use Rattle.messages.specs.declared.Accepted.the-variants as accept
 use Rattle.messages.specs.declared.Decoded.{Decoded}
 use Rattle.messages.specs.declared.Decoded.the-variants as decode
 use Rattle.messages.specs.Message.{bits, formatTaken, coarseBy, reservedIn, withBody, opened, decoded, kindOf, startsBy}
+use Rattle.layouts.specs.declared.bodies.Body.{Body}
+use Rattle.layouts.specs.declared.bodies.Taken.the-variants as read
 
 -- DF, CA or CF, AA and ME
 abbrev pub frameOf : List ℕ → Frame
@@ -93,3 +95,14 @@ Acceptable s = (m : Message) × (decoded s ≡ decode.Message m)
 -- the frame of some acceptable message
 abbrev pub IsAccepted : Frame → Type 0
 IsAccepted f = (s : List ℕ) × (accepted s ≡ accept.Frame f)
+
+abbrev pub messageOf : Frame → Body → Message
+messageOf f b = record { format = f .format; control = f .control; address = f .address; body = b }
+
+-- a frame that was accepted opens to a body that fits, whose bits are its ME
+pub record Opens (f : Frame) : Type 0 where
+  pub body : Body
+  pub reads : takenBy (frameCoarse f) (f .me) ≡ read.Body body
+  pub message : openedAs (accept.Frame f) ≡ decode.Message (messageOf f body)
+  pub fits : bodyFits body ≡ true
+  pub same : bodyMe body ≡ f .me

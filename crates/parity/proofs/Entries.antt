@@ -12,9 +12,10 @@ use lib.Bits.{bitXor, xor-comm, xor-shifted, xor-lt, xor-mod, xor-shr, xor-zero-
 use Rattle.fields.specs.Bytes.{Bytes}
 use Rattle.fields.proofs.Tables.{at}
 use Rattle.parity.specs.Division.{reduce, remainderFrom, bitsOf, stepped}
-use Rattle.parity.specs.Lookup.{table}
+use Rattle.parity.specs.Code.{table}
 use Rattle.parity.proofs.Linear.{bits-bits, added}
-use Rattle.parity.proofs.Small.{small, bit-value, bits-number}
+use Rattle.parity.proofs.Small.{small, bits-number}
+use Rattle.parity.specs.Strings.{bit-value}
 
 -- ---- the table
 

@@ -13,7 +13,8 @@ use lib.Bits.{bitXor, xor-self, xor-zero-l, xor-zero-r}
 use Rattle.fields.proofs.Tables.{at}
 use Rattle.parity.specs.Division.{remainderFrom, reduce, bitsOf, xorAll}
 use Rattle.parity.specs.Parity.{remainder, flipped}
-use Rattle.parity.proofs.Linear.{cons, zeros, bits-xor}
+use Rattle.parity.proofs.Linear.{cons, bits-xor}
+use Rattle.parity.specs.Strings.{zeros}
 use Rattle.parity.proofs.Seal.{remainder-xor}
 use Rattle.parity.proofs.Xor.{xor-assoc}
 

@@ -7,7 +7,8 @@ use lib.ListN.{length, length-replicate}
 use lib.Bits.{bitXor, xor-self, xor-zero-r}
 use Rattle.parity.specs.Division.{remainderFrom, bitsOf, xorAll}
 use Rattle.parity.specs.Parity.{remainder}
-use Rattle.parity.proofs.Linear.{cons, zeros, zeros-xor}
+use Rattle.parity.proofs.Linear.{cons, zeros-xor}
+use Rattle.parity.specs.Strings.{zeros}
 use Rattle.parity.proofs.Seal.{remainder-xor, remainder-more}
 
 -- ---- zero bytes

@@ -8,12 +8,13 @@ use mathlib.Core.List.{List, [], _∷_, _++_, append-assoc}
 use native.Mathlib.Nat.{mod-lt}
 use native.Mathlib.Omega.{arith}
 use lib.Dec.{ltb, lit<}
-use lib.ListN.{length, replicate, length-replicate}
+use lib.ListN.{length, length-replicate}
 use lib.Bits.{bitXor, xor-block, xor-lt, xor-comm, xor-shr, xor-mod, xor-zero-l}
 use borrow.Author.Tests.{ltb-true, ltb-false, lt-ltb, le-ltb}
 use Rattle.fields.specs.Packing.{unpack}
 use Rattle.parity.specs.Division.{reduce, remainderFrom, bitsOf, xorAll}
 use Rattle.parity.proofs.Xor.{swap, twice}
+use Rattle.parity.specs.Strings.{Bits, zeros}
 
 -- ---- one step
 
@@ -70,11 +71,6 @@ reduce-below (below {x = x} p) = rw (low x p) p
 reduce-below (above {x = x} p) = rw (high x) (xor-lt 24 x G p (lit< tt))
 
 -- ---- bits
-
--- each is 0 or 1
-abbrev pub Bits : List ℕ → Type 0
-Bits [] = Unit
-Bits (b ∷ bs) = (b < 2) × Bits bs
 
 pub below-24 : (r : ℕ) (bs : List ℕ) → r < 2 ^ 24 → Bits bs → remainderFrom r bs < 2 ^ 24
 unfolding remainderFrom
@@ -147,10 +143,6 @@ bits-length (x ∷ xs) [] e = let z : ⊥ = omega arith in absurd z
 bits-length (x ∷ xs) (y ∷ ys) e = omega (arith, bits-length xs ys (omega arith))
 
 -- ---- what bits more do to the remainder: they add what they leave by themselves
-
--- so many zeros
-abbrev pub zeros : ℕ → List ℕ
-zeros n = replicate n 0
 
 bits-zeros : (n : ℕ) → Bits (zeros n)
 bits-zeros zero = tt

@@ -11,7 +11,7 @@ use borrow.Fn.Kinds.{Dens, endedOf}
 use Rattle.parity.specs.Division.{xorAll}
 use Rattle.parity.specs.Parity.{remainder}
 use Rattle.parity.proofs.Halves.{remainder-zeros, in-halves}
-use Rattle.parity.proofs.Linear.{zeros}
+use Rattle.parity.specs.Strings.{zeros}
 use Rattle.parity.proofs.Seal.{remainder-xor}
 use Rattle.parity.proofs.remainder_of.Kinds as remainder-of-kinds
 use Rattle.parity.proofs.remainder_of.Reads as remainder-of

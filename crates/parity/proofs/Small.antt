@@ -13,16 +13,11 @@ use Rattle.fields.proofs.Packing.{pack-unpack, pack-append}
 use Rattle.fields.proofs.Bytes.{total-bytes}
 use Rattle.parity.specs.Division.{remainderFrom, bitsOf}
 use Rattle.parity.proofs.Linear.{low}
-
-unfoldable pub ones : List ℕ → List ℕ
-ones bs = replicate (length bs) 1
+use Rattle.parity.specs.Strings.{ones, bit-value}
 
 total-ones : (k : ℕ) → total (replicate k 1) ≡ k
 total-ones zero = refl
 total-ones (suc k) = omega (arith, total-ones k)
-
-unfoldable pub bit-value : List ℕ → ℕ
-bit-value bs = pack (ones bs) bs
 
 pub small : (bs : List ℕ) (s : ℕ) → s * 2 ^ length bs + bit-value bs < 2 ^ 24 → remainderFrom s bs ≡ s * 2 ^ length bs + bit-value bs
 unfolding remainderFrom bit-value ones

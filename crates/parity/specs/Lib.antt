@@ -1,3 +1,4 @@
 pub mod Division
-pub mod Lookup
+pub mod Code
 pub mod Parity
+pub mod Strings

@@ -4,7 +4,7 @@ ghost use mathlib.Core.List.{_∷_, []};
 ghost use Prim.Native.Nat.{_<_, _^_};
 ghost use lib.ListN.{getD};
 ghost use Rattle.parity.specs.Division.{remainderFrom};
-ghost use Rattle.parity.specs.Lookup.{table};
+ghost use Rattle.parity.specs.Code.{table};
 
 // One zero bit more.
 fn shift(r: u32) -> u32

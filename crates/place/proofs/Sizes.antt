@@ -2,7 +2,8 @@
 -- Assumes nothing.
 use mathlib.Core.Path.{_≡_, refl}
 use lib.ListN.{length}
-use Rattle.memory.specs.Offsets.{messagesSize, spotSize, savedSize, bodySize}
+use Rattle.memory.specs.Offsets.{savedSize, bodySize}
+use Rattle.memory.specs.Code.{messagesSize, spotSize}
 use Rattle.track.specs.declared.Groups.{Groups}
 use Rattle.whereabouts.specs.declared.Position.{Position}
 use Rattle.whereabouts.specs.declared.Saved.{Saved}

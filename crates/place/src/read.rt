@@ -14,18 +14,21 @@ ghost use lib.IntN.{subℕ};
 ghost use Rattle.memory.specs.Offsets.{savedSize, bodySize};
 ghost use Rattle.place.specs.Place.{lowered, countIn, savedFrom, savedAt, groupsIn, positionIn, writtenIn, trackOf};
 
+// How far up a latitude is held.
+const UP: i64 = memory::UP as i64;
+
 // A latitude's number, at most that of the north pole.
 fn capped(n: u32) -> u32
     ensures { λ r. ⌜ (r ≡ min n 2147483648) × (r ≤ 2147483648) ⌝ }
 {
-    if n <= 2147483648 { n } else { 2147483648 }
+    if n <= memory::NORTH { n } else { memory::NORTH }
 }
 
 fn lower(n: u32) -> i32
     requires { ⌜ n ≤ 2147483648 ⌝ }
     ensures { λ r. ⌜ r ≡ subℕ n 1073741824 ⌝ }
 {
-    (n as i64 - 1073741824) as i32
+    (n as i64 - UP) as i32
 }
 
 // The latitude of its number; one above its range is read as the pole.
@@ -40,22 +43,22 @@ fn count_in(coarse: bool, n: u64) -> u32
     ensures { λ r. ⌜ r ≡ countIn coarse n ⌝ }
 {
     if coarse {
-        (n % 4096) as u32
+        (n % memory::COARSE_COUNTS) as u32
     } else {
-        (n % 131072) as u32
+        (n % memory::COUNTS) as u32
     }
 }
 
 fn saved_from(n: u64, time: u64) -> Saved
     ensures { λ r. ⌜ r ≡ savedFrom n time ⌝ }
 {
-    let coarse = n / 34359738368 % 2 == 1;
+    let coarse = n / memory::SAVED_COARSE_MARK % 2 == 1;
     Saved {
-        known: n / 17179869184 % 2 == 1,
+        known: n / memory::SAVED_MARK % 2 == 1,
         coarse: coarse,
         counts: Counts {
             latitude: LatitudeCount(count_in(coarse, n)),
-            longitude: LongitudeCount(count_in(coarse, n / 131072)),
+            longitude: LongitudeCount(count_in(coarse, n / memory::COUNTS)),
         },
         time: time,
     }
@@ -81,11 +84,11 @@ fn groups_in(p: &[u8]) -> Groups
         velocity: memory::get7(p, memory::VELOCITY),
         surface: memory::get7(p, memory::SURFACE),
         status: memory::get7(p, memory::STATUS),
-        pressure: (marks % 4096) as u16,
-        height: (marks / 4096 % 4096) as u16,
-        typecode: (marks / 33554432 % 32) as u8,
-        bit8: marks / 1073741824 % 2 == 1,
-        coarse: marks / 2147483648 % 2 == 1,
+        pressure: (marks % memory::CODES) as u16,
+        height: (marks / memory::CODES % memory::CODES) as u16,
+        typecode: (marks / memory::TYPE_MARK % memory::TYPES) as u8,
+        bit8: marks / memory::BIT8_MARK % 2 == 1,
+        coarse: marks / memory::COARSE_MARK % 2 == 1,
     }
 }
 
@@ -96,7 +99,7 @@ fn position_in(p: &[u8]) -> Position
     let marks = memory::get4(p, memory::MARKS);
     let latitude = latitude_of(memory::get4(p, memory::LATITUDE));
     Position {
-        known: marks / 16777216 % 2 == 1,
+        known: marks / memory::KNOWN_MARK % 2 == 1,
         spot: Spot {
             latitude: latitude,
             longitude: memory::get4(p, memory::LONGITUDE),

@@ -6,9 +6,22 @@ use whereabouts::Saved;
 ghost use mathlib.Core.Path.{_≡_};
 ghost use Prim.Native.Nat.{_+_, _≤_};
 ghost use lib.ListN.{length};
-ghost use Rattle.memory.specs.Offsets.{messagesSize, spotSize, savedSize, bodySize};
+ghost use Rattle.memory.specs.Offsets.{savedSize, bodySize};
+ghost use Rattle.memory.specs.Code.{messagesSize, spotSize};
 ghost use Rattle.memory.specs.Bytes.{put};
 ghost use Rattle.place.specs.Place.{bit, abovePole, marksOf, savedNumber, savedBytes, messageBytes, spotBytes, bodyOf};
+
+// How many values a code, a TYPE and a count have, as wide as they are.
+const CODES: u16 = memory::CODES as u16;
+
+const TYPES: u8 = memory::TYPES as u8;
+
+const COUNTS: u32 = memory::COUNTS as u32;
+
+// How far up a latitude is held, and 2^32, which cuts it to its four bytes.
+const UP: u64 = memory::UP as u64;
+
+const TURN: u64 = 0x1_0000_0000;
 
 fn flag(b: bool) -> u64
     ensures { λ r. ⌜ (r ≡ bit b) × (r ≤ 1) ⌝ }
@@ -20,27 +33,27 @@ fn flag(b: bool) -> u64
 pub fn above_pole(latitude: i32) -> u64
     ensures { λ r. ⌜ r ≡ abovePole latitude ⌝ }
 {
-    signs::raise(latitude) + 1073741824
+    signs::raise(latitude) + UP
 }
 
 fn marks_of(g: Groups, known: bool) -> u32
     ensures { λ r. ⌜ r ≡ marksOf g known ⌝ }
 {
-    (g.pressure % 4096) as u32
-        + (g.height % 4096) as u32 * 4096
-        + (flag(known) as u32) * 16777216
-        + (g.typecode % 32) as u32 * 33554432
-        + (flag(g.bit8) as u32) * 1073741824
-        + (flag(g.coarse) as u32) * 2147483648
+    (g.pressure % CODES) as u32
+        + (g.height % CODES) as u32 * memory::CODES
+        + (flag(known) as u32) * memory::KNOWN_MARK
+        + (g.typecode % TYPES) as u32 * memory::TYPE_MARK
+        + (flag(g.bit8) as u32) * memory::BIT8_MARK
+        + (flag(g.coarse) as u32) * memory::COARSE_MARK
 }
 
 fn saved_number(v: Saved) -> u64
     ensures { λ r. ⌜ r ≡ savedNumber v ⌝ }
 {
-    (v.counts.latitude.0 % 131072) as u64
-        + (v.counts.longitude.0 % 131072) as u64 * 131072
-        + flag(v.known) * 17179869184
-        + flag(v.coarse) * 34359738368
+    (v.counts.latitude.0 % COUNTS) as u64
+        + (v.counts.longitude.0 % COUNTS) as u64 * memory::COUNTS
+        + flag(v.known) * memory::SAVED_MARK
+        + flag(v.coarse) * memory::SAVED_COARSE_MARK
 }
 
 fn put_saved(s: &mut [u8], at: usize, v: Saved)
@@ -66,7 +79,7 @@ fn put_spot(s: &mut [u8], at: usize, p: Position)
     requires { ⌜ at + spotSize ≤ length (now s) ⌝ }
     ensures { λ _. ⌜ now (s .exit) ≡ put (now (s .entry)) at (spotBytes p) ⌝ }
 {
-    memory::put4(s, at, (above_pole(p.spot.latitude) % 4294967296) as u32);
+    memory::put4(s, at, (above_pole(p.spot.latitude) % TURN) as u32);
     memory::put4(s, at + memory::TO_LONGITUDE, p.spot.longitude);
     memory::put8(s, at + memory::TO_TIME, p.time);
 }

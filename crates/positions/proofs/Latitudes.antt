@@ -20,7 +20,7 @@ use Rattle.positions.specs.declared.Format.{Format}
 use Rattle.positions.specs.declared.Format.the-variants.{Even, Odd}
 use Rattle.positions.specs.Code.{fine, edge, edges, Zoned, Polar}
 use Rattle.positions.specs.Positions.{latitudeZones, allRound}
-use Rattle.positions.specs.Zones.{latitudes, first, zoneCount}
+use Rattle.positions.specs.Zones.{latitudes, first, zoneCount, Rising}
 use Rattle.positions.proofs.Shift.{order}
 
 -- ---- rising
@@ -48,11 +48,6 @@ rises [] t i h = absurd (not-suc-le-zero h)
 rises (x ∷ []) t i h = absurd (not-suc-le-zero (le-of-suc-le-suc h))
 rises (x ∷ y ∷ ys) t zero h = ltb→lt x y (first-of (ltb x y) (rising (y ∷ ys)) t)
 rises (x ∷ y ∷ ys) t (suc i) h = rises (y ∷ ys) (second-of (ltb x y) (rising (y ∷ ys)) t) i (le-of-suc-le-suc h)
-
--- 58 entries that rise strictly
-pub record Rising (es : List ℕ) : Type 0 where
-  pub long : length es ≡ 58
-  pub rise : (i : ℕ) → i < 57 → getD es i 0 < getD es (suc i) 0
 
 -- the paper's: the one test is `tt`
 pub latitudes-rise : Rising latitudes

@@ -11,7 +11,8 @@ use Rattle.layouts.specs.Velocity.{groundOf, airOf}
 use Rattle.layouts.specs.declared.bodies.Body.{Body}
 use Rattle.layouts.specs.declared.bodies.Body.the-variants as body
 use Rattle.readings.specs.Bodies.{readingsOf, heightDifference}
-use Rattle.readings.specs.Altitude.{altitudeOf, byHundreds, sixLess, straight, fiveHundreds, hundreds, grayStep}
+use Rattle.readings.specs.Altitude.{altitudeOf, sixLess, straight, fiveHundreds, hundreds, grayStep}
+use Rattle.readings.specs.Code.{byHundreds}
 use Rattle.readings.specs.Amounts.{speedOf, rateOf, differenceOf, amount, signed, times}
 use Rattle.readings.specs.Coarse.{coarseSpeedOf}
 use Rattle.readings.specs.Headings.{headingOf}

@@ -45,9 +45,6 @@ sixLess f h = cond (eqb (f % 2) 1) (6 - h) h
 abbrev pub hundredsBy : {A : Type 0} → (unknown : A) (feet : ℤ → (step : ℕ) → A) (f h : ℕ) → A
 hundredsBy unknown feet f h = cond (eqb h 0 || eqb h 5 || eqb h 6) unknown (feet (pos (500 * f + 100 * sixLess f (straight h)) -ℤ pos 1300) 100)
 
-unfoldable pub byHundreds : ℕ → ℕ → Altitude
-byHundreds f h = hundredsBy Unknown Feet f h
-
 -- all zeros is unknown; with Q 1 the altitude is 25 N - 1,000 feet, and its step 25; with Q 0 it goes by hundreds
 abbrev pub altitudeBy : {A : Type 0} → (unknown : A) (feet : ℤ → (step : ℕ) → A) (code : ℕ) → A
 altitudeBy unknown feet code =

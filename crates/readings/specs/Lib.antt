@@ -6,3 +6,4 @@ pub mod Headings
 pub mod Movement
 pub mod Said
 pub mod Status
+pub mod Code

@@ -3,7 +3,8 @@ use crate::signed::less;
 use refusals::Refusal;
 ghost use mathlib.Core.Path.{_≡_};
 ghost use Prim.Native.Nat.{_<_, _≤_, _+_, _*_};
-ghost use Rattle.readings.specs.Altitude.{grayStep, straight, sixLess, byHundreds, altitudeOf};
+ghost use Rattle.readings.specs.Altitude.{grayStep, straight, sixLess, altitudeOf};
+ghost use Rattle.readings.specs.Code.{byHundreds};
 ghost use Rattle.readings.specs.Altitude.{fiveHundreds, hundreds as Altitude·hundreds};
 
 pub enum Altitude {

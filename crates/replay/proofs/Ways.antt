@@ -25,9 +25,9 @@ use Rattle.messages.specs.declared.Decoded.the-variants as decode
 use Rattle.messages.specs.declared.Accepted.{Accepted}
 use Rattle.messages.specs.declared.Accepted.the-variants as accept
 use Rattle.messages.specs.Message.{bits, decoded, messageKind, keyOf, starts}
-use Rattle.messages.specs.Accepted.{accepted, openedAs, frameCoarse, frameKey, frameStarts}
+use Rattle.messages.specs.Accepted.{accepted, openedAs, frameCoarse, frameKey, frameStarts, messageOf, Opens}
 use Rattle.messages.proofs.Parts.{head-lt, address-is}
-use Rattle.messages.proofs.Acceptance.{accepted-opened, messageOf, Opens}
+use Rattle.messages.proofs.Acceptance.{accepted-opened}
 use Rattle.messages.proofs.Keys.{decoded-from, frame-key}
 use Rattle.messages.proofs.Starting.{frame-starts}
 use Rattle.whereabouts.specs.declared.Site.{Site}
@@ -37,7 +37,8 @@ use Rattle.track.specs.Track.{newTrack, stepMe}
 use Rattle.track.specs.Held.{inDate, laterAt, lookedAs, notLooked}
 use Rattle.track.proofs.Mes.{stepped-as}
 use Rattle.replay.specs.Alone.{ownIn, heardIn, Own, toldOf, ownAfter}
-use Rattle.replay.specs.Replay.{isLog, heardAt, unheard, ownAt, sited, isWide, badSite, replayed, trackOf}
+use Rattle.replay.specs.Replay.{isLog, heardAt, unheard, ownAt, sited, isWide, badSite, replayed}
+use Rattle.replay.specs.Code.{trackOf}
 
 -- ---- a message whose AA is another's
 

@@ -1,3 +1,4 @@
 pub mod Alone
 pub mod Replay
 pub mod Said
+pub mod Code

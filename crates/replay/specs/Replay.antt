@@ -1,7 +1,7 @@
 -- A track worked out again from a log. "The plain method takes the records in order, knows no table, and applies 01's track rules to that key alone, the clock moving at each record."
 use Prim.Native.Nat.{ℕ, zero, suc, _*_, _/_, _%_}
 use mathlib.Core.Bool.{Bool, false, cond, not, _&&_, _||_}
-use mathlib.Core.Option.{Option, some, none}
+use mathlib.Core.Option.{none}
 use mathlib.Core.List.{List}
 use lib.Dec.{eqb, leb}
 use lib.ListN.{length, take, drop}
@@ -14,10 +14,8 @@ use Rattle.keys.specs.declared.Kind.the-variants.{I, O, T, M, N, C}
 use Rattle.positions.specs.Positions.{poleToPole}
 use Rattle.whereabouts.specs.declared.Site.{Site}
 use Rattle.whereabouts.specs.Located.{noSite}
-use Rattle.track.specs.declared.Track.{Track}
 use Rattle.track.specs.declared.held.Looked.{Looked}
 use Rattle.track.specs.Held.{lookedAs, notLooked}
-use Rattle.replay.specs.declared.Own as code
 use Rattle.replay.specs.Alone.{Heard, heardIn, Own, ownAfter}
 
 -- ---- the log
@@ -68,11 +66,3 @@ replayed log kind address site =
     cond (not (isLog (length log))) (notLooked Log)
     (cond (leb addresses address || isWide kind || badSite site) (notLooked Field)
     (lookedAs (ownAt (sited site) (keyFor kind address) unheard log (length log / 22) .track)))
-
--- ---- what the code keeps between two records: the track counts where it is held
-
-abbrev pub trackOf : Bool → Track → Option Track
-trackOf held t = cond held (some t) none
-
-abbrev pub kept : code.Own → Own
-kept o = record { clock = o .clock; track = trackOf (o .held) (o .track) }

@@ -19,7 +19,8 @@ ghost use Rattle.messages.specs.Accepted.{IsAccepted, openedAs};
 ghost use Rattle.track.specs.Track.{newTrack};
 ghost use Rattle.track.specs.Held.{lookedAs, notLooked};
 ghost use Rattle.replay.specs.Alone.{ownIn, heardIn, toldOf, ownAfter};
-ghost use Rattle.replay.specs.Replay.{isLog, heardAt, unheard, ownAt, sited, isWide, badSite, replayed, kept};
+ghost use Rattle.replay.specs.Replay.{isLog, heardAt, unheard, ownAt, sited, isWide, badSite, replayed};
+ghost use Rattle.replay.specs.Code.{kept};
 
 // What is kept between two records: the clock, whether the aircraft is held at it, and its track, which counts where it is.
 struct Own {

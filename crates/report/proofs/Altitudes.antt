@@ -17,7 +17,6 @@ use Rattle.fields.specs.Bytes.{Bytes}
 use Rattle.fields.specs.Packing.{fits}
 use Rattle.fields.proofs.Bools.{either, each, and-right}
 use Rattle.layouts.specs.declared.airborne.Airborne.{Airborne}
-use Rattle.layouts.specs.declared.coarse.Coarse.{Coarse}
 use Rattle.layouts.specs.declared.bodies.Body.{Body}
 use Rattle.layouts.specs.declared.bodies.Body.the-variants as body
 use Rattle.layouts.specs.Layouts.{isAirborne}
@@ -27,7 +26,7 @@ use Rattle.messages.specs.declared.Decoded.{Decoded}
 use Rattle.messages.specs.declared.Decoded.the-variants as decode
 use Rattle.messages.specs.Message.{decoded, keyOf}
 use Rattle.readings.specs.Altitude.{altitudeOf}
-use Rattle.readings.specs.Bodies.{isGnss, airborneMeans, coarseMeans}
+use Rattle.readings.specs.Bodies.{isGnss}
 use Rattle.readings.specs.declared.altitude.Altitude.{Altitude}
 use Rattle.readings.specs.declared.altitude.Altitude.the-variants as altitude
 use Rattle.whereabouts.specs.declared.Site.{Site}
@@ -47,6 +46,7 @@ use Rattle.table.proofs.receive.Kinds as receive-kinds
 use Rattle.table.proofs.receive.Reads as receive
 use Rattle.text.specs.declared.Figure.the-variants.{Unknown}
 use Rattle.report.specs.Listing.{feet, stepIn, rowOf}
+use Rattle.report.specs.Told.{altitudeIn, leftOut, Tells, in-the-air, coarsely, Kept}
 
 -- ---- the listing
 
@@ -66,23 +66,6 @@ unfolding rowOf
 row-by-pressure key t u h p g = rw (h, p, g)
 
 -- ---- the track
-
--- the altitude that is read from a track: GNSS height, or pressure altitude
-abbrev pub altitudeIn : Bool → Track → Altitude
-altitudeIn gnss t = altitudeOf (cond gnss (t .groups .height) (t .groups .pressure))
-
--- a message without an altitude to keep: TYPE 0 with a field of zero
-abbrev pub leftOut : Airborne → Bool
-leftOut b = eqb (b .typecode) 0 && eqb (b .altitude) 0
-
--- a body with an altitude to keep, which is a GNSS height or a pressure altitude
-pub data Tells : Body → Bool → Altitude → Type 0 where
-  in-the-air : {b : Airborne} → leftOut b ≡ false → Tells (body.Airborne b) (isGnss (b .typecode)) (airborneMeans b .altitude)
-  coarsely : {b : Coarse} → Tells (body.Coarse b) false (coarseMeans b .altitude)
-
--- a track is held, and such an altitude, feet and step, is read from it
-abbrev pub Kept : Bool → Altitude → Option Track → Type 0
-Kept gnss a v = (t : Track) × (v ≡ some t) × (altitudeIn gnss t ≡ a)
 
 module _ (t : Track) (b : Airborne) (me : ℕ) (site : Site) (time : ℕ) where
   abbrev next : Track

@@ -27,7 +27,7 @@ use Rattle.table_bytes.specs.Scan.{isFirst}
 use Rattle.table.specs.Bytes.{bytes}
 use Rattle.table.specs.View.{view}
 use Rattle.report.specs.Listing.{shown, rowFor, asList, rowsBelow, rowsIn}
-use Rattle.report.specs.Places.{hasRow}
+use Rattle.report.specs.Code.{hasRow}
 use Rattle.report.proofs.Held.{held-is-key}
 use Rattle.report.proofs.Keys.{rows-none, rows-next}
 

@@ -19,9 +19,10 @@ use Rattle.rules.specs.declared.answers.NextKey.the-variants as next
 use Rattle.rules.proofs.KeyOrder.{next-follows}
 use Rattle.table.specs.Bytes.{bytes}
 use Rattle.table.specs.Table.{nextAbove}
-use Rattle.table.specs.View.{view, Follows}
+use Rattle.table.specs.View.{view}
+use Rattle.table.specs.Code.{Follows}
 use Rattle.report.specs.Listing.{rowFor, asList, rowsBelow, texts}
-use Rattle.report.specs.Walked.{keyOrLimit}
+use Rattle.report.specs.Code.{keyOrLimit}
 use Rattle.report.proofs.Held.{unheld-unseen, held-is-key}
 
 -- r is the least key held above one, or the limit

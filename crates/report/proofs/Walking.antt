@@ -19,9 +19,11 @@ use Rattle.rules.specs.declared.answers.NextKey.the-variants as next
 use Rattle.rules.proofs.KeyOrder.{next-follows}
 use Rattle.table.specs.Bytes.{bytes}
 use Rattle.table.specs.Table.{nextAbove}
-use Rattle.table.specs.View.{view, Follows}
+use Rattle.table.specs.View.{view}
+use Rattle.table.specs.Code.{Follows}
 use Rattle.report.specs.Listing.{rowFor, asList, rowsBelow, rowsIn, texts, headerFor, listing, headerIn, reported, lineIn}
-use Rattle.report.specs.Walked.{someText, keyOrLimit, Walked, ended, then}
+use Rattle.report.specs.Walked.{someText, Walked, ended, then}
+use Rattle.report.specs.Code.{keyOrLimit}
 use Rattle.report.proofs.Held.{held-is-key}
 use Rattle.report.proofs.Keys.{Least, least, skipped, none-zero, rows-none, rows-next, rows-keep, texts-append}
 

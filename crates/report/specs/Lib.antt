@@ -1,4 +1,5 @@
 pub mod Listing
-pub mod Places
 pub mod Said
 pub mod Walked
+pub mod Code
+pub mod Told

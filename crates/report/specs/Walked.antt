@@ -3,10 +3,8 @@ use Prim.Native.Nat.{ℕ, _+_}
 use mathlib.Core.Path.{_≡_}
 use mathlib.Core.Bool.{Bool}
 use mathlib.Core.List.{List, [], _∷_, _++_}
-use Rattle.keys.specs.Keys.{endOfKeys}
 use Rattle.text.specs.Lines.{textIn}
-use Rattle.rules.specs.declared.answers.NextKey.{NextKey}
-use Rattle.rules.specs.declared.answers.NextKey.the-variants.{Key, End, Refused}
+use Rattle.rules.specs.declared.answers.NextKey.the-variants.{Key, End}
 use Rattle.table.specs.Table.{nextAbove}
 use Rattle.report.specs.Listing.{lineIn}
 
@@ -14,12 +12,6 @@ use Rattle.report.specs.Listing.{lineIn}
 unfoldable pub someText : List ℕ → ℕ
 someText [] = 0
 someText (b ∷ bs) = 1
-
--- the key that a walk has come to; at its end the end of the keys
-unfoldable pub keyOrLimit : NextKey → ℕ
-keyOrLimit (Key key) = key
-keyOrLimit End = endOfKeys
-keyOrLimit (Refused r) = endOfKeys
 
 -- a walk of the table s from a key on, by the answers of `table::next`: how many of the lines have text, and their text, by the answers of `report::line_of`
 pub data Walked (all : Bool) (s : List ℕ) : ℕ → ℕ → List ℕ → Type 0 where

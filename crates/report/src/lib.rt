@@ -19,7 +19,7 @@ ghost use Rattle.table.specs.Table.{lookedUp};
 ghost use Rattle.memory.specs.Offsets.{Room, wholePlaces};
 ghost use Rattle.report.specs.Listing.{shown, rowOf, rowFor, rowsIn, reported, headerIn, lineIn};
 ghost use Rattle.report.specs.Listing.{without as withoutLine};
-ghost use Rattle.report.specs.Places.{hasRow};
+ghost use Rattle.report.specs.Code.{hasRow};
 
 pub enum Printed {
     Text,

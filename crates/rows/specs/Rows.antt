@@ -139,6 +139,10 @@ fieldsAt = 5
 abbrev pub readingsAt : ℕ
 readingsAt = fieldsAt + 15
 
+-- how many entries it has
+abbrev pub rowSize : ℕ
+rowSize = readingsAt + 8
+
 -- behind the layout what stands before ME, with the key
 unfoldable pub rowOf : Layout → List ℕ → List ℕ → Four → List ℕ
 rowOf l head fields four = layoutNumber l ∷ (head ++ (filled 15 fields ++ fourValues four))
@@ -149,7 +153,7 @@ meRow l n traffic = rowOf l (0 ∷ 0 ∷ 0 ∷ 0 ∷ []) (unpack (layoutWidths l
 
 -- what an array holds afterwards: one of another length is left as it was
 abbrev pub rowInto : List ℕ → List ℕ → List ℕ
-rowInto out row = cond (eqb (length out) 28) row out
+rowInto out row = cond (eqb (length out) rowSize) row out
 
 -- its readings go by whether it is a traffic service's message
 abbrev pub messageFour : Message → Four

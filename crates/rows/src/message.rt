@@ -1,4 +1,7 @@
 // An ME as 28 numbers, its fields and its readings; who has a message adds what stands before ME.
+use crate::FIELDS;
+use crate::READINGS;
+use crate::ROW;
 use crate::widths::number_of;
 use crate::widths::put_fields;
 use entries::Reading;
@@ -30,7 +33,7 @@ ghost use lib.Dec.{eqb};
 ghost use lib.ListN.{length};
 ghost use Rattle.layouts.specs.Bodies.{takenAs};
 ghost use Rattle.entries.specs.Arrays.{filled};
-ghost use Rattle.rows.specs.Rows.{identificationFour, surfaceFour, airborneFour, groundFour, airFour, statusFour, coarseFour, refusedFour, fourIn, fourValues, meRow, rowInto};
+ghost use Rattle.rows.specs.Rows.{identificationFour, surfaceFour, airborneFour, groundFour, airFour, statusFour, coarseFour, refusedFour, fourIn, fourValues, rowSize, meRow, rowInto};
 
 // The readings of a layout.
 pub struct Four {
@@ -186,14 +189,14 @@ fn put_four(out: &mut [u64], r: Four)
 
 // Fills an array of 28 entries, and says whether it is one; another it leaves as it was.
 pub fn put_me(out: &mut [u64], layout: Layout, me: u64, traffic: bool) -> bool
-    ensures { λ r. ⌜ (r ≡ eqb (length (now (out .entry))) 28) × (now (out .exit) ≡ rowInto (now (out .entry)) (meRow layout me traffic)) ⌝ }
+    ensures { λ r. ⌜ (r ≡ eqb (length (now (out .entry))) rowSize) × (now (out .exit) ≡ rowInto (now (out .entry)) (meRow layout me traffic)) ⌝ }
 {
-    if out.len() != 28 {
+    if out.len() != ROW {
         return false;
     }
-    entries::fill(&mut out[0..5], &[number_of(layout)]);
-    put_fields(&mut out[5..20], layout, me);
+    entries::fill(&mut out[0..FIELDS], &[number_of(layout)]);
+    put_fields(&mut out[FIELDS..READINGS], layout, me);
     let four = four_in(layout, me, traffic);
-    put_four(&mut out[20..28], four);
+    put_four(&mut out[READINGS..ROW], four);
     true
 }

@@ -1,4 +1,12 @@
 // The fields of a layout by their widths: cut out of the 56 bits of ME, and packed into them.
+use crate::LAYOUT_AIR;
+use crate::LAYOUT_AIRBORNE;
+use crate::LAYOUT_COARSE;
+use crate::LAYOUT_GROUND;
+use crate::LAYOUT_IDENTIFICATION;
+use crate::LAYOUT_NONE;
+use crate::LAYOUT_STATUS;
+use crate::LAYOUT_SURFACE;
 use layouts::Layout;
 use layouts::Written;
 use refusals::Refusal;
@@ -27,14 +35,14 @@ pub(crate) fn number_of(layout: Layout) -> u64
     ensures { λ r. ⌜ r ≡ layoutNumber layout ⌝ }
 {
     match layout {
-        Layout::NotTaken => 0,
-        Layout::Identification => 1,
-        Layout::Surface => 2,
-        Layout::Airborne => 3,
-        Layout::Ground => 4,
-        Layout::Air => 5,
-        Layout::Status => 6,
-        Layout::Coarse => 7,
+        Layout::NotTaken => LAYOUT_NONE,
+        Layout::Identification => LAYOUT_IDENTIFICATION,
+        Layout::Surface => LAYOUT_SURFACE,
+        Layout::Airborne => LAYOUT_AIRBORNE,
+        Layout::Ground => LAYOUT_GROUND,
+        Layout::Air => LAYOUT_AIR,
+        Layout::Status => LAYOUT_STATUS,
+        Layout::Coarse => LAYOUT_COARSE,
     }
 }
 
@@ -42,25 +50,25 @@ pub(crate) fn number_of(layout: Layout) -> u64
 pub(crate) fn layout_at(number: u64) -> Layout
     ensures { λ r. ⌜ r ≡ layoutNumbered number ⌝ }
 {
-    if number == 1 {
+    if number == LAYOUT_IDENTIFICATION {
         return Layout::Identification;
     }
-    if number == 2 {
+    if number == LAYOUT_SURFACE {
         return Layout::Surface;
     }
-    if number == 3 {
+    if number == LAYOUT_AIRBORNE {
         return Layout::Airborne;
     }
-    if number == 4 {
+    if number == LAYOUT_GROUND {
         return Layout::Ground;
     }
-    if number == 5 {
+    if number == LAYOUT_AIR {
         return Layout::Air;
     }
-    if number == 6 {
+    if number == LAYOUT_STATUS {
         return Layout::Status;
     }
-    if number == 7 {
+    if number == LAYOUT_COARSE {
         return Layout::Coarse;
     }
     Layout::NotTaken

@@ -29,8 +29,8 @@ use Rattle.slice_places.specs.Ranges.{noPlace, meaningOf, isHeld, holds}
 use Rattle.slice_places.specs.Head.{placesFit, moved, siteOf}
 use Rattle.slice_places.specs.Arrivals.{refusedWith, judged, isRefused, startsIn, trackIn, soughtBy, nextOf, turnedAwayBy}
 use Rattle.slice_table.specs.Slice.{sliceOf, slice}
-use Rattle.slice_table.specs.Tracks.{After, after, delivered, received}
-use Rattle.slice_table.specs.Scan.{scanned, chosen}
+use Rattle.slice_table.specs.Tracks.{After, after, received}
+use Rattle.slice_table.specs.Code.{delivered, scanned, chosen}
 
 chosen-true : {A : Type 0} {b : Bool} (x y : A) → b ≡ true → x ≡ cond b x y
 chosen-true x y e = rw e

@@ -12,7 +12,7 @@ use contract.Lifetimes.{Lfts}
 use contract.Monad.{Fun, fact}
 use denote.Ref.{now}
 use denote.Triple.Entry.{Args, Res}
-use denote.Triple.Clauses.{Ended, Clauses, AtExit}
+use denote.Triple.Clauses.{AtExit}
 use Rattle.refusals.specs.declared.Refusal.{Refusal}
 use Rattle.messages.specs.declared.Decoded.{Decoded}
 use Rattle.messages.specs.Damaged.{Damaged}
@@ -35,12 +35,7 @@ use Rattle.slice_table.proofs.set_up as set-up
 use Rattle.slice_table.proofs.receive as receive
 use Rattle.slice_table.proofs.look_up as look-up
 use Rattle.slice_table.proofs.next as next
-
--- of a contract in a model: what is said of the arguments and the result holds wherever they satisfy its clause
-abbrev pub Promised : {M : Type 1} (𝓤 : URA M) (T : Ended) → Clauses 𝓤 T → ((κs : Lfts (T .signature .lifetimes)) → Args (T .signature) κs → Res (T .signature) κs → Type 0) → Type 1
-Promised 𝓤 T clauses says =
-    (κs : Lfts (T .signature .lifetimes)) (a : Args (T .signature) κs) (g : clauses κs a .ghost) (x : Res (T .signature) κs) (left : AtExit T κs)
-    → ent 𝓤 (clauses κs a .ensures g x left) (fact 𝓤 (says κs a x))
+use Rattle.slice_table.specs.Answers.{Promised}
 
 module _ {M : Type 1} (𝓤 : URA M) (H : Heap 𝓤) (A : Atoms 𝓤) (mem : Memory → SProp 𝓤) (run : Routine → Fun 𝓤) where
   -- set-up: 7, then 8

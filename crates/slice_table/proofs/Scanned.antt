@@ -8,7 +8,7 @@ use lib.ListN.{getD}
 use Rattle.slice_places.specs.declared.Place.{Place}
 use Rattle.slice_places.specs.declared.Sought.{Sought}
 use Rattle.slice_places.specs.Ranges.{noPlace}
-use Rattle.slice_table.specs.Scan.{noneFound, visited, scanned}
+use Rattle.slice_table.specs.Code.{noneFound, visited, scanned}
 
 pub scanned-none : (ps : List Place) (s : Sought) → noneFound ≡ scanned ps s 0
 unfolding scanned

@@ -24,8 +24,8 @@ use Rattle.slice_places.specs.Head.{placesFit, headOf}
 use Rattle.slice_places.specs.Decided.{notStarted, started, isDone, sought, looked}
 use Rattle.rules.specs.Rules as rules
 use Rattle.slice_table.specs.Slice.{sliceOf, slice}
-use Rattle.slice_table.specs.Tracks.{After, after, emptied, setUp, lookedUp, smallest, nextAbove}
-use Rattle.slice_table.specs.Scan.{scanned}
+use Rattle.slice_table.specs.Tracks.{After, after, emptied, setUp, lookedUp, nextAbove}
+use Rattle.slice_table.specs.Code.{smallest, scanned}
 
 -- ---- how a test of the machine came out
 

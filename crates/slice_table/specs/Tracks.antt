@@ -1,17 +1,14 @@
 -- The lent table as a slice of places, with its head by value: the rules of any form, at the slice.
 use Prim.Native.Nat.{ℕ}
 use mathlib.Core.List.{List}
-use lib.ListN.{getD}
 use Rattle.messages.specs.declared.Decoded.{Decoded}
 use Rattle.whereabouts.specs.declared.Site.{Site}
 use Rattle.track.specs.declared.held.Looked.{Looked}
 use Rattle.rules.specs.declared.answers.SetUp.{SetUp}
 use Rattle.rules.specs.declared.answers.NextKey.{NextKey}
 use Rattle.rules.specs.Rules as rules
-use Rattle.rules.specs.Search as search
 use Rattle.slice_places.specs.declared.Place.{Place}
 use Rattle.slice_places.specs.declared.Head.{Head}
-use Rattle.slice_places.specs.Ranges.{noPlace, isHeld}
 use Rattle.slice_table.specs.Slice.{Slice, sliceOf, slice}
 pub use Rattle.slice_table.specs.Slice.{emptied}
 
@@ -25,18 +22,11 @@ after a head ps = rules.after a (sliceOf head ps)
 abbrev pub setUp : List Place → Head → Site → After SetUp
 setUp ps head site = rules.setUp slice (sliceOf head ps) site
 
-abbrev pub delivered : List Place → Head → Decoded → After Decoded
-delivered ps head d = rules.delivered slice (sliceOf head ps) d (head .clock)
-
 abbrev pub received : List Place → Head → List ℕ → ℕ → After Decoded
 received ps head message time = rules.received slice (sliceOf head ps) message time
 
 abbrev pub lookedUp : List Place → Head → ℕ → Looked
 lookedUp ps head key = rules.lookedUp slice (sliceOf head ps) key
-
--- the smallest key above that the first n places hold; 0 if there is none
-abbrev pub smallest : List Place → ℕ → ℕ → ℕ → ℕ
-smallest ps clock above n = search.smallest (λ i. getD ps i noPlace .key) (λ i. isHeld clock (getD ps i noPlace)) above n
 
 abbrev pub nextAbove : List Place → Head → ℕ → NextKey
 nextAbove ps head above = rules.nextAbove slice (sliceOf head ps) above

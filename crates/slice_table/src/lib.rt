@@ -13,8 +13,8 @@ use track::Looked;
 use whereabouts::Site;
 ghost use mathlib.Core.Path.{_≡_};
 ghost use lib.ListN.{length};
-ghost use Rattle.slice_table.specs.Tracks.{after, emptied, setUp, delivered, received, lookedUp, smallest, nextAbove};
-ghost use Rattle.slice_table.specs.Scan.{scanned};
+ghost use Rattle.slice_table.specs.Tracks.{after, emptied, setUp, received, lookedUp, nextAbove};
+ghost use Rattle.slice_table.specs.Code.{delivered, smallest, scanned};
 
 // The lowest place held with the key and the lowest free one, each the number of places if there is none.
 pub(crate) struct Found {

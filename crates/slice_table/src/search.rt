@@ -4,7 +4,7 @@ use slice_places::Place;
 use slice_places::Sought;
 ghost use mathlib.Core.Path.{_≡_};
 ghost use Prim.Native.Nat.{_<_};
-ghost use Rattle.slice_table.specs.Scan.{noneFound, further, visited, chosen};
+ghost use Rattle.slice_table.specs.Code.{noneFound, further, visited, chosen};
 
 pub(crate) fn none_found() -> Found
     ensures { λ r. ⌜ r ≡ noneFound ⌝ }

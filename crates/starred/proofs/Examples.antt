@@ -2,7 +2,8 @@
 -- Assumes nothing.
 use mathlib.Core.Path.{_≡_, refl}
 use mathlib.Core.List.{map}
-use Rattle.readings.specs.Altitude.{altitudeOf, byHundreds, sixLess, straight, fiveHundreds, hundreds, grayStep}
+use Rattle.readings.specs.Altitude.{altitudeOf, sixLess, straight, fiveHundreds, hundreds, grayStep}
+use Rattle.readings.specs.Code.{byHundreds}
 use Rattle.readings.specs.Amounts.{speedOf, rateOf, amount, signed, times}
 use Rattle.positions.specs.Whole.{floor, modulo, nearest}
 use Rattle.positions.specs.Zones.{latitudes, first, zoneCount}

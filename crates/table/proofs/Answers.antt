@@ -34,7 +34,8 @@ use Rattle.rules.specs.declared.answers.NextKey.{NextKey}
 use Rattle.rules.specs.declared.answers.NextKey.the-variants as next
 use Rattle.rules.specs.declared.answers.Clock.the-variants as clock
 use Rattle.rules.specs.declared.answers.Sited.the-variants as sited
-use Rattle.table.specs.Table.{After, after, setUp, setUpAt, delivered, received, lookedUp, nextAbove, clockIn, siteIn}
+use Rattle.table.specs.Table.{After, after, setUp, setUpAt, received, lookedUp, nextAbove, clockIn, siteIn}
+use Rattle.table.specs.Code.{delivered}
 use Rattle.rules.specs.Keys.{keyOrEnd}
 
 -- ---- a message reaches the table

@@ -25,7 +25,8 @@ use Rattle.rules.specs.Rules as rules
 use Rattle.table.specs.Bytes.{bytes}
 use Rattle.rules.specs.declared.answers.Heard.{Heard}
 use Rattle.rules.specs.declared.answers.Heard.the-variants as hear
-use Rattle.table.specs.Table.{After, after, delivered, received}
+use Rattle.table.specs.Table.{After, after, received}
+use Rattle.table.specs.Code.{delivered}
 use Rattle.table.specs.Heard.{heardAs, heard}
 use Rattle.table.proofs.Answers.{placed}
 

@@ -32,9 +32,6 @@ setUp s = rules.setUp bytes s noSite
 abbrev pub setUpAt : List ℕ → Spot → After SetUp
 setUpAt s spot = rules.setUp bytes s (siteAt spot)
 
-abbrev pub delivered : List ℕ → Decoded → ℕ → After Decoded
-delivered s d time = rules.delivered bytes s d time
-
 abbrev pub received : List ℕ → List ℕ → ℕ → After Decoded
 received s message time = rules.received bytes s message time
 

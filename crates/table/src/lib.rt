@@ -24,7 +24,8 @@ ghost use Rattle.track.specs.Track.{newTrack, stepMe};
 ghost use Rattle.place.specs.Place.{trackOf};
 ghost use Rattle.table_bytes.specs.Layout.{siteOf, bodyAt, stored};
 ghost use Rattle.table.specs.Heard.{heard};
-ghost use Rattle.table.specs.Table.{after, delivered, received, setUp, setUpAt, lookedUp, nextAbove, clockIn, siteIn};
+ghost use Rattle.table.specs.Table.{after, received, setUp, setUpAt, lookedUp, nextAbove, clockIn, siteIn};
+ghost use Rattle.table.specs.Code.{delivered};
 
 // Empties the table: no track, no site, clock 0.
 pub fn set_up(table: &mut [u8]) -> SetUp

@@ -20,8 +20,9 @@ use Rattle.rules.specs.Form as form
 use Rattle.rules.specs.Search.{beats}
 use Rattle.rules.specs.Search as search
 use Rattle.table_bytes.specs.Layout.{Place, keyAt, bodyAt, placeAt, isHeld, holds}
-use Rattle.table_bytes.specs.Scan.{lowest, noneOf, NoneBelow, allHeld, isFirst, targetOf}
-use Rattle.table_bytes.specs.Walk.{better, smallest}
+use Rattle.table_bytes.specs.Scan.{lowest, isFirst, targetOf}
+use Rattle.table_bytes.specs.Code.{noneOf, NoneBelow, allHeld, better}
+use Rattle.table_bytes.specs.Walk.{smallest}
 
 -- none below i, and then one at i, whose test was h
 module _ (p : ℕ → Bool) (i : ℕ) (e : lowest p i ≡ i) {h : Bool} (h-is : h ≡ p i) where

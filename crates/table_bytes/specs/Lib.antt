@@ -1,3 +1,4 @@
 pub mod Layout
 pub mod Scan
 pub mod Walk
+pub mod Code

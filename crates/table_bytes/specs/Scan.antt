@@ -1,28 +1,10 @@
 -- What the scan tests, some places at a time, and where a message goes.
-use Prim.Native.Nat.{ℕ, zero, suc, _+_, _*_, _<_}
-use mathlib.Core.Path.{_≡_}
+use Prim.Native.Nat.{ℕ}
 use mathlib.Core.Bool.{Bool, true, false, cond, not, _&&_}
-use mathlib.Core.List.{List}
 use lib.Dec.{eqb, ltb}
-use Rattle.memory.specs.Offsets.{keySize, keyStart}
-use Rattle.memory.specs.Bytes.{numberAt}
 pub use Rattle.rules.specs.Search.{lowest}
 use Rattle.table_bytes.specs.declared.scan.Target.{Target}
 use Rattle.table_bytes.specs.Layout.{Place, isHeld, holds}
-
--- none of m keys from an offset on passes a test
-abbrev pub noneOf : (ℕ → Bool) → ℕ → List ℕ → ℕ → Bool
-noneOf p zero s at = true
-noneOf p (suc m) s at = noneOf p m s at && not (p (numberAt 4 s (at + keySize * m)))
-
--- none of the first r keys is the key
-abbrev pub NoneBelow : List ℕ → ℕ → ℕ → Type 0
-NoneBelow s key r = (i : ℕ) → i < r → eqb (numberAt 4 s (keyStart i)) key ≡ false
-
--- each of m places from i on is held
-abbrev pub allHeld : ℕ → (ℕ → Place) → ℕ → ℕ → Bool
-allHeld zero f i clock = true
-allHeld (suc m) f i clock = allHeld m f i clock && isHeld clock (f (i + m))
 
 -- the place i is the first of its key: it is held, and none below it is held with its key
 abbrev pub isFirst : (ℕ → Place) → ℕ → ℕ → ℕ → Bool

@@ -3,10 +3,6 @@ use Prim.Native.Nat.{ℕ}
 use Rattle.rules.specs.Search as search
 use Rattle.table_bytes.specs.Layout.{Place, isHeld}
 
--- the lesser of the best key so far, 0 for none, and the place's, if that is held and above
-abbrev pub better : ℕ → ℕ → ℕ → Place → ℕ
-better clock above best p = search.better above best (p .key) (isHeld clock p)
-
 -- the smallest key above that the first n places hold; 0 if there is none
 abbrev pub smallest : (ℕ → Place) → ℕ → ℕ → ℕ → ℕ
 smallest f clock above n = search.smallest (λ i. f i .key) (λ i. isHeld clock (f i)) above n

@@ -10,7 +10,8 @@ ghost use lib.Dec.{eqb};
 ghost use lib.ListN.{length};
 ghost use Rattle.memory.specs.Offsets.{Room};
 ghost use Rattle.table_bytes.specs.Layout.{placeAt, isHeld, holds};
-ghost use Rattle.table_bytes.specs.Scan.{lowest, noneOf, NoneBelow, allHeld, isFirst, targetOf};
+ghost use Rattle.table_bytes.specs.Scan.{lowest, isFirst, targetOf};
+ghost use Rattle.table_bytes.specs.Code.{noneOf, NoneBelow, allHeld};
 
 // A place, and whether it holds the key.
 pub struct Target {

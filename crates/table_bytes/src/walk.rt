@@ -10,8 +10,8 @@ ghost use Rattle.memory.specs.Offsets.{Room};
 ghost use Rattle.memory.specs.Bytes.{numberAt};
 ghost use Rattle.rules.specs.Search.{beats};
 ghost use Rattle.table_bytes.specs.Layout.{placeAt};
-ghost use Rattle.table_bytes.specs.Scan.{noneOf};
-ghost use Rattle.table_bytes.specs.Walk.{better, smallest};
+ghost use Rattle.table_bytes.specs.Code.{noneOf, better};
+ghost use Rattle.table_bytes.specs.Walk.{smallest};
 
 // Whether the key at an offset lies above the given one, and below the best so far, 0 for none.
 fn is_better(s: &[u8], at: usize, above: u32, best: u32) -> bool

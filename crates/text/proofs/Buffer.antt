@@ -7,7 +7,7 @@ use native.Mathlib.Nat.{add-zero}
 use native.Mathlib.Omega.{arith}
 use lib.ListN.{length, drop, set, length-append}
 use lib.Seq.{sets, sets-eq, set-out}
-use Rattle.text.specs.Wrote.{written, Wrote}
+use Rattle.text.specs.Code.{written, Wrote}
 
 sets-then : (vs l : List ℕ) (i : ℕ) (ws : List ℕ) → sets (sets l i vs) (i + length vs) ws ≡ sets l i (vs ++ ws)
 sets-then [] l i ws = ap (λ (k : ℕ). sets l k ws) (add-zero i)

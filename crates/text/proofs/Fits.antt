@@ -12,7 +12,7 @@ use lib.Seq.{take-append-seam, drop-at}
 use Rattle.keys.specs.Keys.{letterIn, addressIn, coarseIn, flagIn, stationIn}
 use Rattle.text.specs.Numbers.{decimal, hex, minus, signed}
 use Rattle.text.specs.Lines.{space, newline, field, figure, clockLabel, tracksLabel, badLabel, headerText, senderText, keyText, rowText, lineRoom, lineOf, textIn}
-use Rattle.text.specs.Wrote.{Wrote}
+use Rattle.text.specs.Code.{Wrote}
 use Rattle.text.specs.declared.Figure.{Figure}
 use Rattle.text.specs.declared.Figure.the-variants.{Unknown, Known}
 use Rattle.text.specs.declared.Line.{Line}

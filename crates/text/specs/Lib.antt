@@ -1,3 +1,3 @@
 pub mod Lines
 pub mod Numbers
-pub mod Wrote
+pub mod Code

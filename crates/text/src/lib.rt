@@ -5,7 +5,7 @@ mod write;
 ghost use mathlib.Core.Path.{_≡_};
 ghost use Prim.Native.Nat.{_+_, _≤_, _<_, _^_};
 ghost use lib.ListN.{length};
-ghost use Rattle.text.specs.Wrote.{Wrote};
+ghost use Rattle.text.specs.Code.{Wrote};
 ghost use Rattle.text.specs.Lines.{field, figure, senderText, keyText, headerText, rowText, lineOf};
 
 // How many bytes a line has room for: every line fits.

@@ -2,7 +2,7 @@
 use crate::write::put_byte;
 ghost use mathlib.Core.Path.{_≡_};
 ghost use Prim.Native.Nat.{_+_, _≤_, _<_, _^_};
-ghost use Rattle.text.specs.Wrote.{Wrote};
+ghost use Rattle.text.specs.Code.{Wrote};
 ghost use Rattle.text.specs.Numbers.{decimal, hex, hexDigit, signed};
 
 pub(crate) fn put_decimal(out: &mut [u8], at: usize, n: u64) -> usize

@@ -2,7 +2,7 @@
 ghost use mathlib.Core.List.{_∷_, []};
 ghost use Prim.Native.Nat.{_+_, _<_, _^_};
 ghost use lib.ListN.{length};
-ghost use Rattle.text.specs.Wrote.{Wrote};
+ghost use Rattle.text.specs.Code.{Wrote};
 
 pub(crate) fn put_byte(out: &mut [u8], at: usize, b: u8) -> usize
     requires { ⌜ at + 1 < 2 ^ 64 ⌝ }

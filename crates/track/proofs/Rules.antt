@@ -3,7 +3,7 @@
 use Prim.Native.Nat.{ℕ, _-_, _≤_, _<_}
 use native.Mathlib.Omega.{arith}
 use mathlib.Core.Path.{_≡_, refl, sym, ap, subst, _∙_}
-use mathlib.Core.Bool.{Bool, true, false, cond, not, _&&_}
+use mathlib.Core.Bool.{Bool, true, false, not, _&&_}
 use mathlib.Core.List.{List, [], _∷_}
 use lib.Dec.{leb, eqb}
 use lib.ListN.{length, getD}
@@ -47,22 +47,10 @@ use Rattle.whereabouts.specs.declared.Site.{Site}
 use Rattle.track.specs.declared.Track.{Track}
 use Rattle.track.specs.declared.Stepped.{Stepped}
 use Rattle.track.specs.Groups.{identified, moving, onSurface, atPressure, reported, atHeight, positioned}
-use Rattle.whereabouts.specs.Located.{
-  isFresh,
-  sizeOf,
-  sameSize,
-  isPartner,
-  passedOn,
-  settled,
-  readNear,
-  readSingly,
-  pairedWith,
-  afterPair,
-  airbornePosition,
-  surfacePosition,
-}
+use Rattle.whereabouts.specs.Located.{isFresh, sameSize, isPartner, passedOn, settled, readNear, readSingly, pairedWith, afterPair, airbornePosition, surfacePosition}
 use Rattle.whereabouts.proofs.Promised.{sizes-never-paired}
 use Rattle.track.specs.Track.{formatOf, placedOr, countsIn, coarseCounts, newTrack, noSaved, groupTrack, savedTrack, airborneTrack, surfaceTrack, stepBody, stepped}
+use Rattle.track.specs.Leaves.{NoPosition, OnlyStatus, Coarsely}
 
 -- ---- a new track
 
@@ -109,49 +97,6 @@ heard-at-its-time t (body.Coarse b) me site time = refl
 -- the position and the two saved ones
 abbrev pub Unmoved : Track → Track → Type 0
 Unmoved t n = (n .position ≡ t .position) × (n .saved ≡ t .saved)
-
--- what a message without a position leaves of a track: the code that it reports, or the one before if that is 0
-pub record NoPosition (altitude time : ℕ) (t n : Track) : Type 0 where
-  pub heard : n .heard ≡ time
-  pub pressure : n .groups .pressure ≡ cond (eqb altitude 0) (t .groups .pressure) altitude
-  pub identification : n .groups .identification ≡ t .groups .identification
-  pub velocity : n .groups .velocity ≡ t .groups .velocity
-  pub surface : n .groups .surface ≡ t .groups .surface
-  pub status : n .groups .status ≡ t .groups .status
-  pub height : n .groups .height ≡ t .groups .height
-  pub typecode : n .groups .typecode ≡ t .groups .typecode
-  pub bit8 : n .groups .bit8 ≡ t .groups .bit8
-  pub coarse : n .groups .coarse ≡ t .groups .coarse
-  pub position : n .position ≡ t .position
-  pub saved : n .saved ≡ t .saved
-
--- what a status leaves of a track: all but its own group and the time heard
-pub record OnlyStatus (me time : ℕ) (t n : Track) : Type 0 where
-  pub heard : n .heard ≡ time
-  pub status : n .groups .status ≡ me
-  pub identification : n .groups .identification ≡ t .groups .identification
-  pub velocity : n .groups .velocity ≡ t .groups .velocity
-  pub surface : n .groups .surface ≡ t .groups .surface
-  pub pressure : n .groups .pressure ≡ t .groups .pressure
-  pub height : n .groups .height ≡ t .groups .height
-  pub typecode : n .groups .typecode ≡ t .groups .typecode
-  pub bit8 : n .groups .bit8 ≡ t .groups .bit8
-  pub coarse : n .groups .coarse ≡ t .groups .coarse
-  pub position : n .position ≡ t .position
-  pub saved : n .saved ≡ t .saved
-
--- what a coarse message leaves of a track: its altitude, itself as the velocity, and of the other groups what they were
-pub record Coarsely (altitude me time : ℕ) (t n : Track) : Type 0 where
-  pub heard : n .heard ≡ time
-  pub pressure : n .groups .pressure ≡ altitude
-  pub velocity : n .groups .velocity ≡ me
-  pub coarse : n .groups .coarse ≡ true
-  pub identification : n .groups .identification ≡ t .groups .identification
-  pub surface : n .groups .surface ≡ t .groups .surface
-  pub status : n .groups .status ≡ t .groups .status
-  pub height : n .groups .height ≡ t .groups .height
-  pub typecode : n .groups .typecode ≡ t .groups .typecode
-  pub bit8 : n .groups .bit8 ≡ t .groups .bit8
 
 module _ (t : Track) (me : ℕ) (site : Site) (time : ℕ) where
   pub identification-replaces : (b : Identification) → stepBody t (body.Identification b) me site time .groups ≡ identified (t .groups) me

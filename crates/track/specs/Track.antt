@@ -13,11 +13,9 @@ use Rattle.layouts.specs.declared.airborne.Airborne.{Airborne}
 use Rattle.layouts.specs.declared.coarse.Coarse.{Coarse}
 use Rattle.layouts.specs.declared.bodies.Body.{Body}
 use Rattle.layouts.specs.declared.bodies.Body.the-variants as body
-use Rattle.layouts.specs.declared.bodies.Layout.{Layout}
-use Rattle.layouts.specs.declared.bodies.Layout.the-variants as layout
 use Rattle.layouts.specs.declared.bodies.Taken.{Taken}
 use Rattle.layouts.specs.declared.bodies.Taken.the-variants as read
-use Rattle.layouts.specs.Bodies.{layoutOf, takenBy, bodyMe, bodyFits}
+use Rattle.layouts.specs.Bodies.{takenBy, bodyMe, bodyFits}
 use Rattle.messages.specs.declared.Decoded.{Decoded}
 use Rattle.messages.specs.declared.Decoded.the-variants as decode
 use Rattle.whereabouts.specs.declared.Placed.{Placed}
@@ -27,7 +25,6 @@ use Rattle.whereabouts.specs.declared.Saved.{Saved}
 use Rattle.whereabouts.specs.declared.Site.{Site}
 use Rattle.track.specs.declared.Groups.{Groups}
 use Rattle.track.specs.declared.Track.{Track}
-use Rattle.track.specs.declared.Aloft.{Aloft}
 use Rattle.track.specs.declared.Stepped.{Stepped}
 use Rattle.track.specs.Groups.{noGroups, identified, moving, onSurface, stating, atPressure, reported, high, positioned}
 use Rattle.whereabouts.specs.Located.{noPosition, sizeOf, airbornePosition, surfacePosition}
@@ -82,13 +79,6 @@ airborneTrack t b time = savedTrack t (airborneGroups (t .groups) b) false (b .f
 abbrev pub coarseTrack : Track → Coarse → ℕ → ℕ → Track
 coarseTrack t b me time = savedTrack t (coarseGroups (t .groups) b me) true (b .f) (coarseCounts b) time
 
--- what the code makes of either message, before it is saved
-abbrev pub airborneAloft : Groups → Airborne → Aloft
-airborneAloft g b = record { groups = airborneGroups g b; coarse = false; f = b .f; counts = countsIn b }
-
-abbrev pub coarseAloft : Groups → Coarse → ℕ → Aloft
-coarseAloft g b me = record { groups = coarseGroups g b me; coarse = true; f = b .f; counts = coarseCounts b }
-
 -- TYPE 0 has the airborne layout and no position: only the altitude that it reports counts
 abbrev pub airborneStep : Track → Airborne → ℕ → Track
 airborneStep t b time = cond (eqb (b .typecode) 0) (groupTrack t (reported (t .groups) (b .altitude)) time) (airborneTrack t b time)
@@ -117,10 +107,6 @@ stepBody t (body.Coarse b) me site time = coarseTrack t b me time
 abbrev pub stepTaken : Track → Taken → ℕ → Site → ℕ → Track
 stepTaken t (read.Body b) me site time = stepBody t b me site time
 stepTaken t (read.Refused r) me site time = t
-
--- the way of a message through the code: a coarse one goes with those of the airborne layout
-abbrev pub wayOf : Bool → ℕ → Layout
-wayOf coarse n = cond coarse layout.Airborne (layoutOf n)
 
 abbrev pub stepMe : Track → Bool → ℕ → Site → ℕ → Track
 stepMe t coarse n site time = stepTaken t (takenBy coarse (n % 2 ^ 56)) (n % 2 ^ 56) site time

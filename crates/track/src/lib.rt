@@ -29,7 +29,8 @@ ghost use Rattle.layouts.specs.Layouts.{airborneOf};
 ghost use Rattle.layouts.specs.Coarse.{coarseOf};
 ghost use Prim.Native.Nat.{_-_, _<_};
 ghost use lib.ListN.{getD, set};
-ghost use Rattle.track.specs.Track.{formatOf, placedOr, wayOf, airborneAloft, coarseAloft, savedTrack, airborneStep, coarseTrack, surfaceTrack, groupTrack, stepMe, stepped, newTrack, noSaved};
+ghost use Rattle.track.specs.Track.{formatOf, placedOr, savedTrack, airborneStep, coarseTrack, surfaceTrack, groupTrack, stepMe, stepped, newTrack, noSaved};
+ghost use Rattle.track.specs.Code.{wayOf, airborneAloft, coarseAloft};
 ghost use Rattle.whereabouts.specs.Located.{sizeOf};
 
 // What was last heard of each group: of four the ME that gave it, 0 where none did; of two the code of 12 bits, 0 where it is unknown. Of the latest position message its TYPE, 0 where none was heard,

@@ -1,5 +1,5 @@
 -- A track as 72 numbers: 30 as it is kept, 36 that people are shown, and 6 of its integrity.
-use Prim.Native.Nat.{ℕ}
+use Prim.Native.Nat.{ℕ, _+_}
 use mathlib.Core.List.{List, [], _∷_, _++_}
 use lib.ListN.{getD}
 use Rattle.keys.specs.Keys.{kindIn}
@@ -12,6 +12,10 @@ use Rattle.track.specs.Track.{noSaved}
 use Rattle.track_rows.specs.Standard.{standardRow}
 use Rattle.track_rows.specs.Shown.{shown}
 use Rattle.entries.specs.Means.{bit, altitudeReading, stepReading}
+
+-- how many entries it has
+abbrev pub trackSize : ℕ
+trackSize = 30 + 36 + 6
 
 -- 1, as it is held; when last heard; the ME that gave the identification, the velocity, the surface fields and the status; the codes of pressure altitude and GNSS height;
 -- TYPE of the latest position message and, of an airborne one, bit 8 of ME;

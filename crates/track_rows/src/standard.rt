@@ -1,4 +1,5 @@
 // The integrity of a track: the version of the standard that its messages are of, three supplements, and what the TYPE of its latest position message says.
+use crate::STANDARD;
 use entries::Reading;
 use entries::bit;
 use entries::only;
@@ -47,7 +48,7 @@ fn integrity_reading(a: Integrity) -> Reading
 }
 
 // Of a track of a kind.
-pub(crate) fn standard_values(kind: Kind, t: Track) -> [u64; 6]
+pub(crate) fn standard_values(kind: Kind, t: Track) -> [u64; STANDARD]
     ensures { λ r. ⌜ r ≡ standardRow kind t ⌝ }
 {
     let g = t.groups;

@@ -1,4 +1,6 @@
 // A track as 72 numbers: 30 as it is kept, 36 that people are shown, and 6 of its integrity.
+use crate::KEPT;
+use crate::TRACK;
 use crate::shown::shown_values;
 use crate::standard::standard_values;
 use entries::altitude_reading;
@@ -10,7 +12,7 @@ ghost use mathlib.Core.Path.{_≡_};
 ghost use Rattle.track_rows.specs.Tracks.{keptRow, trackRow};
 
 // As it is kept.
-fn kept_values(t: Track) -> [u64; 30]
+fn kept_values(t: Track) -> [u64; KEPT]
     ensures { λ r. ⌜ r ≡ keptRow t ⌝ }
 {
     let both = t.saved;
@@ -59,7 +61,7 @@ fn kept_values(t: Track) -> [u64; 30]
 }
 
 // A track as 72 numbers, of a key.
-pub fn track_values(t: Track, key: u32) -> [u64; 72]
+pub fn track_values(t: Track, key: u32) -> [u64; TRACK]
     ensures { λ r. ⌜ r ≡ trackRow key t ⌝ }
 {
     let kept = kept_values(t);

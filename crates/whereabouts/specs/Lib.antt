@@ -1,2 +1,3 @@
 pub mod Located
 pub mod Said
+pub mod Code

@@ -4,7 +4,6 @@ use mathlib.Core.Bool.{Bool, true, false, cond, not, _&&_}
 use lib.Dec.{leb, eqb}
 use lib.IntN.{pos}
 use Rattle.refusals.specs.declared.Refusal.{Refusal}
-use Rattle.refusals.specs.declared.Refusal.the-variants.{Zones}
 use Rattle.refusals.specs.Numbers.{numberOf}
 use Rattle.positions.specs.declared.Counts.{Counts}
 use Rattle.positions.specs.declared.Spot.{Spot}
@@ -90,10 +89,6 @@ airbornePosition p partner size counts format time =
     cond (isPartner partner size time)
     (afterPair (pairedWith (partner .counts) size counts format) p size counts format time)
     (readSingly p size counts format time)
-
--- the same in the code's order: what is found by the partner, and 10 where there is none
-abbrev pub triedWith : Saved → Size → Counts → Format → ℕ → Found
-triedWith partner size counts format time = cond (isPartner partner size time) (pairedWith (partner .counts) size counts format) (Refused Zones)
 
 -- a surface message, which is never coarse, is read singly against the track's position within 120,000, else the site, else not at all; on 9 the position stays
 unfoldable pub surfacePosition : Position → Site → Counts → Format → ℕ → Placed

@@ -8,7 +8,8 @@ use positions::Turn;
 use refusals::Refusal;
 ghost use mathlib.Core.Path.{_≡_};
 ghost use Rattle.positions.specs.Positions.{poleToPole};
-ghost use Rattle.whereabouts.specs.Located.{noPosition, noSite, isWithin, isFresh, foundAt, passedOn, settled, readNear, readSingly, afterPair, pairedWith, sameSize, isPartner, triedWith, airbornePosition, surfacePosition};
+ghost use Rattle.whereabouts.specs.Located.{noPosition, noSite, isWithin, isFresh, foundAt, passedOn, settled, readNear, readSingly, afterPair, pairedWith, sameSize, isPartner, airbornePosition, surfacePosition};
+ghost use Rattle.whereabouts.specs.Code.{triedWith};
 
 // An encoded position, airborne, with its time; whether its counts are coarse.
 pub struct Saved {

@@ -1,7 +1,7 @@
 -- `compare::key_above` meets its contract: by the answer.
 -- Assumes nothing.
 use mathlib.Core.Path.{sym, ap, _∙_}
-use Rattle.report.specs.Walked.{keyOrLimit}
+use Rattle.report.specs.Code.{keyOrLimit}
 use borrow.Author.Needs.{needs}
 use Rattle.compare.proofs.key_above.Statement.{statement}
 use Rattle.compare.proofs.key_above.Tie as tie

@@ -17,7 +17,7 @@ use Rattle.form.specs.Scan.{linesFrom, LineTo}
 use Rattle.form.proofs.Walking.{no-line, some-line}
 use Rattle.agree.specs.Near.{agreesOf}
 use Rattle.compare.specs.Compared.{compared}
-use Rattle.compare.specs.Walk.{rowsLeft}
+use Rattle.compare.specs.Code.{rowsLeft}
 use Rattle.compare.proofs.Walking.{Next, next-key, first-key, left-end, left-row, both-end, missing, surplus, differs, goes-on}
 use borrow.Author.Needs.{needs}
 use Rattle.compare.proofs.rows_compared.Statement.{statement}

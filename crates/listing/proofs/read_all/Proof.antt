@@ -6,7 +6,7 @@ use native.Mathlib.Omega.{arith}
 use lib.ListN.{length, take, length-take}
 use Rattle.table.specs.Table.{after}
 use Rattle.feed.specs.declared.Fed.{Fed}
-use Rattle.listing.specs.Input.{WholeFed}
+use Rattle.listing.specs.Code.{WholeFed}
 use Rattle.listing.proofs.Reading.{set-up-empties, none-read, from-empty, so-far, refused-read, last-read, one-more, whole-read}
 use borrow.Author.Needs.{needs}
 use Rattle.listing.proofs.read_all.Statement.{statement}

@@ -9,7 +9,7 @@ use Rattle.messages.specs.declared.Accepted.the-variants as accept
 use Rattle.messages.specs.Accepted.{accepted, openedAs}
 use Rattle.track.specs.declared.Track.{Track}
 use Rattle.replay.specs.Alone.{ownIn, toldOf}
-use Rattle.replay.specs.Replay.{kept}
+use Rattle.replay.specs.Code.{kept}
 use Rattle.replay.proofs.Ways.{with-track, not-own, aged-by, hears-late, hears-none, hears-frame, refused-none}
 use borrow.Author.Needs.{needs}
 use Rattle.replay.proofs.hear.Statement.{statement}

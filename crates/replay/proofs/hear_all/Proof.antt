@@ -4,7 +4,8 @@ use Prim.Native.Nat.{_-_, _/_, _≤_}
 use mathlib.Core.Path.{_≡_, refl, ap, _∙_}
 use native.Mathlib.Omega.{arith}
 use lib.ListN.{length}
-use Rattle.replay.specs.Replay.{unheard, ownAt, kept}
+use Rattle.replay.specs.Replay.{unheard, ownAt}
+use Rattle.replay.specs.Code.{kept}
 use Rattle.replay.proofs.Ways.{records-on}
 use borrow.Author.Needs.{needs}
 use Rattle.replay.proofs.hear_all.Statement.{statement}

@@ -2,7 +2,7 @@
 -- Assumes nothing.
 use native.Mathlib.Omega.{arith}
 use Rattle.fields.specs.Bytes.{Bytes}
-use Rattle.replay.specs.Replay.{kept}
+use Rattle.replay.specs.Code.{kept}
 use Rattle.replay.proofs.Ways.{record-heard}
 use borrow.Author.Needs.{needs}
 use Rattle.replay.proofs.hear_record.Statement.{statement}

@@ -6,7 +6,7 @@ use mathlib.Core.Bool.{Bool}
 use mathlib.Core.Logic.{⊎-elim}
 use mathlib.Core.Path.{_≡_, refl, _∙_}
 use borrow.Author.Needs.{needs}
-use Rattle.report.specs.Places.{hasRow}
+use Rattle.report.specs.Code.{hasRow}
 use Rattle.report.proofs.Counted.{one, sum, counted-yes, counted-no, counted-all}
 use Rattle.report.proofs.count.Statement.{statement}
 use Rattle.report.proofs.count.Tie as tie

@@ -30,8 +30,8 @@ use Rattle.slice_places.proofs.turned_away as turned-away
 use Rattle.slice_places.proofs.turned_away.Symbol as turned-away-def
 use Rattle.slice_places.proofs.turned_away.Met as turned-away-thm
 use Rattle.slice_table.specs.declared.Found.{Found}
-use Rattle.slice_table.specs.Tracks.{after, delivered}
-use Rattle.slice_table.specs.Scan.{scanned, chosen}
+use Rattle.slice_table.specs.Tracks.{after}
+use Rattle.slice_table.specs.Code.{delivered, scanned, chosen}
 use Rattle.slice_table.proofs.Ways.{passed, failed}
 use Rattle.slice_table.proofs.Delivered.{delivered-refused, delivered-at, delivered-none}
 use Rattle.slice_table.proofs.Found as F

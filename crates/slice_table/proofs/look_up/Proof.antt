@@ -33,7 +33,7 @@ use Rattle.slice_places.proofs.unheld.Symbol as unheld-def
 use Rattle.slice_places.proofs.unheld.Met as unheld-thm
 use Rattle.slice_table.specs.declared.Found.{Found}
 use Rattle.slice_table.specs.Tracks.{lookedUp}
-use Rattle.slice_table.specs.Scan.{scanned}
+use Rattle.slice_table.specs.Code.{scanned}
 use Rattle.slice_table.proofs.Ways.{passed, failed, looked-not, looked-held, looked-none}
 use Rattle.slice_table.proofs.Found as F
 use Rattle.slice_table.proofs.search.own as own

@@ -27,7 +27,8 @@ use Rattle.slice_places.proofs.seek.Met as seek-thm
 use Rattle.rules.proofs.key_or_end as key-or-end
 use Rattle.rules.proofs.key_or_end.Symbol as key-or-end-def
 use Rattle.rules.proofs.key_or_end.Met as key-or-end-thm
-use Rattle.slice_table.specs.Tracks.{smallest, nextAbove}
+use Rattle.slice_table.specs.Tracks.{nextAbove}
+use Rattle.slice_table.specs.Code.{smallest}
 use Rattle.slice_table.proofs.Ways.{passed, failed, next-not, next-is}
 use Rattle.slice_table.proofs.smallest_above as least
 use Rattle.slice_table.proofs.smallest_above.Symbol as least-def

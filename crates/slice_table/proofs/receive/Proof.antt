@@ -11,7 +11,8 @@ use Rattle.slice_places.proofs.arrivals.Received as Y
 use Rattle.slice_places.proofs.judge as judge
 use Rattle.slice_places.proofs.judge.Symbol as judge-def
 use Rattle.slice_places.proofs.judge.Met as judge-thm
-use Rattle.slice_table.specs.Tracks.{after, delivered, received}
+use Rattle.slice_table.specs.Tracks.{after, received}
+use Rattle.slice_table.specs.Code.{delivered}
 use Rattle.slice_table.proofs.Delivered.{received-is}
 use Rattle.slice_table.proofs.deliver as deliver
 use Rattle.slice_table.proofs.deliver.Symbol as deliver-def

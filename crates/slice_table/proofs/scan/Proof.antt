@@ -7,7 +7,7 @@ use Rattle.slice_places.specs.Ranges.{noPlace}
 use Rattle.slice_places.proofs.Place as T
 use Rattle.slice_places.proofs.Sought as S
 use Rattle.slice_table.specs.declared.Found.{Found}
-use Rattle.slice_table.specs.Scan.{noneFound, visited, scanned}
+use Rattle.slice_table.specs.Code.{noneFound, visited, scanned}
 use Rattle.slice_table.proofs.Scanned.{scanned-none, scanned-more}
 use Rattle.slice_table.proofs.Found as F
 use Rattle.slice_table.proofs.search.none_found as none-found

@@ -10,7 +10,7 @@ use Rattle.slice_places.proofs.Sought as S
 use Rattle.slice_places.proofs.better_of as better-of
 use Rattle.slice_places.proofs.better_of.Symbol as better-of-def
 use Rattle.slice_places.proofs.better_of.Met as better-of-thm
-use Rattle.slice_table.specs.Tracks.{smallest}
+use Rattle.slice_table.specs.Code.{smallest}
 use Rattle.slice_table.proofs.smallest_above.Key.{name as #above}
 use Rattle.slice_table.proofs.smallest_above as above
 use Rattle.slice_table.proofs.smallest_above.Statement as stated

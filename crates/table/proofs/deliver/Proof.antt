@@ -2,8 +2,8 @@
 -- Assumes nothing.
 use mathlib.Core.Path.{ap, _∙_}
 use mathlib.Core.Bool.{_||_}
-use Rattle.messages.specs.Accepted.{frameCoarse}
-use Rattle.messages.proofs.Acceptance.{messageOf, Opens, frame-opens}
+use Rattle.messages.specs.Accepted.{frameCoarse, messageOf, Opens}
+use Rattle.messages.proofs.Acceptance.{frame-opens}
 use Rattle.messages.proofs.Keys.{frame-key}
 use Rattle.messages.proofs.Starting.{frame-starts}
 use Rattle.table.specs.Heard.{heard}

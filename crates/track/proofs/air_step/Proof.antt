@@ -11,7 +11,8 @@ use Rattle.track.specs.declared.Groups.{Groups}
 use Rattle.track.specs.declared.Track.{Track}
 use Rattle.track.specs.declared.Aloft.{Aloft}
 use Rattle.track.specs.Groups.{reported}
-use Rattle.track.specs.Track.{groupTrack, airborneAloft, coarseAloft, savedTrack, airborneStep, coarseTrack}
+use Rattle.track.specs.Track.{groupTrack, savedTrack, airborneStep, coarseTrack}
+use Rattle.track.specs.Code.{airborneAloft, coarseAloft}
 use borrow.Author.Needs.{needs}
 use Rattle.track.proofs.air_step.Statement.{statement}
 use Rattle.track.proofs.air_step.Tie as tie

@@ -7,7 +7,7 @@ use Rattle.layouts.specs.declared.coarse.Coarse.{Coarse}
 use Rattle.layouts.specs.Layouts.{airborneOf}
 use Rattle.layouts.specs.Coarse.{coarseOf}
 use Rattle.track.specs.declared.Aloft.{Aloft}
-use Rattle.track.specs.Track.{airborneAloft, coarseAloft}
+use Rattle.track.specs.Code.{airborneAloft, coarseAloft}
 use borrow.Author.Needs.{needs}
 use Rattle.track.proofs.aloft_in.Statement.{statement}
 use Rattle.track.proofs.aloft_in.Tie as tie

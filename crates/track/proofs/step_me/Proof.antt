@@ -18,7 +18,8 @@ use Rattle.fields.proofs.Bools.{by-test}
 use Rattle.whereabouts.specs.declared.Site.{Site}
 use Rattle.track.specs.declared.Groups.{Groups}
 use Rattle.track.specs.declared.Track.{Track}
-use Rattle.track.specs.Track.{groupTrack, surfaceTrack, airborneStep, coarseTrack, wayOf, stepTaken}
+use Rattle.track.specs.Track.{groupTrack, surfaceTrack, airborneStep, coarseTrack, stepTaken}
+use Rattle.track.specs.Code.{wayOf}
 use borrow.Author.Needs.{needs}
 use Rattle.track.proofs.step_me.Statement.{statement}
 use Rattle.track.proofs.step_me.Tie as tie

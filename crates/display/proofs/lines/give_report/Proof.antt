@@ -2,7 +2,7 @@
 -- Assumes nothing.
 use mathlib.Core.Path.{refl}
 use Rattle.report.specs.declared.Printed.{Printed}
-use Rattle.display.specs.Lines.{printedSaid}
+use Rattle.display.specs.Code.{printedSaid}
 use Rattle.entries.proofs.Ways.{given-as, given-number}
 use borrow.Author.Needs.{needs}
 use Rattle.display.proofs.lines.give_report.Statement.{statement}

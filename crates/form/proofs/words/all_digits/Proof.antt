@@ -5,7 +5,8 @@ use mathlib.Core.Path.{_≡_, refl, sym, _∙_}
 use native.Mathlib.Omega.{arith}
 use borrow.Author.Tests.{not-true, not-false}
 use lib.ListN.{length, drop}
-use Rattle.form.specs.Form.{all, digitOf}
+use Rattle.form.specs.Form.{all}
+use Rattle.form.specs.Code.{digitOf}
 use Rattle.form.proofs.Loops.{all-stops, all-on, all-ends}
 use borrow.Author.Needs.{needs}
 use Rattle.form.proofs.words.all_digits.Statement.{statement}

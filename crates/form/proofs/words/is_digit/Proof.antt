@@ -2,7 +2,7 @@
 -- Assumes nothing.
 use mathlib.Core.Path.{sym, ap}
 use mathlib.Core.Bool.{Bool}
-use Rattle.form.specs.Form.{digitOf}
+use Rattle.form.specs.Code.{digitOf}
 use Rattle.form.proofs.words.is_digit.Statement.{statement}
 use Rattle.form.proofs.words.is_digit.Tie as tie
 

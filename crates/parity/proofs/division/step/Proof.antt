@@ -8,7 +8,7 @@ use lib.ListN.{getD}
 use lib.Bits.{bitXor, xor-lt}
 use borrow.Author.Needs.{needs}
 use Rattle.parity.specs.Division.{stepped}
-use Rattle.parity.specs.Lookup.{table}
+use Rattle.parity.specs.Code.{table}
 use Rattle.parity.proofs.Entries.{step-is}
 use Rattle.parity.proofs.division.step.Statement.{statement}
 use Rattle.parity.proofs.division.step.Tie as tie

@@ -1,7 +1,8 @@
 -- `place::write::store` meets its contract: six stores in a row.
 -- Assumes nothing.
 use mathlib.Core.Path.{ap}
-use Rattle.memory.specs.Offsets.{identificationAt, marksAt, latitudeAt, evenAt, messagesSize, spotSize, savedSize}
+use Rattle.memory.specs.Offsets.{identificationAt, marksAt, latitudeAt, evenAt, savedSize}
+use Rattle.memory.specs.Code.{messagesSize, spotSize}
 use Rattle.memory.specs.Bytes.{lowBytes}
 use Rattle.place.specs.Place.{bodyOf}
 use Rattle.memory.proofs.Numbers.{low-length}

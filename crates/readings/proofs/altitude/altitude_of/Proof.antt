@@ -8,7 +8,8 @@ use lib.IntN.{ℤ}
 use mir.Facts.{toZ-ofZ}
 use borrow.Author.Needs.{needs}
 use Rattle.readings.specs.declared.altitude.Altitude.the-variants.{Feet}
-use Rattle.readings.specs.Altitude.{altitudeOf, byHundreds, eleven}
+use Rattle.readings.specs.Altitude.{altitudeOf, eleven}
+use Rattle.readings.specs.Code.{byHundreds}
 use Rattle.readings.proofs.BelowZero.{less-fits}
 use Rattle.readings.proofs.altitude.altitude_of.Statement.{statement}
 use Rattle.readings.proofs.altitude.altitude_of.Tie as tie

@@ -7,7 +7,7 @@ use lib.IntN.{ℤ, pos, _-ℤ_}
 use mir.Facts.{toZ-ofZ}
 use borrow.Author.Needs.{needs}
 use Rattle.readings.specs.declared.altitude.Altitude.the-variants.{Feet}
-use Rattle.readings.specs.Altitude.{byHundreds}
+use Rattle.readings.specs.Code.{byHundreds}
 use Rattle.readings.proofs.BelowZero.{less-fits}
 use Rattle.readings.proofs.altitude.by_hundreds.Statement.{statement}
 use Rattle.readings.proofs.altitude.by_hundreds.Tie as tie

@@ -1,6 +1,6 @@
 -- `slice_table::search::visit` meets its contract: each of the two numbers goes further by its own test.
 -- Assumes nothing.
-use Rattle.slice_table.specs.Scan.{visited}
+use Rattle.slice_table.specs.Code.{visited}
 use borrow.Author.Needs.{needs}
 use Rattle.slice_table.proofs.search.visit.Statement.{statement}
 use Rattle.slice_table.proofs.search.visit.Tie as tie

@@ -2,7 +2,7 @@
 -- Assumes nothing.
 use Prim.Native.Nat.{_-_, _≤_}
 use native.Mathlib.Omega.{arith}
-use Rattle.table_bytes.specs.Scan.{NoneBelow}
+use Rattle.table_bytes.specs.Code.{NoneBelow}
 use Rattle.table_bytes.proofs.Scanned.{skip-more}
 use borrow.Author.Needs.{needs}
 use Rattle.table_bytes.proofs.scan.skip.Statement.{statement}

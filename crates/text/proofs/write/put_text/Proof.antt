@@ -8,7 +8,7 @@ use native.Mathlib.Numerals.{add-one}
 use borrow.Author.Needs.{needs}
 use lib.ListN.{length, take, getD}
 use lib.Seq.{take-suc, take-all}
-use Rattle.text.specs.Wrote.{Wrote}
+use Rattle.text.specs.Code.{Wrote}
 use Rattle.text.proofs.Buffer.{wrote-none, wrote-then, wrote-as}
 use Rattle.text.proofs.write.put_text.Statement.{statement}
 use Rattle.text.proofs.write.put_text.Tie as tie

@@ -1,4 +1,4 @@
--- How the code walks our rows: from a key on.
+-- What private functions promise to each other: our rows from a key on. No public contract cites this file.
 use Prim.Native.Nat.{ℕ, zero, suc, _-_}
 use mathlib.Core.Bool.{true}
 use mathlib.Core.List.{List, [], _++_}

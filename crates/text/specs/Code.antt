@@ -1,4 +1,4 @@
--- Text in a buffer.
+-- What private functions promise to each other: text in a buffer. No public contract cites this file.
 use Prim.Native.Nat.{ℕ, _+_}
 use mathlib.Core.Path.{_≡_}
 use mathlib.Core.List.{List}
