@@ -1,7 +1,7 @@
 /*
  * dump1090-mutability's side of the bench: dump1090 MODE CORPUS WARM COUNT. bench/run builds it with that decoder's own
- * sources, which bench/fetch-peer fetches, and counts its instructions. The modes empty, decode, receive and positions
- * are those of bench/measure.c. Its listing is its JSON of all aircraft, made and thrown away; shown prints it, for
+ * sources, which bench/fetch-peer fetches, and counts its instructions. The modes empty, decode, receive, damaged and
+ * positions are those of bench/measure.c. Its listing is its JSON of all aircraft, made and thrown away; shown prints it, for
  * bench/run to look at. tracks prints the same of each aircraft with its doubles as they are, for bench/check-peer.
  *
  * The decoder is set up as its main function does for `--lat --lon --quiet --no-fix`: the site is known, nothing is
@@ -34,6 +34,11 @@ static uint32_t receive(const struct record *record) {
         useModesMessage(&message);
     }
     return answer;
+}
+
+/* A damaged message is refused when it is decoded, and goes no further. */
+static uint32_t damaged(const struct record *record) {
+    return receive(record) == 0;
 }
 
 static uint32_t list(FILE *out) {
@@ -103,8 +108,9 @@ static void set_up(void) {
 
 int main(int count, char **arguments) {
     static const struct mode modes[] = {
-        {"empty", do_nothing}, {"decode", decode}, {"receive", receive}, {"positions", receive},
-        {"listing", listing},  {"shown", shown},   {"tracks", receive},   {NULL, NULL}};
+        {"empty", do_nothing},  {"decode", decode},   {"receive", receive}, {"damaged", damaged},
+        {"positions", receive}, {"listing", listing}, {"shown", shown},     {"tracks", receive},
+        {NULL, NULL}};
     if (count != 5) {
         fprintf(stderr, "dump1090 MODE CORPUS WARM COUNT\n");
         return 2;

@@ -1,14 +1,18 @@
 /*
  * The loop of bench/harness.h.
  */
+#define _POSIX_C_SOURCE 199309L /* for clock_gettime */
+
 #include "harness.h"
 
 #include <stdio.h>
 #include <stdlib.h>
 #include <string.h>
+#include <time.h>
 
 #define MOST 16384 /* records in a corpus */
 #define TIME 8     /* bytes of a time, high byte first */
+#define TIMED "time-"
 
 static struct record records[MOST];
 
@@ -58,16 +62,28 @@ static void act_on(size_t from, size_t to, action act, const char *name) {
     }
 }
 
+static long long nanoseconds(void) {
+    struct timespec at;
+    clock_gettime(CLOCK_MONOTONIC, &at);
+    return at.tv_sec * 1000000000LL + at.tv_nsec;
+}
+
 void run_bench(const struct mode *modes, const char *name, const char *corpus, action warm_up, const char *warm,
                const char *count) {
-    action act = mode_of(modes, name);
+    int timed = strncmp(name, TIMED, strlen(TIMED)) == 0;
+    action act = mode_of(modes, timed ? name + strlen(TIMED) : name);
+    long long start;
     size_t first = strtoul(warm, NULL, 10);
     size_t end = first + strtoul(count, NULL, 10);
     if (read_corpus(corpus) < end) {
         fail("has too few records", corpus);
     }
     act_on(0, first, warm_up, "warm-up");
+    start = timed ? nanoseconds() : 0;
     act_on(first, end, act, name);
+    if (timed) {
+        printf("%lld\n", nanoseconds() - start);
+    }
 }
 
 uint32_t do_nothing(const struct record *record) {

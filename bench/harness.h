@@ -28,7 +28,8 @@ struct mode {
 /*
  * Reads the corpus, acts on its first `warm` records by `warm_up` and on the `count` records after them by the mode of
  * this name. Whatever the two numbers are, the whole corpus is read. Ends the program with status 1 if there is no such
- * mode, if the corpus is too short, or if an action did not answer 0.
+ * mode, if the corpus is too short, or if an action did not answer 0. With "time-" before the mode's name it prints how
+ * many nanoseconds the actions on those `count` records took.
  */
 void run_bench(const struct mode *modes, const char *name, const char *corpus, action warm_up, const char *warm,
                const char *count);

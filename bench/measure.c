@@ -5,6 +5,7 @@
  *   empty      nothing: the loop itself
  *   decode     each is decoded
  *   receive    each is received
+ *   damaged    each is received, and must be refused since its parity is wrong
  *   flood      each is received, and must be refused since every place is held
  *   listing    for each the whole table is listed, which must be full
  *   positioned the same, where not all tracks are asked for; each must have a position
@@ -32,6 +33,10 @@ static uint32_t decode(const struct record *record) {
 
 static uint32_t receive(const struct record *record) {
     return addercoil_receive(table, length, record->message, MESSAGE, record->time);
+}
+
+static uint32_t damaged(const struct record *record) {
+    return receive(record) != ADDERCOIL_REFUSED_PARITY;
 }
 
 static uint32_t flood(const struct record *record) {
@@ -90,8 +95,9 @@ static void print_positions(void) {
 
 int main(int count, char **arguments) {
     static const struct mode modes[] = {
-        {"empty", do_nothing}, {"decode", decode},         {"receive", receive},         {"flood", flood},
-        {"listing", listing},  {"positioned", positioned}, {"positions", note_position}, {NULL, NULL}};
+        {"empty", do_nothing}, {"decode", decode},   {"receive", receive},       {"damaged", damaged},
+        {"flood", flood},      {"listing", listing}, {"positioned", positioned}, {"positions", note_position},
+        {NULL, NULL}};
     if (count != 6) {
         fprintf(stderr, "measure MODE CORPUS WARM COUNT PLACES\n");
         return 2;

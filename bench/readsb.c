@@ -1,7 +1,8 @@
 /*
  * readsb's side of the bench: readsb MODE CORPUS WARM COUNT. bench/run builds it with that decoder's own sources, which
- * bench/fetch-peer fetches, and counts its instructions. The modes empty, decode, receive and positions are those of
- * bench/measure.c.
+ * bench/fetch-peer fetches, and counts its instructions. The modes empty, decode, receive, damaged and positions
+ * are those of bench/measure.c. Its listing is its JSON of all aircraft, made and thrown away; shown prints it, for
+ * bench/run to look at.
  *
  * The decoder is set up as its main function does for `--lat --lon --quiet --no-fix`: the site is known, nothing is
  * printed, no bit is mended, there is no network, and no trace of where an aircraft was is kept.
@@ -20,6 +21,15 @@ void setExit(int status) {
     exit(1);
 }
 
+static int64_t now; /* the time of the message in hand */
+
+/* Its JSON asks for the time of day. The linker gives it this function for mstime, and so the message's time. */
+int64_t __wrap_mstime(void);
+
+int64_t __wrap_mstime(void) {
+    return now;
+}
+
 static struct modesMessage message;
 
 /* As its callers do, with a receiver's clock: a message without one is taken for another sort. */
@@ -33,10 +43,36 @@ static uint32_t decode(const struct record *record) {
 
 static uint32_t receive(const struct record *record) {
     uint32_t answer = decode(record);
+    now = (int64_t)record->time;
     if (answer == 0) {
         trackUpdateFromMessage(&message);
     }
     return answer;
+}
+
+/* A damaged message is refused when it is decoded, and goes no further. */
+static uint32_t damaged(const struct record *record) {
+    return receive(record) == 0;
+}
+
+static uint32_t list(FILE *out) {
+    struct char_buffer text = generateAircraftJson(0);
+    uint32_t empty = text.len == 0;
+    if (out != NULL) {
+        fwrite(text.buffer, 1, text.len, out);
+    }
+    free(text.buffer);
+    return empty;
+}
+
+static uint32_t listing(const struct record *record) {
+    (void)record;
+    return list(NULL);
+}
+
+static uint32_t shown(const struct record *record) {
+    (void)record;
+    return list(stdout);
 }
 
 /*
@@ -124,7 +160,8 @@ static void set_up(void) {
 
 int main(int count, char **arguments) {
     static const struct mode modes[] = {
-        {"empty", do_nothing}, {"decode", decode}, {"receive", receive}, {"positions", receive}, {NULL, NULL}};
+        {"empty", do_nothing},  {"decode", decode},   {"receive", receive}, {"damaged", damaged},
+        {"positions", receive}, {"listing", listing}, {"shown", shown},     {NULL, NULL}};
     if (count != 5) {
         fprintf(stderr, "readsb MODE CORPUS WARM COUNT\n");
         return 2;
