@@ -31,7 +31,8 @@
  *     32 times AA, plus 16 times the flag of the address, plus the number of the station (ADDERCOIL_KEY_COARSE): an
  *     aircraft that two stations tell of is two keys. Flag 0 is an ICAO address, 1 a Mode A code with a track number.
  *
- * Link with libaddercoil.a, which `tools/staticlib` writes to target/staticlib/PROCESSOR/, for x86_64 or for aarch64.
+ * Link with libaddercoil.a, which `tools/staticlib TARGET` writes to target/staticlib/TARGET/. A target is one of
+ * x86_64, aarch64, armv6 and riscv64, which have Linux; thumbv7m and thumbv6m, boards without a system; and wasm32.
  */
 #ifndef ADDERCOIL_H
 #define ADDERCOIL_H
@@ -39,8 +40,14 @@
 #include <stddef.h>
 #include <stdint.h>
 
-#if SIZE_MAX != 0xFFFFFFFFFFFFFFFFu
-#error "Addercoil needs a 64-bit system: its archives take lengths of 64 bits"
+/* What no archive is for, or was tried on. */
+#if !defined(__x86_64__) && !defined(__aarch64__) && !defined(__arm__) && !defined(__wasm32__) &&                      \
+    !(defined(__riscv) && __riscv_xlen == 64)
+#error "Addercoil has no archive for this processor"
+#elif !defined(__BYTE_ORDER__) || __BYTE_ORDER__ != __ORDER_LITTLE_ENDIAN__
+#error "Addercoil has no archive for a processor that has the high byte first"
+#elif !defined(__arm__) && !defined(__wasm32__) && __SIZEOF_SIZE_T__ != 8
+#error "Addercoil has no archive for pointers of 32 bits on a processor of 64"
 #endif
 
 #ifdef __cplusplus
@@ -48,11 +55,20 @@ extern "C" {
 #endif
 
 /*
- * 10,000 times the major number, 100 times the minor one, and the patch: this is 0.7.0. addercoil_version() says that
+ * A length or a count: of 64 bits on every system, so that none is cut on its way. Callers hand over a size_t as it is.
+ */
+#if __SIZEOF_SIZE_T__ == 8
+typedef size_t addercoil_size;
+#else
+typedef uint64_t addercoil_size;
+#endif
+
+/*
+ * 10,000 times the major number, 100 times the minor one, and the patch: this is 0.8.0. addercoil_version() says that
  * of the archive; where the two differ, the program was built with another header. The bytes of a table may change with
  * it.
  */
-#define ADDERCOIL_VERSION 700
+#define ADDERCOIL_VERSION 800
 
 /* The version of the archive, as ADDERCOIL_VERSION has it. */
 uint32_t addercoil_version(void);
@@ -137,23 +153,23 @@ enum {
 /* ---- The table: tracks in bytes that the caller lends ---- */
 
 /* Bytes of a table of so many places, 1 to 1,024. As a function: addercoil_table_bytes. */
-#define ADDERCOIL_TABLE_BYTES(places) (16 + 86 * (size_t)(places))
+#define ADDERCOIL_TABLE_BYTES(places) (16 + 86 * (addercoil_size)(places))
 
 /* How many bytes a table of so many places has. 0 if it is not 1 to 1,024 places. */
-size_t addercoil_table_bytes(size_t places);
+addercoil_size addercoil_table_bytes(addercoil_size places);
 
 /*
  * Empties the table: no track, no site, clock 0. Bytes that never were a table may be handed over.
  * Or ADDERCOIL_REFUSED_PLACES, which leaves the table as it was.
  */
-uint32_t addercoil_set_up(uint8_t *table, size_t table_len);
+uint32_t addercoil_set_up(uint8_t *table, addercoil_size table_len);
 
 /*
  * The same, with the site of the receiver: surface positions are read against it where the aircraft has no position of
  * its own of the last 120,000 ms.
  * Or ADDERCOIL_REFUSED_PLACES, ADDERCOIL_REFUSED_FIELD for the latitude; each leaves the table as it was.
  */
-uint32_t addercoil_set_up_at(uint8_t *table, size_t table_len, int32_t latitude, uint32_t longitude);
+uint32_t addercoil_set_up_at(uint8_t *table, addercoil_size table_len, int32_t latitude, uint32_t longitude);
 
 /*
  * A message of 14 bytes received at a time: starts or updates its aircraft's track, and moves the clock to the time. A
@@ -165,7 +181,8 @@ uint32_t addercoil_set_up_at(uint8_t *table, size_t table_len, int32_t latitude,
  * a message that starts no track ADDERCOIL_REFUSED_NO_TRACK, which move the clock, so that tracks out of date go, and
  * leave the other tracks as they were.
  */
-uint32_t addercoil_receive(uint8_t *table, size_t table_len, const uint8_t *message, size_t message_len, uint64_t time);
+uint32_t addercoil_receive(uint8_t *table, addercoil_size table_len, const uint8_t *message, addercoil_size message_len,
+                           uint64_t time);
 
 /* The entries of the state of a clock of 32 bits. Both are 0 at first, and again after each set-up. */
 enum {
@@ -186,11 +203,11 @@ enum {
  * or ADDERCOIL_REFUSED_PARITY, ADDERCOIL_REFUSED_FORMAT, ADDERCOIL_REFUSED_TYPE, and last ADDERCOIL_REFUSED_FULL or
  * ADDERCOIL_REFUSED_NO_TRACK, as above, whose stamp is accepted: noise counts as heard.
  */
-uint32_t addercoil_receive_stamp(uint8_t *table, size_t table_len, const uint8_t *message, size_t message_len,
-                                 uint32_t stamp, uint64_t *state, size_t state_len);
+uint32_t addercoil_receive_stamp(uint8_t *table, addercoil_size table_len, const uint8_t *message,
+                                 addercoil_size message_len, uint32_t stamp, uint64_t *state, addercoil_size state_len);
 
 /* The clock: the latest time, into out of 1 entry. Or ADDERCOIL_REFUSED_LENGTH, ADDERCOIL_REFUSED_PLACES. */
-uint32_t addercoil_clock(const uint8_t *table, size_t table_len, uint64_t *out, size_t out_len);
+uint32_t addercoil_clock(const uint8_t *table, addercoil_size table_len, uint64_t *out, addercoil_size out_len);
 
 /* The entries of addercoil_site. */
 enum {
@@ -201,13 +218,14 @@ enum {
 };
 
 /* The site, into out of ADDERCOIL_SITE entries. Or ADDERCOIL_REFUSED_LENGTH, ADDERCOIL_REFUSED_PLACES. */
-uint32_t addercoil_site(const uint8_t *table, size_t table_len, uint64_t *out, size_t out_len);
+uint32_t addercoil_site(const uint8_t *table, addercoil_size table_len, uint64_t *out, addercoil_size out_len);
 
 /*
  * The smallest key that is held above the given one, or 0 if there is none, into out of 1 entry. From key 0 on, this
  * walks the table in the order of its keys. Or ADDERCOIL_REFUSED_LENGTH, ADDERCOIL_REFUSED_PLACES.
  */
-uint32_t addercoil_next(const uint8_t *table, size_t table_len, uint32_t key, uint64_t *out, size_t out_len);
+uint32_t addercoil_next(const uint8_t *table, addercoil_size table_len, uint32_t key, uint64_t *out,
+                        addercoil_size out_len);
 
 /*
  * The entries of addercoil_look_up. A reading is two entries: what it is (see ADDERCOIL_KNOWN below), and its value.
@@ -315,7 +333,8 @@ enum { ADDERCOIL_INTEGRITY_UNKNOWN = 0, ADDERCOIL_INTEGRITY_NUC = 1, ADDERCOIL_I
  * The track of a key, into out of ADDERCOIL_TRACK entries: all 0 if it is not held. Or ADDERCOIL_REFUSED_LENGTH,
  * ADDERCOIL_REFUSED_PLACES.
  */
-uint32_t addercoil_look_up(const uint8_t *table, size_t table_len, uint32_t key, uint64_t *out, size_t out_len);
+uint32_t addercoil_look_up(const uint8_t *table, addercoil_size table_len, uint32_t key, uint64_t *out,
+                           addercoil_size out_len);
 
 /* ---- A doubted track: worked out again from a log, without a table ---- */
 
@@ -333,16 +352,16 @@ uint32_t addercoil_look_up(const uint8_t *table, size_t table_len, uint32_t key,
  * Or ADDERCOIL_REFUSED_LENGTH, ADDERCOIL_REFUSED_LOG, ADDERCOIL_REFUSED_FIELD for a kind that is not 1 to 5 or an
  * address above 24 bits.
  */
-uint32_t addercoil_replay(const uint8_t *log, size_t log_len, uint32_t kind, uint32_t address, uint64_t *out,
-                          size_t out_len);
+uint32_t addercoil_replay(const uint8_t *log, addercoil_size log_len, uint32_t kind, uint32_t address, uint64_t *out,
+                          addercoil_size out_len);
 
 /*
  * The same after addercoil_set_up_at, with that site.
  * Or ADDERCOIL_REFUSED_LENGTH, ADDERCOIL_REFUSED_LOG, ADDERCOIL_REFUSED_FIELD for a kind that is not 1 to 5, an address
  * above 24 bits or the latitude.
  */
-uint32_t addercoil_replay_at(const uint8_t *log, size_t log_len, uint32_t kind, uint32_t address, int32_t latitude,
-                             uint32_t longitude, uint64_t *out, size_t out_len);
+uint32_t addercoil_replay_at(const uint8_t *log, addercoil_size log_len, uint32_t kind, uint32_t address,
+                             int32_t latitude, uint32_t longitude, uint64_t *out, addercoil_size out_len);
 
 /*
  * The same of kind C: the track of what one station tells of one address, with the flag of that address. It has no use
@@ -350,8 +369,8 @@ uint32_t addercoil_replay_at(const uint8_t *log, size_t log_len, uint32_t kind, 
  * Or ADDERCOIL_REFUSED_LENGTH, ADDERCOIL_REFUSED_LOG, ADDERCOIL_REFUSED_FIELD for an address above 24 bits, a flag
  * above 1 or a station above 15.
  */
-uint32_t addercoil_replay_coarse(const uint8_t *log, size_t log_len, uint32_t address, uint32_t flag, uint32_t station,
-                                 uint64_t *out, size_t out_len);
+uint32_t addercoil_replay_coarse(const uint8_t *log, addercoil_size log_len, uint32_t address, uint32_t flag,
+                                 uint32_t station, uint64_t *out, addercoil_size out_len);
 
 /*
  * ---- The listing: a header, then a line for each key ----
@@ -367,8 +386,8 @@ uint32_t addercoil_replay_coarse(const uint8_t *log, size_t log_len, uint32_t ad
  * bytes; T is how many lines the listing has below it, bad is the number B. Or ADDERCOIL_REFUSED_LENGTH,
  * ADDERCOIL_REFUSED_PLACES, ADDERCOIL_REFUSED_FIELD for all above 1.
  */
-uint32_t addercoil_header(const uint8_t *table, size_t table_len, uint64_t bad, uint32_t all, uint8_t *out,
-                          size_t out_len);
+uint32_t addercoil_header(const uint8_t *table, addercoil_size table_len, uint64_t bad, uint32_t all, uint8_t *out,
+                          addercoil_size out_len);
 
 /*
  * The line of a key, "I ABCDEF 1400 536870912 1073741824 10000 25" and a newline, then zeros, into out of
@@ -377,8 +396,8 @@ uint32_t addercoil_header(const uint8_t *table, size_t table_len, uint64_t bad, 
  * 536870912 1073741824 10000 25". All zeros, the empty string, if the key is not held or its track is not shown. Or
  * ADDERCOIL_REFUSED_LENGTH, ADDERCOIL_REFUSED_PLACES, ADDERCOIL_REFUSED_FIELD for all above 1.
  */
-uint32_t addercoil_line(const uint8_t *table, size_t table_len, uint32_t key, uint32_t all, uint8_t *out,
-                        size_t out_len);
+uint32_t addercoil_line(const uint8_t *table, addercoil_size table_len, uint32_t key, uint32_t all, uint8_t *out,
+                        addercoil_size out_len);
 
 /* Bytes of a block of a capture. */
 #define ADDERCOIL_BLOCK 512
@@ -392,8 +411,8 @@ uint32_t addercoil_line(const uint8_t *table, size_t table_len, uint32_t key, ui
  * ADDERCOIL_BLOCK bytes, counts one more (never above 2^64 - 1) and leaves the table as it was.
  * Or ADDERCOIL_REFUSED_LENGTH, ADDERCOIL_REFUSED_PLACES, which leave the table as it was.
  */
-uint32_t addercoil_feed_block(uint8_t *table, size_t table_len, const uint8_t *block, size_t block_len, uint64_t bad,
-                              uint64_t *out, size_t out_len);
+uint32_t addercoil_feed_block(uint8_t *table, addercoil_size table_len, const uint8_t *block, addercoil_size block_len,
+                              uint64_t bad, uint64_t *out, addercoil_size out_len);
 
 /*
  * Another decoder's listing of a capture, checked against ours: 0 for yes, else the number of the first line at fault,
@@ -408,8 +427,8 @@ uint32_t addercoil_feed_block(uint8_t *table, size_t table_len, const uint8_t *b
  * Or ADDERCOIL_REFUSED_LENGTH for out, ADDERCOIL_REFUSED_LOG for more than ADDERCOIL_RECORDS records in the good blocks
  * of the capture, ADDERCOIL_REFUSED_FORM. It takes less than 32 KB of the stack.
  */
-uint32_t addercoil_check(const uint8_t *capture, size_t capture_len, const uint8_t *listing, size_t listing_len,
-                         uint64_t *out, size_t out_len);
+uint32_t addercoil_check(const uint8_t *capture, addercoil_size capture_len, const uint8_t *listing,
+                         addercoil_size listing_len, uint64_t *out, addercoil_size out_len);
 
 /* ---- Positions ---- */
 
@@ -423,7 +442,7 @@ enum { ADDERCOIL_COUNT_LATITUDE, ADDERCOIL_COUNT_LONGITUDE, ADDERCOIL_COUNTS /* 
  * pole.
  */
 uint32_t addercoil_encode_position(int32_t latitude, uint32_t longitude, uint32_t surface, uint32_t odd, uint64_t *out,
-                                   size_t out_len);
+                                   addercoil_size out_len);
 
 /*
  * The spot of two airborne messages, an even and an odd one, into out of ADDERCOIL_SPOT entries: that of the later one,
@@ -431,7 +450,7 @@ uint32_t addercoil_encode_position(int32_t latitude, uint32_t longitude, uint32_
  * 131,071 or later_odd above 1, ADDERCOIL_REFUSED_LATITUDE, ADDERCOIL_REFUSED_ZONES.
  */
 uint32_t addercoil_pair(uint32_t even_latitude, uint32_t even_longitude, uint32_t odd_latitude, uint32_t odd_longitude,
-                        uint32_t later_odd, uint64_t *out, size_t out_len);
+                        uint32_t later_odd, uint64_t *out, addercoil_size out_len);
 
 /*
  * The spot of one message near a reference, latitude and longitude, into out of ADDERCOIL_SPOT entries. Or
@@ -439,18 +458,18 @@ uint32_t addercoil_pair(uint32_t even_latitude, uint32_t even_longitude, uint32_
  * beyond a pole, ADDERCOIL_REFUSED_LATITUDE.
  */
 uint32_t addercoil_single(int32_t latitude, uint32_t longitude, uint32_t count_latitude, uint32_t count_longitude,
-                          uint32_t surface, uint32_t odd, uint64_t *out, size_t out_len);
+                          uint32_t surface, uint32_t odd, uint64_t *out, addercoil_size out_len);
 
 /*
  * The same three of coarse messages, which come from the air alone and whose counts are of 12 bits: a count above 4,095
  * is refused as one above 131,071 is above. Coarse and fine counts make no pair.
  */
 uint32_t addercoil_encode_position_coarse(int32_t latitude, uint32_t longitude, uint32_t odd, uint64_t *out,
-                                          size_t out_len);
+                                          addercoil_size out_len);
 uint32_t addercoil_pair_coarse(uint32_t even_latitude, uint32_t even_longitude, uint32_t odd_latitude,
-                               uint32_t odd_longitude, uint32_t later_odd, uint64_t *out, size_t out_len);
+                               uint32_t odd_longitude, uint32_t later_odd, uint64_t *out, addercoil_size out_len);
 uint32_t addercoil_single_coarse(int32_t latitude, uint32_t longitude, uint32_t count_latitude,
-                                 uint32_t count_longitude, uint32_t odd, uint64_t *out, size_t out_len);
+                                 uint32_t count_longitude, uint32_t odd, uint64_t *out, addercoil_size out_len);
 
 /* The entries of a spot in degrees. */
 enum { ADDERCOIL_DEGREES_LATITUDE, ADDERCOIL_DEGREES_LONGITUDE, ADDERCOIL_DEGREES /* how many there are */ };
@@ -460,14 +479,14 @@ enum { ADDERCOIL_DEGREES_LATITUDE, ADDERCOIL_DEGREES_LONGITUDE, ADDERCOIL_DEGREE
  * nothing is rounded. Longitude is from -180, which is 2^31, up to below 180. Different spots have different doubles,
  * and zero is positive zero. Or ADDERCOIL_REFUSED_LENGTH, ADDERCOIL_REFUSED_FIELD for a latitude beyond a pole.
  */
-uint32_t addercoil_degrees(int32_t latitude, uint32_t longitude, double *out, size_t out_len);
+uint32_t addercoil_degrees(int32_t latitude, uint32_t longitude, double *out, addercoil_size out_len);
 
 /*
  * Back: the spot that two doubles exactly are, into out of ADDERCOIL_SPOT entries. Any other double is refused and not
  * rounded: 180.0, a latitude beyond a pole, as a rule what was typed in decimal, not-a-number, infinities, minus zero.
  * Or ADDERCOIL_REFUSED_LENGTH, ADDERCOIL_REFUSED_DEGREES.
  */
-uint32_t addercoil_from_degrees(double latitude, double longitude, uint64_t *out, size_t out_len);
+uint32_t addercoil_from_degrees(double latitude, double longitude, uint64_t *out, addercoil_size out_len);
 
 /* ---- Messages ---- */
 
@@ -647,7 +666,8 @@ enum {
  * What a message of ADDERCOIL_MESSAGE bytes says, into fields of ADDERCOIL_FIELDS entries. Or ADDERCOIL_REFUSED_LENGTH,
  * ADDERCOIL_REFUSED_PARITY, ADDERCOIL_REFUSED_FORMAT, ADDERCOIL_REFUSED_TYPE.
  */
-uint32_t addercoil_decode(const uint8_t *message, size_t message_len, uint64_t *fields, size_t fields_len);
+uint32_t addercoil_decode(const uint8_t *message, addercoil_size message_len, uint64_t *fields,
+                          addercoil_size fields_len);
 
 /*
  * What an ME says, as ADDERCOIL_TRACK_IDENTIFICATION, _VELOCITY, _SURFACE and _STATUS have it, into fields of
@@ -658,7 +678,7 @@ uint32_t addercoil_decode(const uint8_t *message, size_t message_len, uint64_t *
  * there, even if it is 0. Or ADDERCOIL_REFUSED_LENGTH, ADDERCOIL_REFUSED_FIELD for an ME of more than 56 bits or what is
  * no key, ADDERCOIL_REFUSED_TYPE, which kind C never earns.
  */
-uint32_t addercoil_me(uint64_t me, uint32_t key, uint64_t *fields, size_t fields_len);
+uint32_t addercoil_me(uint64_t me, uint32_t key, uint64_t *fields, addercoil_size fields_len);
 
 /*
  * The message that says the fields, its parity included, into message of ADDERCOIL_MESSAGE bytes. It reads the layout,
@@ -667,7 +687,8 @@ uint32_t addercoil_me(uint64_t me, uint32_t key, uint64_t *fields, size_t fields
  * addercoil_decode would refuse, or layout 7 without CF 3 of DF 18, or CF 3 with another layout; each leaves message as
  * it was.
  */
-uint32_t addercoil_encode(const uint64_t *fields, size_t fields_len, uint8_t *message, size_t message_len);
+uint32_t addercoil_encode(const uint64_t *fields, addercoil_size fields_len, uint8_t *message,
+                          addercoil_size message_len);
 
 #ifdef __cplusplus
 }

@@ -20,7 +20,7 @@
 /* The bytes that are lent for a table. */
 struct addercoil_table {
     uint8_t *bytes;
-    size_t length;
+    addercoil_size length;
 };
 
 /* A spot on the earth, the two counts that a message says of it, the spot in degrees, and a site. */
@@ -325,13 +325,14 @@ static inline uint32_t addercoil_easy_set_up_at(struct addercoil_table table, st
     return addercoil_set_up_at(table.bytes, table.length, site.latitude, site.longitude);
 }
 
-static inline uint32_t addercoil_easy_receive(struct addercoil_table table, const uint8_t *message, size_t length,
-                                              uint64_t time) {
+static inline uint32_t addercoil_easy_receive(struct addercoil_table table, const uint8_t *message,
+                                              addercoil_size length, uint64_t time) {
     return addercoil_receive(table.bytes, table.length, message, length, time);
 }
 
 static inline uint32_t addercoil_easy_receive_stamp(struct addercoil_table table, const uint8_t *message,
-                                                    size_t length, uint32_t stamp, struct addercoil_stamps *stamps) {
+                                                    addercoil_size length, uint32_t stamp,
+                                                    struct addercoil_stamps *stamps) {
     uint64_t state[ADDERCOIL_STAMPS];
     uint32_t number;
     state[ADDERCOIL_STAMP_STARTED] = stamps->started;
@@ -379,17 +380,17 @@ static inline uint32_t addercoil_easy_look_up(struct addercoil_table table, uint
 /* ---- A doubted track, of a key, from a log ---- */
 
 /* Of a key of kind C; of any other number the address is too wide, which is refused. */
-static inline uint32_t addercoil_easy_replay_coarse(const uint8_t *log, size_t length, uint32_t key,
+static inline uint32_t addercoil_easy_replay_coarse(const uint8_t *log, addercoil_size length, uint32_t key,
                                                     struct addercoil_track *track) {
     uint64_t row[ADDERCOIL_TRACK];
-    uint32_t address = ADDERCOIL_KEY_IS_COARSE(key) ? (key & 0x7FFFFFFFu) >> 5 : UINT32_MAX;
+    uint32_t address = ADDERCOIL_KEY_IS_COARSE(key) ? (key & 0x7FFFFFFFu) >> 5 : 0xFFFFFFFFu;
     uint32_t number = addercoil_replay_coarse(log, length, address, ADDERCOIL_KEY_FLAG(key), ADDERCOIL_KEY_STATION(key),
                                               row, ADDERCOIL_TRACK);
     return addercoil_easy_to_track(number, row, track);
 }
 
 /* Of a key of any kind. */
-static inline uint32_t addercoil_easy_replay(const uint8_t *log, size_t length, uint32_t key,
+static inline uint32_t addercoil_easy_replay(const uint8_t *log, addercoil_size length, uint32_t key,
                                              struct addercoil_track *track) {
     uint64_t row[ADDERCOIL_TRACK];
     uint32_t number;
@@ -401,7 +402,7 @@ static inline uint32_t addercoil_easy_replay(const uint8_t *log, size_t length, 
 }
 
 /* The same with a site. Kind C does not look at it, but a latitude beyond a pole is refused all the same. */
-static inline uint32_t addercoil_easy_replay_at(const uint8_t *log, size_t length, uint32_t key,
+static inline uint32_t addercoil_easy_replay_at(const uint8_t *log, addercoil_size length, uint32_t key,
                                                 struct addercoil_spot site, struct addercoil_track *track) {
     uint64_t row[ADDERCOIL_TRACK];
     uint32_t number;
@@ -425,14 +426,14 @@ static inline uint32_t addercoil_easy_line(struct addercoil_table table, uint32_
 }
 
 /* A block of a capture; *bad counts the bad ones. */
-static inline uint32_t addercoil_easy_feed_block(struct addercoil_table table, const uint8_t *block, size_t length,
-                                                 uint64_t *bad) {
+static inline uint32_t addercoil_easy_feed_block(struct addercoil_table table, const uint8_t *block,
+                                                 addercoil_size length, uint64_t *bad) {
     return addercoil_feed_block(table.bytes, table.length, block, length, *bad, bad, 1);
 }
 
 /* Another decoder's listing of a capture; *line is 0 for yes, else the first line at fault. */
-static inline uint32_t addercoil_easy_check(const uint8_t *capture, size_t capture_length, const char *listing,
-                                            size_t listing_length, uint64_t *line) {
+static inline uint32_t addercoil_easy_check(const uint8_t *capture, addercoil_size capture_length, const char *listing,
+                                            addercoil_size listing_length, uint64_t *line) {
     return addercoil_check(capture, capture_length, (const uint8_t *)listing, listing_length, line, 1);
 }
 
@@ -520,7 +521,8 @@ static inline uint32_t addercoil_easy_from_degrees(struct addercoil_degrees degr
 
 /* ---- Messages ---- */
 
-static inline uint32_t addercoil_easy_decode(const uint8_t *bytes, size_t length, struct addercoil_message *message) {
+static inline uint32_t addercoil_easy_decode(const uint8_t *bytes, addercoil_size length,
+                                             struct addercoil_message *message) {
     uint64_t fields[ADDERCOIL_FIELDS];
     uint32_t number = addercoil_decode(bytes, length, fields, ADDERCOIL_FIELDS);
     return addercoil_easy_to_message(number, fields, message);

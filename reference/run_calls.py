@@ -2,9 +2,11 @@
 
     python3 reference/run_calls.py
 
-tools/build-c must have built target/c/PROCESSOR/calls, and easy, which makes the same calls by the second header, with structs,
-and of which there is one in C++ too for x86-64. Among the arguments are wrong lengths, damaged messages, tables of random
-bytes, and tables whose values are just out of their ranges. The first difference is named, and the status is 1.
+tools/build-c must have built target/c/PROCESSOR/calls, and for Linux easy, which makes the same calls by the second header, with
+structs, and of which there is one in C++ too for x86-64. For wasm32 node calls the module. Two more run on older or smaller processors:
+calls-arm1176, and calls-microbit with the calls that fit. The calls and what the model answers are made once, for all targets. Among
+the arguments are wrong lengths, damaged messages, tables of random bytes, and tables whose values are just out of their ranges. The
+first difference is named, and the status is 1.
 """
 
 import sys
@@ -19,7 +21,8 @@ from captures import KINDS as LETTERS
 from embedding import AT, BYTES, FUNCTIONS, WORDS, WRITES, array_of, call_text, message_from, message_row, outcome_text, row
 from positions import AIRBORNE, COARSE, COUNTS, EVEN, ODD
 from positions import encode as counts_of
-from programs import C, ran
+from once import once
+from programs import C, built, ran
 from readings import UNKNOWN, altitude
 from refusals import Refused
 from replay import MOST_RECORDS as MOST_LOGGED
@@ -750,22 +753,36 @@ def answers_otherwise(program, asked):
     return f"{program}: status {done.returncode} {done.stderr.decode()}\n{found}" if done.returncode != 0 or found else None
 
 
-def main():
+def fits_microbit(call):
+    """Does a board with 16 KiB have room for a call? An array has 2,048 bytes at most, and a check has a table of its own on the stack."""
+    return not call.startswith("check ") and all(len(word) <= 2 * 2_048 for word in call.split())
+
+
+def tried():
+    """The calls, in which all is tried that must be."""
     asked = list(calls(Random(12)))
-    said = [(call, outcome) for call, outcome in asked if for_structs(call)]
-    programs = {"calls": asked, "easy": said} | ({"easy-cpp": said} if C.endswith("x86_64") else {})
+    untried = [numbers_missing(asked), kinds_missing(asked), lost_missing(asked), traffic_missing(asked)]
+    untried += [steps_missing(asked), shown_missing(asked), me_missing(asked), full_missing(asked), doubled_missing(asked)]
+    untried += [replays_missing(asked), status_missing(asked), coarse_missing(asked)]
+    if header_faults() or any(untried):
+        sys.exit(f"the header has other numbers than the paper, or these were never tried: {header_faults()} {untried}")
+    return asked
+
+
+def main():
+    asked = once("calls", tried)
+    with_structs = {"easy", "easy-cpp"} & built()
+    said = [(call, outcome) for call, outcome in asked if for_structs(call)] if with_structs else []
+    programs = {"calls": asked} | dict.fromkeys(sorted(with_structs), said)
+    programs |= {program: asked for program in built() if program == "calls-arm1176"}
+    programs |= {program: [row for row in asked if fits_microbit(row[0])] for program in built() if program == "calls-microbit"}
     for program, lines in programs.items():
         fault = answers_otherwise(program, lines)
         if fault:
             print(fault)
             return 1
-    untried = [header_faults(), numbers_missing(asked), kinds_missing(asked), lost_missing(asked), traffic_missing(asked)]
-    untried += [steps_missing(asked), shown_missing(asked), me_missing(asked), full_missing(asked), doubled_missing(asked)]
-    untried += [replays_missing(asked), status_missing(asked), coarse_missing(asked)]
-    if any(untried):
-        print(f"the header has other numbers than the paper, or these were never tried: {untried}")
-        return 1
-    print(f"{len(asked)} calls of {len(FUNCTIONS)} functions, and {len(said)} with structs: C answers and leaves what the model does")
+    counts = ", ".join(f"{program} {len(lines)}" for program, lines in programs.items())
+    print(f"{len(FUNCTIONS)} functions, calls by {counts}: the library answers and leaves what the model does")
     print(f"{COARSE_MES} random MEs under CF 3: each comes back as the same 14 bytes")
     return 0
 

@@ -21,6 +21,7 @@ from checker import MOST_RECORDS, check
 from embedding import call_text, outcome_text
 from make_samples import SAMPLES
 from positions import EVEN, ODD
+from once import once
 from programs import C, ROOT, ran
 from refusals import Refused
 from run_captures import damaged, random_capture
@@ -291,7 +292,7 @@ def asked():
 
 def answered():
     """Each call with the name of its way, and what the model makes of it."""
-    return ((name, call, outcome_text(call)) for name, call in asked())
+    return once("checks", lambda: ((name, call, outcome_text(call)) for name, call in asked()))
 
 
 def differences():

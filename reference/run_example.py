@@ -4,7 +4,8 @@ cannot be read and an output that cannot be written are said.
 
     python3 reference/run_example.py
 
-tools/build-c must have built target/c/PROCESSOR/listing.
+tools/build-c must have built target/c/PROCESSOR/listing; or for a board without a system minute, which takes the sample alone. For wasm32 it
+is the example for node.
 """
 
 import subprocess
@@ -12,7 +13,7 @@ import sys
 from itertools import product
 
 from make_samples import STEP, hex_lines, hex_listing, minute
-from programs import C, ROOT, ran
+from programs import C, ROOT, built, ran
 
 GOOD = "8DABCDEF58378200010000300279"
 
@@ -52,15 +53,29 @@ def failures():
     """What it does otherwise than it must with such words, or such an input or output."""
     for words in WRONG:
         done = ran(f"{C}/listing", *words, given=GOOD.encode("ascii"))
-        if (done.returncode, done.stdout, done.stderr[:14]) != (2, b"", b"usage: listing"):
+        if (done.returncode, done.stdout, done.stderr[:6]) != (2, b"", b"usage:"):
             yield f"listing {words}: status {done.returncode}, {done.stdout}, {done.stderr}"
+    if not (ROOT / "target" / C / "listing").exists():
+        return  # for node, which says such things in its own words
     for words, said in {"< /": b"the input cannot be read to its end", "< /dev/null > /dev/full": b"the output cannot be written"}.items():
         done = subprocess.run(["sh", "-c", f"exec tools/run target/{C}/listing {words}"], cwd=ROOT, capture_output=True, timeout=60, check=False)
         if (done.returncode, done.stdout, done.stderr) != (1, b"", b"0 refused\nlisting: " + said + b"\n"):
             yield f"listing {words}: status {done.returncode}, {done.stdout}, {done.stderr}"
 
 
+def on_board():
+    """What a board prints of the sample, and what it must."""
+    strings = list(minute())
+    runs = [ran(f"{C}/{program}", given=hex_lines(strings)) for program in built() if program.startswith("minute")]
+    listing, refused = hex_listing(strings, STEP, True)
+    return {(done.returncode, done.stdout) for done in runs}, {(0, f"{refused} refused\n".encode("ascii") + listing)}
+
+
 def main():
+    if "minute" in built() and "listing" not in built():
+        found, due = on_board()
+        print("a board prints what the model says" if found == due else f"found {found}\nand expected {due}")
+        return 0 if found == due else 1
     for (given, strings, step), (words, every) in product(cases(), CHOICES.items()):
         done = ran(f"{C}/listing", step, *words, given=given)
         listing, refused = hex_listing(strings, step, every)

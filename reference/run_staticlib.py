@@ -1,4 +1,5 @@
-"""Shows what tools/staticlib refuses: modules with something of x86 in them, other sizes, another kit, another way to call clang.
+"""Shows what tools/staticlib refuses: modules with something of x86 in them, other sizes, pointers that are taken for 64 bits, a wide
+product in the zone count, another kit, another way to call clang.
 
     python3 reference/run_staticlib.py
 
@@ -9,7 +10,7 @@ import platform
 import sys
 from importlib.machinery import SourceFileLoader
 from importlib.util import module_from_spec, spec_from_loader
-from itertools import cycle
+from itertools import cycle, product
 from pathlib import Path
 from tempfile import TemporaryDirectory
 
@@ -54,16 +55,60 @@ OF_X86 = [
     "define double @f(double %a, double %b) { %x = fadd contract double %a, %b ret double %x }",
     "declare double @llvm.fmuladd.f64(double, double, double)",
 ]
+# Layouts that differ in what every module has, and in what the module beside each has
 OTHER_LAYOUTS = [
-    ARM_LAYOUT.replace("e-m", "E-m", 1),
-    ARM_LAYOUT.replace("i64:64", "i64:32"),
-    ARM_LAYOUT.replace("-i128:128", ""),
-    ARM_LAYOUT.replace("S128", "S64"),
-    ARM_LAYOUT.replace("m:e", "m:o"),
-    f"{ARM_LAYOUT}-p:32:32",
-    f"{ARM_LAYOUT}-p0:32:32",
-    f"{ARM_LAYOUT}-v128:64",
+    ("", ARM_LAYOUT.replace("e-m", "E-m", 1)),
+    ("", ARM_LAYOUT.replace("i64:64", "i64:32")),
+    ("", ARM_LAYOUT.replace("m:e", "m:o")),
+    ("", f"{ARM_LAYOUT}-p:32:64"),
+    ("", f"{ARM_LAYOUT}-f64:32"),
+    ("define internal void @f() { %x = alloca i128, align 8 ret void }", ARM_LAYOUT.replace("-i128:128", "")),
+    ("define internal void @f() { %x = alloca i64, align 16 ret void }", ARM_LAYOUT.replace("S128", "S64")),
+    ("define internal void @f() { %x = alloca <2 x i64>, align 8 ret void }", f"{ARM_LAYOUT}-v128:64"),
 ]
+NARROW_LAYOUT = "e-m:e-p:32:32-Fi8-i64:64-v128:64:128-a:0:32-n32-S64"  # of 32-bit ARM
+# A pointer and a length in 16 bytes, copied whole; and a pointer alone: as modules have them
+SLOT = "%s = alloca [16 x i8], align 8\n  store ptr %p, ptr %s, align 8\n  "
+LENT = """
+define internal void @lent(ptr %p, i64 %n) {
+  %a = alloca ptr, align 8
+  store ptr %p, ptr %a, align 8
+  %x = load ptr, ptr %a, align 8
+  %s = alloca [16 x i8], align 8
+  store ptr %x, ptr %s, align 8
+  %l = getelementptr i8, ptr %s, i64 8
+  store i64 %n, ptr %l, align 8
+  %t = alloca [16 x i8], align 8
+  call void @llvm.memmove.p0.p0.i64(ptr %t, ptr %s, i64 16, i1 false)
+  %y = load ptr, ptr %t, align 8
+  ret void
+}
+
+declare void @llvm.memmove.p0.p0.i64(ptr, ptr, i64, i1)
+"""
+# What a function with a pointer %p does that goes by its 64 bits
+BY_POINTERS = [
+    "%x = getelementptr { ptr, i32 }, ptr %p, i64 0, i32 1",
+    "%x = alloca [2 x ptr], align 8",
+    "%x = ptrtoint ptr %p to i64",
+    "%x = inttoptr i64 8 to ptr",
+    "%x = getelementptr ptr, ptr %p, i64 1",
+    "%x = load ptr, ptr %p, align 8",
+    "store ptr %p, ptr %p, align 8",
+    "%x = alloca [8 x i8], align 8\n  store ptr %p, ptr %x, align 8",
+    f"{SLOT}%x = getelementptr i8, ptr %s, i64 4",
+    f"{SLOT}%x = getelementptr i8, ptr %s, i64 12",
+    f"{SLOT}%x = load i64, ptr %s, align 8",
+    f"{SLOT}call void @llvm.memmove.p0.p0.i64(ptr %p, ptr %s, i64 8, i1 false)",
+    "%a = alloca ptr, align 8\n  call void @llvm.memmove.p0.p0.i64(ptr %a, ptr %p, i64 8, i1 false)",
+    "%a = alloca ptr, align 8\n  %x = load i64, ptr %a, align 8",
+    "%a = alloca ptr, align 8\n  %x = getelementptr i8, ptr %a, i64 8",
+]
+ZONES = "".join(
+    f'define internal i32 @"positions::{name}"(i32 %a, i64 %b) {{\n  %x = mul nuw i32 %a, 3\n  %y = mul nuw i64 %b, 8\n  ret i32 %x\n}}\n'
+    for name in ("zone_count_at", "zone_count", "units_in", "apart")
+)
+WIDE = ["mul nuw i64 %b, %b", "mul i64 %b, 131072000", "mul nsw nuw i64 %b, %b", "mul i128 %c, %c", "mul i33 %d, %d"]
 WORDS = "--target=x86_64-unknown-linux-gnu -march=x86-64 -Werror -c -x ir module.bc -o module.o -fPIC -O3 --sysroot=/kit".split()
 
 
@@ -94,37 +139,80 @@ def refusal(script, function, *arguments):
     return ""
 
 
-def faults(script):
-    """What is wrong with the script."""
+def module_faults(script):
+    """What is wrong with how modules are taken or refused, for every target."""
+    others = [name for name in script.TARGETS if name != script.X86]
     for crate in script.LIBRARY:
-        keep(script, crate, MODULE)
-    said = refusal(script, script.make_arm)
+        keep(script, crate, MODULE + LENT)
     due = [f"{crate}.o" for crate in script.LIBRARY]
-    if said or script.output(script.tool("llvm-ar"), "t", script.archive("aarch64")).split() != due:
-        yield f"modules without anything of x86: {said}"
-    elif script.symbols(script.archive("aarch64")) != ["one"] * len(due):
-        yield "the global names of an archive were not found"
-    for text, crate in zip(OF_X86, cycle(script.LIBRARY)):
+    for name in (name for name in others if script.TARGETS[name].sort != script.MODULE):
+        said = refusal(script, script.make_other, name)
+        if said or script.output(script.tool("llvm-ar"), "t", script.archive(name)).split() != due:
+            yield f"{name}: modules without anything of x86: {said}"
+        elif script.symbols(script.archive(name)) != ["one"] * len(due):
+            yield f"{name}: the global names of an archive were not found"
+    for text, crate, name in zip(OF_X86, cycle(script.LIBRARY), cycle(others)):
         keep(script, crate, f"{MODULE}\n{text}\n")
-        if "of x86 in it, or something that was not tried" not in refusal(script, script.make_arm):
-            yield f"not refused: {text}"
+        if "of x86 in it, or something that was not tried" not in refusal(script, script.make_other, name):
+            yield f"{name}: not refused: {text}"
         keep(script, crate, MODULE)
-    for layout in OTHER_LAYOUTS:
-        if "the order of bytes differ" not in refusal(script, script.rewritten, MODULE, layout):
+
+
+def layout_faults(script):
+    """What is wrong with how sizes, alignments and pointers are looked at."""
+    for text, layout in OTHER_LAYOUTS:
+        if "the order of bytes differ" not in refusal(script, script.rewritten, f"{MODULE}{text}\n", "aarch64", layout):
             yield f"not refused: {layout}"
-    if "is not for" not in refusal(script, script.rewritten, MODULE.replace("-linux-gnu", "-linux-musl"), ARM_LAYOUT):
+    for text, layout in ((MODULE + LENT, NARROW_LAYOUT), *((MODULE, layout) for text, layout in OTHER_LAYOUTS if text)):
+        if refusal(script, script.rewritten, text, "armv6", layout):
+            yield f"refused, though the module has nothing that differs: {layout}"
+    for body in BY_POINTERS:
+        text = f"{MODULE}{LENT}\ndefine internal void @f(ptr %p) {{\n  {body}\n  ret void\n}}\n"
+        if "(p)" not in refusal(script, script.rewritten, text, "armv6", NARROW_LAYOUT) or refusal(script, script.rewritten, text, "aarch64", ARM_LAYOUT):
+            yield f"taken for 32 bits, or refused for 64: {body}"
+    if "is not for" not in refusal(script, script.rewritten, MODULE.replace("-linux-gnu", "-linux-musl"), "aarch64", ARM_LAYOUT):
         yield "not refused: another target"
-    for at in range(2):
-        if "with other words" not in refusal(script, script.words_for_arm, WORDS[:at] + WORDS[at + 1 :], "arm.ll", "arm.o"):
+
+
+def product_faults(script):
+    """What is wrong with the guard of request R-5."""
+    if script.wide_product([ZONES, MODULE]):
+        yield "a product of 32 bits, or an index times the size of an element, was taken for a wide one"
+    for name, wide in product(script.NARROW, WIDE):
+        before, at, after = ZONES.partition(f'@"{name}"')
+        if name not in (script.wide_product([ZONES, before + at + after.replace("mul nuw i64 %b, 8", wide, 1)]) or ""):
+            yield f"not seen in {name}: {wide}"
+    for name in script.NARROW:
+        if name not in (script.wide_product([ZONES.replace(f'"{name}"', '"another"')]) or ""):
+            yield f"not seen: there is no {name}"
+    for crate in script.LIBRARY:
+        keep(script, crate, MODULE + ZONES)
+    if refusal(script, script.check_products):
+        yield "modules without a wide product were refused"
+    keep(script, script.LIBRARY[-1], MODULE + ZONES.replace("mul nuw i64 %b, 8", "mul nuw i64 %b, %b"))
+    if "request R-5" not in refusal(script, script.check_products):
+        yield "not refused: a module with a wide product"
+
+
+def other_faults(script):
+    """What is wrong with how another kit, other words or another target are refused."""
+    for at, name in product((WORDS.index(word) for word in WORDS[:2] + ["-fPIC", "-O3"]), ("aarch64", "wasm32")):
+        if "with other words" not in refusal(script, script.words_for, name, WORDS[:at] + WORDS[at + 1 :], "other.ll", "other.o"):
             yield f"not refused: without {WORDS[at]}"
     (script.MADE / f"{script.LIBRARY[-1]}.words").unlink()
-    if "handed no module" not in refusal(script, script.make_arm):
+    if "handed no module" not in refusal(script, script.make_other, "aarch64"):
         yield "not refused: no module"
-    if "there is no archive for" not in refusal(script, script.make, "armv7l"):
+    if "there is no archive for" not in refusal(script, script.make, "i686"):
         yield "not refused: another processor"
     script.TRIED[:] = ["a kit of another day"]
-    if "was tried with a kit of another day" not in refusal(script, script.make, "aarch64"):
+    if "were tried with a kit of another day" not in refusal(script, script.make, "aarch64"):
         yield "not refused: a kit that it was not tried with"
+
+
+def faults(script):
+    """What is wrong with the script."""
+    for part in (module_faults, layout_faults, product_faults, other_faults):
+        yield from part(script)
 
 
 def main():
@@ -136,7 +224,8 @@ def main():
     if found:
         print("\n".join(found))
         return 1
-    print(f"{len(OF_X86)} modules with something of x86, {len(OTHER_LAYOUTS)} layouts, other words, another kit: refused, each in a sentence")
+    print(f"{len(OF_X86)} modules with something of x86, {len(OTHER_LAYOUTS)} layouts, {len(BY_POINTERS)} uses of a pointer's 64 bits, other words,")
+    print(f"another kit: refused, each in a sentence; {len(WIDE)} wide products in each part of the zone count: seen")
     return 0
 
 

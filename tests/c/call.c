@@ -1,7 +1,7 @@
 /* A call of any function of addercoil.h as a value: see call.h. */
 #include "call.h"
+#include "host.h"
 #include <addercoil.h>
-#include <inttypes.h>
 #include <string.h>
 
 const struct shape shapes[FUNCTIONS] = {
@@ -131,56 +131,75 @@ struct outcome call_make(const struct call *call) {
 }
 
 size_t call_byte_at(size_t i, size_t element) {
-    size_t within = i % element;
-    return i - within + (element - 1 - within);
+    return i ^ (element - 1); /* an element has 1 byte or 8 */
 }
 
-/* One byte, as two hex digits. */
-static void hex_byte(FILE *out, uint8_t byte) {
-    static const char digits[] = "0123456789abcdef";
-    putc(digits[byte >> 4], out);
-    putc(digits[byte & 15], out);
+const char *call_decimal(uint64_t number, char *text) {
+    char *at = text + CALL_DECIMAL - 1;
+    *at = '\0';
+    do {
+        *--at = (char)('0' + number % 10);
+        number /= 10;
+    } while (number != 0);
+    return at;
+}
+
+static void put_text(const char *text) {
+    while (*text != '\0') {
+        host_put(*text++);
+    }
+}
+
+static void put_number(uint64_t number) {
+    char text[CALL_DECIMAL];
+    put_text(call_decimal(number, text));
 }
 
 /* A space, and the elements of an array in hex. */
-static void hex_array(FILE *out, const uint8_t *bytes, size_t size, size_t element) {
+static void hex_array(const uint8_t *bytes, size_t size, size_t element) {
+    static const char digits[] = "0123456789abcdef";
     size_t i;
-    putc(' ', out);
+    host_put(' ');
     for (i = 0; i < size; i++) {
-        hex_byte(out, bytes[call_byte_at(i, element)]);
+        uint8_t byte = bytes[call_byte_at(i, element)];
+        host_put(digits[byte >> 4]);
+        host_put(digits[byte & 15]);
     }
     if (size == 0) {
-        putc('-', out);
+        host_put('-');
     }
 }
 
-void call_write(FILE *out, const struct call *call) {
+void call_write(const struct call *call) {
     const struct shape *shape = &shapes[call->function];
     int i;
-    fputs(shape->name, out);
+    put_text(shape->name);
     if (shape->table != NO_TABLE) {
-        hex_array(out, call->table, call->table_size, BYTES);
+        hex_array(call->table, call->table_size, BYTES);
     }
     if (shape->given != NOTHING) {
-        hex_array(out, call->given, call->given_size, shape->given);
+        hex_array(call->given, call->given_size, shape->given);
     }
     if (shape->result != NOTHING) {
-        fprintf(out, " %zu", call->result_length);
+        host_put(' ');
+        put_number(call->result_length);
     }
     for (i = 0; i < shape->numbers; i++) {
-        fprintf(out, " %" PRIu64, call->numbers[i]);
+        host_put(' ');
+        put_number(call->numbers[i]);
     }
-    putc(' ', out);
+    host_put(' ');
 }
 
-void outcome_write(FILE *out, const struct call *call, const struct outcome *outcome) {
+void outcome_write(const struct call *call, const struct outcome *outcome) {
     const struct shape *shape = &shapes[call->function];
-    fprintf(out, "= %" PRIu64, outcome->answer);
+    put_text("= ");
+    put_number(outcome->answer);
     if (shape->result != NOTHING) {
-        hex_array(out, outcome->result, call->result_length * shape->result, shape->result);
+        hex_array(outcome->result, call->result_length * shape->result, shape->result);
     }
     if (shape->table == WRITES_TABLE) {
-        hex_array(out, outcome->table, call->table_size, BYTES);
+        hex_array(outcome->table, call->table_size, BYTES);
     }
-    putc('\n', out);
+    host_put('\n');
 }

@@ -4,16 +4,15 @@
  *
  *     NAME [TABLE] [GIVEN] [LENGTH] NUMBER.. = ANSWER [RESULT] [TABLE]
  *
- * TABLE and GIVEN are what is lent, in hex, of a check the capture and the listing; LENGTH is how many elements the result array has, NUMBERs are in decimal.
- * A double is its bit pattern, as a NUMBER and in a result array.
- * Behind the = stand the answer, the result array, and the table where it is lent to be written. Elements of 64 bits
- * are 16 digits each; nothing at all is "-".
+ * TABLE and GIVEN are what is lent, in hex, of a check the capture and the listing; LENGTH is how many elements the
+ * result array has, NUMBERs are in decimal. A double is its bit pattern, as a NUMBER and in a result array. Behind the
+ * = stand the answer, the result array, and the table where it is lent to be written. Elements of 64 bits are 16 digits
+ * each; nothing at all is "-".
  */
 #ifndef CALL_H
 #define CALL_H
 
 #include "lent.h"
-#include <stdio.h>
 
 #ifdef __cplusplus
 extern "C" {
@@ -56,6 +55,9 @@ enum table_use { NO_TABLE, READS_TABLE, WRITES_TABLE };
 
 #define MOST_NUMBERS 6
 
+/* The arrays that a call may be lent. */
+enum array { TABLE_ARRAY, GIVEN_ARRAY, RESULT_ARRAY, ARRAYS };
+
 /* What a function is lent. */
 struct shape {
     const char *name;
@@ -78,8 +80,9 @@ struct call {
     size_t given_size;
     size_t result_length; /* elements */
     uint64_t numbers[MOST_NUMBERS];
-    size_t below; /* how far the lent arrays end below a forbidden page, a multiple of 8 */
-    int null;     /* whether an empty array is the null pointer */
+    size_t below;          /* how far the lent arrays end below a forbidden page, a multiple of 8 */
+    int null;              /* whether an empty array is the null pointer */
+    uint64_t more[ARRAYS]; /* by how much each length is said to be more than it is */
 };
 
 /* What came of it. The arrays are those lent: they stand until the next call. */
@@ -105,9 +108,13 @@ struct outcome call_make(const struct call *call);
  * first. */
 size_t call_byte_at(size_t i, size_t element);
 
-/* The two halves of the line, the second with its = and the end of the line. */
-void call_write(FILE *out, const struct call *call);
-void outcome_write(FILE *out, const struct call *call, const struct outcome *outcome);
+/* A number in decimal, written at the end of a text of so many characters, which begins where this says. */
+enum { CALL_DECIMAL = 21 };
+const char *call_decimal(uint64_t number, char *text);
+
+/* Prints the two halves of the line, the second with its = and the end of the line. */
+void call_write(const struct call *call);
+void outcome_write(const struct call *call, const struct outcome *outcome);
 
 #ifdef __cplusplus
 }

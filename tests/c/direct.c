@@ -11,7 +11,9 @@ static uint64_t *words_of(const struct call *call, uint8_t *result) {
 /* The calls that are lent a table. */
 static uint64_t with_table(const struct call *call, uint8_t *t, const uint8_t *given, uint8_t *result) {
     const uint64_t *n = call->numbers;
-    size_t size = call->table_size, length = call->result_length;
+    addercoil_size size = call->table_size + call->more[TABLE_ARRAY];
+    addercoil_size given_size = call->given_size + call->more[GIVEN_ARRAY];
+    addercoil_size length = call->result_length + call->more[RESULT_ARRAY];
     uint64_t *words = words_of(call, result);
     switch (call->function) {
     case SET_UP:
@@ -19,9 +21,9 @@ static uint64_t with_table(const struct call *call, uint8_t *t, const uint8_t *g
     case SET_UP_AT:
         return addercoil_set_up_at(t, size, (int32_t)n[0], (uint32_t)n[1]);
     case RECEIVE:
-        return addercoil_receive(t, size, given, call->given_size, n[0]);
+        return addercoil_receive(t, size, given, given_size, n[0]);
     case RECEIVE_STAMP:
-        return addercoil_receive_stamp(t, size, given, call->given_size, (uint32_t)n[0], words, length);
+        return addercoil_receive_stamp(t, size, given, given_size, (uint32_t)n[0], words, length);
     case CLOCK:
         return addercoil_clock(t, size, words, length);
     case SITE:
@@ -35,9 +37,9 @@ static uint64_t with_table(const struct call *call, uint8_t *t, const uint8_t *g
     case LINE:
         return addercoil_line(t, size, (uint32_t)n[0], (uint32_t)n[1], result, length);
     case CHECK:
-        return addercoil_check(t, size, given, call->given_size, words, length);
+        return addercoil_check(t, size, given, given_size, words, length);
     default:
-        return addercoil_feed_block(t, size, given, call->given_size, n[0], words, length);
+        return addercoil_feed_block(t, size, given, given_size, n[0], words, length);
     }
 }
 
@@ -51,7 +53,8 @@ static double double_of(uint64_t pattern) {
 /* The calls that are not. */
 static uint64_t without_table(const struct call *call, const uint8_t *given, uint8_t *result) {
     const uint64_t *n = call->numbers;
-    size_t length = call->result_length;
+    addercoil_size given_size = call->given_size + call->more[GIVEN_ARRAY];
+    addercoil_size length = call->result_length + call->more[RESULT_ARRAY];
     uint64_t *words = words_of(call, result);
     switch (call->function) {
     case VERSION:
@@ -59,12 +62,12 @@ static uint64_t without_table(const struct call *call, const uint8_t *given, uin
     case TABLE_BYTES:
         return addercoil_table_bytes(n[0]);
     case REPLAY:
-        return addercoil_replay(given, call->given_size, (uint32_t)n[0], (uint32_t)n[1], words, length);
+        return addercoil_replay(given, given_size, (uint32_t)n[0], (uint32_t)n[1], words, length);
     case REPLAY_AT:
-        return addercoil_replay_at(given, call->given_size, (uint32_t)n[0], (uint32_t)n[1], (int32_t)n[2],
-                                   (uint32_t)n[3], words, length);
+        return addercoil_replay_at(given, given_size, (uint32_t)n[0], (uint32_t)n[1], (int32_t)n[2], (uint32_t)n[3],
+                                   words, length);
     case REPLAY_COARSE:
-        return addercoil_replay_coarse(given, call->given_size, (uint32_t)n[0], (uint32_t)n[1], (uint32_t)n[2], words,
+        return addercoil_replay_coarse(given, given_size, (uint32_t)n[0], (uint32_t)n[1], (uint32_t)n[2], words,
                                        length);
     case ENCODE_POSITION:
         return addercoil_encode_position((int32_t)n[0], (uint32_t)n[1], (uint32_t)n[2], (uint32_t)n[3], words, length);
@@ -87,11 +90,12 @@ static uint64_t without_table(const struct call *call, const uint8_t *given, uin
     case FROM_DEGREES:
         return addercoil_from_degrees(double_of(n[0]), double_of(n[1]), words, length);
     case DECODE:
-        return addercoil_decode(given, call->given_size, words, length);
+        return addercoil_decode(given, given_size, words, length);
     case ME:
         return addercoil_me(n[0], (uint32_t)n[1], words, length);
     default:
-        return addercoil_encode((const uint64_t *)given, call->given_size / WORDS, result, length);
+        return addercoil_encode((const uint64_t *)given, call->given_size / WORDS + call->more[GIVEN_ARRAY], result,
+                                length);
     }
 }
 

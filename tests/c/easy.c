@@ -5,6 +5,7 @@
  */
 #include "call.h"
 #include <addercoil_easy.h>
+#include <stdio.h>
 #include <string.h>
 
 #define NO_NUMBER 99 /* what no function answers: the struct is wrong */

@@ -1,21 +1,12 @@
 /* Memory that is lent to a call: see lent.h. */
 #include "lent.h"
-#include <stdio.h>
-#include <stdlib.h>
+#include "host.h"
 #include <string.h>
-#include <sys/mman.h>
 
-/* Pages have 4, 16 or 64 KiB, by the processor and its system: this is whole ones of each */
-enum { GUARDS = 64, GUARD = 0x5C, PAGE = 65536 };
+enum { GUARDS = LENT_GUARDS, GUARD = 0x5C };
 
 void lent_open(struct lent *lent) {
-    const size_t size = (LENT_MOST / PAGE + 2) * PAGE; /* room for the guards too */
-    uint8_t *memory = mmap(NULL, PAGE + size + PAGE, PROT_NONE, MAP_PRIVATE | MAP_ANONYMOUS, -1, 0);
-    if (memory == MAP_FAILED || mprotect(memory + PAGE, size, PROT_READ | PROT_WRITE) != 0) {
-        perror("lent_open");
-        exit(2);
-    }
-    lent->end = memory + PAGE + size;
+    lent->end = host_memory(GUARDS + LENT_MOST + GUARDS) + GUARDS + LENT_MOST + GUARDS;
     lent->at = NULL;
     lent->size = 0;
 }

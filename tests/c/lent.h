@@ -1,6 +1,6 @@
 /*
  * Memory that is lent to a call, with guards around it: guard bytes before and after, which a stray write changes, and
- * behind them a page that nobody may touch, on which a stray read or write ends the program.
+ * behind them, under a system, a page that nobody may touch, on which a stray read or write ends the program.
  */
 #ifndef LENT_H
 #define LENT_H
@@ -8,8 +8,13 @@
 #include <stddef.h>
 #include <stdint.h>
 
-/* The most bytes that can be lent: more than the largest table has. */
+/* The most bytes that can be lent: more than the largest table has, unless a small board has less. */
+#ifndef LENT_MOST
 #define LENT_MOST 98304
+#endif
+
+/* The most bytes of guards before what is lent, and behind it. */
+#define LENT_GUARDS 64
 
 struct lent {
     uint8_t *end; /* the page that nobody may touch begins here */

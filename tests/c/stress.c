@@ -7,8 +7,10 @@
  * call and ends with 1. One call in EVERY is written as a line of call.h, for the model to answer too.
  */
 #include "call.h"
+#include "host.h"
 #include <addercoil.h>
 #include <signal.h>
+#include <stdio.h>
 #include <stdlib.h>
 #include <string.h>
 #include <unistd.h>
@@ -677,7 +679,8 @@ static int replays(void) {
 
 /* ---- The run ---- */
 
-static unsigned long made; /* calls */
+static unsigned long made;           /* calls */
+static unsigned long longer[ARRAYS]; /* good calls that were tried with a longer length of an array */
 
 /* A page that nobody may touch was touched. */
 static void on_touch(int number) {
@@ -704,13 +707,54 @@ static int every_length(void) {
     return 1;
 }
 
+/* What is wrong with a call once a length is said to be 2^32 more; NULL if nothing is. No system may cut the length: a
+ * call that is good without it is refused. A block of another length is bad, which is counted: the table is as it was.
+ */
+static const char *longer_fault(const struct call *call, enum array array, int good) {
+    struct call longer = *call;
+    struct outcome outcome;
+    int refused;
+    longer.more[array] = (uint64_t)1 << 32;
+    outcome = call_make(&longer);
+    if (call->function == FEED_BLOCK && array == GIVEN_ARRAY) {
+        refused = memcmp(outcome.table, call->table, call->table_size) == 0;
+    } else {
+        refused = outcome.answer == ADDERCOIL_REFUSED_LENGTH || outcome.answer == ADDERCOIL_REFUSED_PLACES ||
+                  outcome.answer == ADDERCOIL_REFUSED_LOG;
+    }
+    return outcome.fault != NULL || !good || refused ? outcome.fault : "a length was cut";
+}
+
+/* Whether an array of a call may be said to be longer: of a check the two texts are read, however long they are. */
+static int has_array(const struct call *call, enum array array) {
+    const struct shape *shape = &shapes[call->function];
+    int lent[ARRAYS] = {shape->table != NO_TABLE, shape->given != NOTHING, shape->result != NOTHING};
+    return lent[array] && (call->function != CHECK || array == RESULT_ARRAY);
+}
+
+/* One call in 16 with a length of one of its arrays 2^32 more; what is wrong with it, or NULL. */
+static const char *try_longer(const struct call *call) {
+    enum array array = (enum array)(made / 16 % ARRAYS);
+    int good;
+    if (made % 16 != 0 || !has_array(call, array)) {
+        return NULL;
+    }
+    good = call_make(call).answer == ADDERCOIL_OK;
+    longer[array] += good;
+    return longer_fault(call, array, good);
+}
+
 /* One call; whether it was without a fault. */
 static int one_call(unsigned long every) {
     struct call call = make_call();
+    const char *fault = try_longer(&call);
     struct outcome outcome = call_make(&call);
+    if (fault != NULL) {
+        outcome.fault = fault;
+    }
     if (outcome.fault != NULL || made % every == 0) {
-        call_write(stdout, &call);
-        outcome_write(stdout, &call, &outcome);
+        call_write(&call);
+        outcome_write(&call, &outcome);
     }
     if (outcome.fault != NULL) {
         fprintf(stderr, "call %lu: %s\n", made, outcome.fault);
@@ -738,8 +782,12 @@ int main(int count, char **words) {
     }
     for (made = 0; made < calls; made++) {
         if (!one_call(every)) {
-            return 1;
+            host_end(1);
         }
     }
+    fprintf(stderr,
+            "%lu, %lu and %lu good calls with 2^32 more for a length, of a table, what is given, a result: refused\n",
+            longer[TABLE_ARRAY], longer[GIVEN_ARRAY], longer[RESULT_ARRAY]);
+    host_end(longer[TABLE_ARRAY] == 0 || longer[GIVEN_ARRAY] == 0 || longer[RESULT_ARRAY] == 0);
     return 0;
 }
