@@ -7,9 +7,12 @@
  *   receive    each is received
  *   damaged    each is received, and must be refused since its parity is wrong
  *   flood      each is received, and must be refused since every place is held
- *   listing    for each the whole table is listed, which must be full
- *   positioned the same, where not all tracks are asked for; each must have a position
+ *   listing    for each the whole table is listed, by one call
+ *   positioned the same, where not all tracks are asked for
+ *   walked     the same as listing, by a call for each key and for each line; there must be one for each place
  *   positions  each is received, and what came of it is printed. bench/run looks at it, and does not count it.
+ *   shown      as listing, and the last one is printed: likewise
+ *   shown-positioned  as positioned: likewise
  */
 #include "harness.h"
 
@@ -22,6 +25,8 @@
 #define TURN 4294967296.0 /* a turn of 360 degrees */
 
 static uint8_t table[ADDERCOIL_TABLE_BYTES(MOST_PLACES)];
+static uint8_t text[ADDERCOIL_LISTING_BYTES(MOST_PLACES)]; /* the last listing */
+static uint64_t written[1];                                /* .. and how many bytes it has */
 static size_t places;
 static size_t length; /* of the part of the table that is used */
 static unsigned long position_messages, positions_given;
@@ -44,15 +49,8 @@ static uint32_t flood(const struct record *record) {
 }
 
 static uint32_t list(uint32_t all) {
-    uint8_t text[ADDERCOIL_LINE];
-    uint64_t key[1] = {0};
-    size_t lines = 0;
-    addercoil_header(table, length, 0, all, text, sizeof text);
-    while (addercoil_next(table, length, (uint32_t)key[0], key, 1) == ADDERCOIL_OK && key[0] != 0) {
-        addercoil_line(table, length, (uint32_t)key[0], all, text, sizeof text);
-        lines += text[0] == 'I';
-    }
-    return lines != places;
+    static uint64_t order[MOST_PLACES];
+    return addercoil_listing(table, length, 0, all, order, places, text, ADDERCOIL_LISTING_BYTES(places), written, 1);
 }
 
 static uint32_t listing(const struct record *record) {
@@ -63,6 +61,19 @@ static uint32_t listing(const struct record *record) {
 static uint32_t positioned(const struct record *record) {
     (void)record;
     return list(0);
+}
+
+static uint32_t walked(const struct record *record) {
+    uint8_t line[ADDERCOIL_LINE];
+    uint64_t key[1] = {0};
+    size_t lines = 0;
+    (void)record;
+    addercoil_header(table, length, 0, 1, line, sizeof line);
+    while (addercoil_next(table, length, (uint32_t)key[0], key, 1) == ADDERCOIL_OK && key[0] != 0) {
+        addercoil_line(table, length, (uint32_t)key[0], 1, line, sizeof line);
+        lines += line[0] == 'I';
+    }
+    return lines != places;
 }
 
 /* Receives, and notes whether a message that says a position gave one. */
@@ -94,10 +105,18 @@ static void print_positions(void) {
 }
 
 int main(int count, char **arguments) {
-    static const struct mode modes[] = {
-        {"empty", do_nothing}, {"decode", decode},   {"receive", receive},       {"damaged", damaged},
-        {"flood", flood},      {"listing", listing}, {"positioned", positioned}, {"positions", note_position},
-        {NULL, NULL}};
+    static const struct mode modes[] = {{"empty", do_nothing},
+                                        {"decode", decode},
+                                        {"receive", receive},
+                                        {"damaged", damaged},
+                                        {"flood", flood},
+                                        {"listing", listing},
+                                        {"positioned", positioned},
+                                        {"walked", walked},
+                                        {"positions", note_position},
+                                        {"shown", listing},
+                                        {"shown-positioned", positioned},
+                                        {NULL, NULL}};
     if (count != 6) {
         fprintf(stderr, "measure MODE CORPUS WARM COUNT PLACES\n");
         return 2;
@@ -112,6 +131,8 @@ int main(int count, char **arguments) {
     run_bench(modes, arguments[1], arguments[2], receive, arguments[3], arguments[4]);
     if (strcmp(arguments[1], "positions") == 0) {
         print_positions();
+    } else if (strncmp(arguments[1], "shown", strlen("shown")) == 0) {
+        fwrite(text, 1, written[0], stdout);
     }
     return 0;
 }

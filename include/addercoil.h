@@ -64,11 +64,11 @@ typedef uint64_t addercoil_size;
 #endif
 
 /*
- * 10,000 times the major number, 100 times the minor one, and the patch: this is 0.8.0. addercoil_version() says that
+ * 10,000 times the major number, 100 times the minor one, and the patch: this is 0.9.0. addercoil_version() says that
  * of the archive; where the two differ, the program was built with another header. The bytes of a table may change with
  * it.
  */
-#define ADDERCOIL_VERSION 800
+#define ADDERCOIL_VERSION 900
 
 /* The version of the archive, as ADDERCOIL_VERSION has it. */
 uint32_t addercoil_version(void);
@@ -375,8 +375,24 @@ uint32_t addercoil_replay_coarse(const uint8_t *log, addercoil_size log_len, uin
 /*
  * ---- The listing: a header, then a line for each key ----
  *
- * Both calls are told which tracks it shows: all is 0 for those with a known position, whatever its age, and 1 for all.
+ * Each call is told which tracks it shows: all is 0 for those with a known position, whatever its age, and 1 for all.
  */
+
+/* Bytes of a buffer for the listing of a table of so many places: 128 for the header, and 128 for each place. */
+#define ADDERCOIL_LISTING_BYTES(places) (128 * ((addercoil_size)(places) + 1))
+
+/*
+ * The whole listing, the header and then a line for each key in order, into out of ADDERCOIL_LISTING_BYTES(places)
+ * bytes, with zeros behind the text: what addercoil_header gives, and addercoil_line for each key that addercoil_next
+ * walks. How many bytes the text has goes into written of 1 entry. order has as many entries as the table has places:
+ * the keys are sorted there. Do not rely on what a call that answers 0 leaves there. places is what the table's length
+ * has room for behind its first 16 bytes, 86 bytes each, whether the table is taken or not. Or ADDERCOIL_REFUSED_LENGTH
+ * if any of the three arrays has another length, ADDERCOIL_REFUSED_PLACES, ADDERCOIL_REFUSED_FIELD for all above 1; each
+ * leaves all three as they were.
+ */
+uint32_t addercoil_listing(const uint8_t *table, addercoil_size table_len, uint64_t bad, uint32_t all, uint64_t *order,
+                           addercoil_size order_len, uint8_t *out, addercoil_size out_len, uint64_t *written,
+                           addercoil_size written_len);
 
 /* Bytes of a buffer for one line: room for 128 of text, and a zero, so that it is always a C string. */
 #define ADDERCOIL_LINE 129

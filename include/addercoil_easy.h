@@ -415,7 +415,19 @@ static inline uint32_t addercoil_easy_replay_at(const uint8_t *log, addercoil_si
     return addercoil_easy_to_track(number, row, track);
 }
 
-/* ---- The listing, each line into a buffer of ADDERCOIL_LINE chars ---- */
+/* ---- The listing: as a whole, or each line into a buffer of ADDERCOIL_LINE chars ---- */
+
+/*
+ * All of it, into text of ADDERCOIL_LISTING_BYTES(places) chars, of which *written are used; order has an entry for each
+ * place. How many places there are, the length of the table says.
+ */
+static inline uint32_t addercoil_easy_listing(struct addercoil_table table, uint64_t bad, int all, uint64_t *order,
+                                              char *text, uint64_t *written) {
+    addercoil_size head = ADDERCOIL_TABLE_BYTES(0);
+    addercoil_size places = table.length < head ? 0 : (table.length - head) / (ADDERCOIL_TABLE_BYTES(1) - head);
+    return addercoil_listing(table.bytes, table.length, bad, (uint32_t)all, order, places, (uint8_t *)text,
+                             ADDERCOIL_LISTING_BYTES(places), written, 1);
+}
 
 static inline uint32_t addercoil_easy_header(struct addercoil_table table, uint64_t bad, int all, char *line) {
     return addercoil_header(table.bytes, table.length, bad, (uint32_t)all, (uint8_t *)line, ADDERCOIL_LINE);

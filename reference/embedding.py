@@ -1,7 +1,7 @@
 """The C interface: what each function of include/addercoil.h answers, and what it leaves, by the model.
 
 Entries of an array stand where the header's enums say: the header is read for them, so a wrong index is a difference.
-A call is a line, as tests/c/call.h says: NAME [TABLE] [GIVEN] [LENGTH] NUMBER.. = ANSWER [RESULT] [TABLE].
+A call is a line, as tests/c/call.h says: NAME [TABLE] [GIVEN] [LENGTH] [ORDER WRITTEN] NUMBER.. = ANSWER [RESULT] [WRITTEN] [TABLE].
 """
 
 import re
@@ -371,6 +371,25 @@ def asks_for_all(table, every):
     return every % 2**32 == 1
 
 
+LISTED = 128  # bytes that a listing has room for, of each line and of the header
+
+
+def places_in(table):
+    """How many places bytes have room for behind the head, whether they are a table or not."""
+    return max(0, len(table) - tables.HEAD) // (tables.KEY + tables.BODY)
+
+
+def listing_bytes(table):
+    """How many bytes the listing of a table is given."""
+    return LISTED * (places_in(table) + 1)
+
+
+def listing(table, bad, every):
+    """The whole listing, then zeros; and the length of the text."""
+    text = captures.listing_of(table, bad, asks_for_all(table, every)).encode("ascii")
+    return text.ljust(listing_bytes(table), b"\0"), [len(text)]
+
+
 def header(table, bad, every):
     """The listing's first line."""
     return text_bytes(captures.header(table, bad, asks_for_all(table, every)) + "\n")
@@ -491,8 +510,9 @@ class Function(NamedTuple):
     answer: Callable
     table: str | None = None  # what it does with the table that it is lent
     given: int | None = None  # the size of an element of the array that it is given
-    length: int = 0  # how many elements its result array has
+    length: int | Callable = 0  # how many elements its result array has, or how many by the table
     result: int | None = None  # and of what size
+    besides: tuple = ()  # of what it is lent besides, words: how many, or how many by the table
 
 
 FUNCTIONS = {
@@ -510,6 +530,7 @@ FUNCTIONS = {
     "replay_at": Function(replay_at, None, BYTES, AT["TRACK"], WORDS),
     "replay_coarse": Function(replay_coarse, None, BYTES, AT["TRACK"], WORDS),
     "check": Function(check, READS, BYTES, 1, WORDS),  # it reads a capture in place of a table
+    "listing": Function(listing, READS, None, listing_bytes, BYTES, (places_in, 1)),  # order and written
     "header": Function(header, READS, None, AT["LINE"], BYTES),
     "line": Function(line, READS, None, AT["LINE"], BYTES),
     "feed_block": Function(feed_block, WRITES, BYTES, 1, WORDS),
@@ -545,28 +566,43 @@ def array_of(word, element):
     return [int.from_bytes(whole[at : at + element], "big") for at in range(0, len(whole), element)]
 
 
-def call_text(name, *, table=b"", given=(), length=0, numbers=()):
-    """The first half of a line: the call."""
+def lengths_due(function, table):
+    """How many elements its result array has, and what it is lent besides."""
+    return [due(table) if callable(due) else due for due in (function.length, *function.besides)]
+
+
+def call_text(name, *, table=b"", given=(), length=0, besides=(), numbers=()):
+    """The first half of a line: the call. The length is that of its result array; besides are those of what it is lent besides."""
     function = FUNCTIONS[name]
     words = [name]
     words += [array_text(table, BYTES)] if function.table else []
     words += [array_text(given, function.given)] if function.given else []
     words += [str(length)] if function.result else []
-    return " ".join([*words, *map(str, numbers)])
+    return " ".join([*words, *map(str, (*besides, *numbers))])
 
 
-def answered(function, length, arguments):
-    """The answer, and the elements of the result array after the call."""
+def fresh(length, element):
+    """An array before the call."""
+    return [int.from_bytes(bytes([FRESH]) * element, "big")] * length
+
+
+def arrays_left(function, left):
+    """The arrays of a call that is not refused, each with the size of an element: the result, and of a listing what was written."""
+    return [*zip(left, (function.result, WORDS))] if function.besides else [(left, function.result)] if function.result else []
+
+
+def answered(function, lengths, arguments):
+    """The answer, and each array of the outcome after the call, with the size of an element."""
     try:
-        if length != function.length:
+        if function.result and lengths != lengths_due(function, arguments[0] if function.table else b""):
             raise Refused(1)
-        return 0, function.answer(*arguments)
+        return 0, arrays_left(function, function.answer(*arguments))
     except Wrote as refusal:
-        return refusal.number, refusal.result
+        return refusal.number, arrays_left(function, refusal.result)
     except Refused as refusal:
-        fresh = int.from_bytes(bytes([FRESH]) * (function.result or 1), "big")
         before = arguments[-AT["STAMPS"] :] if function.answer is receive_stamp else []  # the array that is read too
-        return refusal.number, [*before, *[fresh] * length][:length]
+        left = [([*before, *fresh(length, function.result)][:length], function.result) for length in lengths[:1]]
+        return refusal.number, left + [(fresh(length, WORDS), WORDS) for length in lengths[2:]]  # of order nothing is said
 
 
 def outcome_text(call):
@@ -576,12 +612,11 @@ def outcome_text(call):
     table = bytearray(array_of(next(words), BYTES)) if function.table else None
     arguments = [table] if function.table else []
     arguments += [array_of(next(words), function.given)] if function.given else []
-    length = int(next(words)) if function.result else 0
+    lengths = [int(next(words)) for _ in (lengths_due(function, table or b"") if function.result else ())]
     arguments += map(int, words)
     if name in NUMBERS:
         return f"= {function.answer(*arguments)}"
-    answer, left = answered(function, length, arguments)
-    words = ["=", str(answer)]
-    words += [array_text(left, function.result)] if function.result else []
+    answer, left = answered(function, lengths, arguments)
+    words = ["=", str(answer), *(array_text(array, element) for array, element in left)]
     words += [array_text(table, BYTES)] if function.table == WRITES else []
     return " ".join(words)

@@ -18,7 +18,7 @@ import table as tables
 import traffic
 from captures import BLOCK, MOST_RECORDS, block, listing
 from captures import KINDS as LETTERS
-from embedding import AT, BYTES, FUNCTIONS, WORDS, WRITES, array_of, call_text, message_from, message_row, outcome_text, row
+from embedding import AT, BYTES, FUNCTIONS, WORDS, WRITES, array_of, call_text, lengths_due, message_from, message_row, outcome_text, places_in, row
 from positions import AIRBORNE, COARSE, COUNTS, EVEN, ODD
 from positions import encode as counts_of
 from once import once
@@ -39,8 +39,9 @@ from vectors.table_vectors import random_track, with_status
 
 CALLS = 1_000  # of each function
 RECEIVED = 20  # times as many of receive, so that tracks grow; and more of decode, me and look_up, for the sorts of message
-LISTED = ["header", "next", "line"]  # what a listing calls
+LISTED = ["listing", "header", "next", "line"]  # what shows a table line by line, or as a whole
 DOUBLED = 150  # of each of these, on tables that hold keys twice
+OTHERWISE = -1, 1  # by how much each array of a listing is too short, and too long
 OLD_LENGTHS = [("header", 97), ("line", 97), *(("look_up", length) for length in (23, 27, 57, 66))]  # of older headers, refused with 1
 REPLAYS = "replay", "replay_at", "replay_coarse"
 LATER = {"receive_stamp": 4_000, "degrees": 1_000, "from_degrees": 3_000, "version": 1}  # so many of these, behind all others
@@ -350,7 +351,7 @@ def numbers_for(name, chance, table):
         return [time_for(chance, table)]
     if name == "receive_stamp":
         return stamp_for(chance, table)
-    if name == "header":
+    if name in ("listing", "header"):
         return [number(chance), bit(chance)]
     if name == "feed_block":
         return [number(chance)]
@@ -409,10 +410,10 @@ def named(chance):
     yield from ((name, some_capture(chance) if name == "check" else pool.choose()) for name, count in LATER.items() for _ in range(count))
 
 
-def answered(chance, name, table, length):
+def answered(chance, name, table, length, *besides):
     """A call with a result array of this length, and what the model makes of it. What it leaves stays in the table."""
     given, numbers = given_for(name, chance, table), numbers_for(name, chance, table)
-    call = call_text(name, table=table, given=given, length=length, numbers=numbers)
+    call = call_text(name, table=table, given=given, length=length, besides=besides, numbers=numbers)
     outcome = outcome_text(call)
     if FUNCTIONS[name].table == WRITES:
         table[:] = array_of(outcome.split()[-1], BYTES)
@@ -431,10 +432,36 @@ def there_and_back(chance):
     yield encode, due
 
 
+def about_due(chance, name, table):
+    """The lengths of the arrays that a call writes; now and then one is wrong, of a listing 0, or too short or too long by one."""
+    due = lengths_due(FUNCTIONS[name], table)
+    if len(due) == 1:
+        return [about(chance, due[0])]
+    at = chance.randrange(10 * len(due))
+    return [max(0, length + chance.choice((-length, *OTHERWISE))) if at == place else length for place, length in enumerate(due)]
+
+
+def other_lengths(chance):
+    """Listings whose arrays are each too short and too long by one, of tables and of what is none, which gets 1 too; then with all as they must be."""
+    for made, place, more in product(listed_tables(chance), range(3), OTHERWISE):
+        lengths = lengths_due(FUNCTIONS["listing"], made)
+        lengths[place] = max(0, lengths[place] + more)
+        yield answered(chance, "listing", made, *lengths)
+    for made in listed_tables(chance):
+        yield answered(chance, "listing", made, *lengths_due(FUNCTIONS["listing"], made))
+
+
+def listed_tables(chance):
+    """Tables of 1, of some and of 1,024 places, of random bytes, and bytes that are none: empty, too short, not whole, of 1,025 places."""
+    yield from (random_tracks(chance, 1, 1), random_tracks(chance, 9, 12), random_bytes(chance), full(256), full(1024))
+    yield from (bytearray(length) for length in (0, 16, 101, 103, tables.length_of(1025)))
+
+
 def calls(chance):
     """The calls, each with what the model makes of it."""
     for name, table in named(chance):
-        yield answered(chance, name, table, about(chance, FUNCTIONS[name].length))
+        yield answered(chance, name, table, *about_due(chance, name, table))
+    yield from other_lengths(chance)
     for name, length in OLD_LENGTHS:
         yield answered(chance, name, random_tracks(chance), length)
     for _ in range(COARSE_MES):
@@ -457,7 +484,7 @@ PAPER |= {12: "NO_TRACK", 13: "OVERRUN", 14: "LOG", 15: "DEGREES", 16: "FORM"}
 READS = {0, 1, 7}
 NUMBERS = {
     **{name: READS for name in ("clock", "site", "next", "look_up", "feed_block")},
-    **{name: {*READS, 8} for name in ("header", "line")},
+    **{name: {*READS, 8} for name in ("listing", "header", "line")},
     **{"set_up": {0, 7}, "set_up_at": {0, 7, 8}, "receive": {0, 1, 2, 3, 4, 5, 6, 7, 12}},
     **{"receive_stamp": {0, 1, 2, 3, 4, 5, 6, 7, 8, 12, 13}},
     **{name: {0, 1, 8, 14} for name in REPLAYS},
@@ -720,14 +747,34 @@ def full_missing(asked):
 
 
 def doubled_missing(asked):
-    """For which choice no header was asked of a table in which a key is held twice."""
-    seen = set()
+    """For which choice no header, or no listing, was asked of a table in which a key is held twice."""
+    names, seen = ("header", "listing"), set()
     for call, outcome in asked:
         words = call.split()
-        if words[0] == "header" and outcome.startswith("= 0 "):
+        if words[0] in names and outcome.startswith("= 0 "):
             held = [one for one in tables.held_keys(array_of(words[1], BYTES)) if one is not None]
-            seen |= {words[-1]} if len(set(held)) < len(held) else set()
-    return {"0", "1"} - seen
+            seen |= {(words[0], words[-1])} if len(set(held)) < len(held) else set()
+    return {*product(names, ("0", "1"))} - seen
+
+
+def of_lengths(call, outcome):
+    """Of a listing: whether its table is one, by how much each of its three lengths is wrong, and its answer."""
+    _, hexed, *words = call.split()
+    made = array_of(hexed, BYTES)
+    wrong = tuple(int(word) - due for word, due in zip(words, lengths_due(FUNCTIONS["listing"], made)))
+    is_table = tables.length_of(1) <= len(made) <= tables.length_of(1024) and len(made) == tables.length_of(places_in(made))
+    return is_table, wrong, outcome.split()[1]
+
+
+def listings_missing(asked):
+    """Which array of a listing was never one too short, or too long, of a table or of what is none; what else it answers; all lines and none."""
+    listings = [(call, outcome) for call, outcome in asked if call.startswith("listing ")]
+    seen = {of_lengths(call, outcome) for call, outcome in listings}
+    seen |= {array_of(outcome.split()[2], BYTES).count(b"\n") for _, outcome in listings if outcome.startswith("= 0 ")}
+    wrong = [tuple(more if at == place else 0 for at in range(3)) for place in range(3) for more in OTHERWISE]
+    due = {(is_table, one, "1") for is_table in (False, True) for one in wrong}
+    due |= {(False, (0, 0, 0), "7"), (True, (0, 0, 0), "0"), (True, (0, 0, 0), "8")}
+    return (due | {1, 2, 257, 1_025}) - seen
 
 
 def for_structs(call):
@@ -743,7 +790,8 @@ def for_structs(call):
         return False
     if name in ("replay", "replay_at") and not (int(words[lent + 1]) < 2**7 and int(words[lent + 2]) < 2**24):
         return False
-    return not function.result or int(words[lent]) == function.length
+    due = lengths_due(function, array_of(words[0], BYTES) if function.table else b"")
+    return not function.result or [int(word) for word in words[lent : lent + len(due)]] == due
 
 
 def answers_otherwise(program, asked):
@@ -755,7 +803,10 @@ def answers_otherwise(program, asked):
 
 def fits_microbit(call):
     """Does a board with 16 KiB have room for a call? An array has 2,048 bytes at most, and a check has a table of its own on the stack."""
-    return not call.startswith("check ") and all(len(word) <= 2 * 2_048 for word in call.split())
+    name, *words = call.split()
+    if name == "check" or any(len(word) > 2 * 2_048 for word in words):
+        return False
+    return name != "listing" or (int(words[1]) <= 2_048 and int(words[2]) <= 2_048 // 128)
 
 
 def tried():
@@ -763,7 +814,7 @@ def tried():
     asked = list(calls(Random(12)))
     untried = [numbers_missing(asked), kinds_missing(asked), lost_missing(asked), traffic_missing(asked)]
     untried += [steps_missing(asked), shown_missing(asked), me_missing(asked), full_missing(asked), doubled_missing(asked)]
-    untried += [replays_missing(asked), status_missing(asked), coarse_missing(asked)]
+    untried += [replays_missing(asked), status_missing(asked), coarse_missing(asked), listings_missing(asked)]
     if header_faults() or any(untried):
         sys.exit(f"the header has other numbers than the paper, or these were never tried: {header_faults()} {untried}")
     return asked

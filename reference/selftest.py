@@ -1224,6 +1224,25 @@ def positioned():
     equal("all asked for", both[1][1:], ["I 000007 1400 - - - -", *both[0][1:]])
 
 
+def listings_lent():
+    """The listing as C has it: the text, its length, and zeros behind it; a key of two places once, by the lowest. 7 precedes 8."""
+    made, bad = captures.fold(make_samples.example())
+    for every in (0, 1):
+        equal("the paper's listing, lent", embedding.listing(made, bad, every), (LISTED.encode("ascii").ljust(128 * 257, b"\0"), [len(LISTED)]))
+    doubled = bytearray(lent_table.length_of(3))
+    lent_table.put(doubled, 0, 8, 9)
+    for place, (key, heard) in enumerate(((2**25 + 7, 5), (2**24 + 7, 6), (2**25 + 7, 8))):
+        lent_table.put(doubled, lent_table.key_at(place), 4, key)
+        lent_table.put(doubled, lent_table.body_at(doubled, place), 8, heard)
+    due = b"clock 9 tracks 2 bad-blocks 3\nI 000007 6 - - - -\nO 000007 5 - - - -\n"
+    equal("a key twice", embedding.listing(doubled, 3, 1), (due.ljust(128 * 4, b"\0"), [len(due)]))
+    none = b"clock 9 tracks 0 bad-blocks 3\n"
+    equal("none with a position", embedding.listing(doubled, 3, 0), (none.ljust(128 * 4, b"\0"), [len(none)]))
+    refused(8, embedding.listing, doubled, 3, 2)
+    refused(7, embedding.listing, doubled[1:], 3, 2)
+    equal("places", [embedding.places_in(bytes(length)) for length in (0, 15, 16, 101, 102, 187, 188, 88_080, 88_166)], [0, 0, 0, 0, 1, 1, 2, 1_024, 1_025])
+
+
 def random_captures():
     """Among the records of the random captures are TYPE 0s, status, and CF 2, 3 and 5, that are accepted, and some that earn 12 or 5."""
     chance, seen = Random(11), set()
@@ -1464,6 +1483,7 @@ TESTS = [
     swept_tables,
     listings,
     positioned,
+    listings_lent,
     random_captures,
     blocks,
     receiver_lines,

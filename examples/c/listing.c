@@ -11,7 +11,9 @@
 #include <stdio.h>
 #include <stdlib.h>
 
-static uint8_t table[ADDERCOIL_TABLE_BYTES(256)];
+enum { PLACES = 256 };
+
+static uint8_t table[ADDERCOIL_TABLE_BYTES(PLACES)];
 
 static int digit(int c) {
     return isdigit(c) ? c - '0' : tolower(c) - 'a' + 10;
@@ -66,15 +68,11 @@ static int number_in(const char *word, unsigned long long most, uint64_t *number
 
 /* The listing; whether it could be written. */
 static int print_listing(uint32_t all) {
-    uint8_t text[ADDERCOIL_LINE];
-    uint64_t key[1] = {0};
-    addercoil_header(table, sizeof table, 0, all, text, sizeof text);
-    fputs((const char *)text, stdout);
-    while (addercoil_next(table, sizeof table, (uint32_t)key[0], key, 1) == ADDERCOIL_OK && key[0] != 0) {
-        addercoil_line(table, sizeof table, (uint32_t)key[0], all, text, sizeof text);
-        fputs((const char *)text, stdout);
-    }
-    return fflush(stdout) == 0 && !ferror(stdout);
+    static uint8_t text[ADDERCOIL_LISTING_BYTES(PLACES)];
+    static uint64_t order[PLACES]; /* where the keys are sorted */
+    uint64_t written[1] = {0};
+    addercoil_listing(table, sizeof table, 0, all, order, PLACES, text, sizeof text, written, 1);
+    return fwrite(text, 1, written[0], stdout) == written[0] && fflush(stdout) == 0;
 }
 
 int main(int count, char **arguments) {

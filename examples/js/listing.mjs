@@ -16,12 +16,12 @@ if (path === undefined || !isStep || !["0", "1"].includes(all) || more.length > 
 const { instance } = await WebAssembly.instantiate(readFileSync(path), {});
 const library = instance.exports;
 
-// What is lent lies above what is the module's own: a message, a key of 64 bits, a line of text, and the table
-const MESSAGE = 14, LINE = 129n; // ADDERCOIL_MESSAGE and ADDERCOIL_LINE of the header
-const size = library.addercoil_table_bytes(256n);
+// What is lent lies above what is the module's own: a message, the length of the text, the order of the keys, the table, and the text
+const MESSAGE = 14, PLACES = 256; // ADDERCOIL_MESSAGE of the header
+const size = Number(library.addercoil_table_bytes(BigInt(PLACES))), most = 128 * (PLACES + 1); // ADDERCOIL_LISTING_BYTES
 const message = Math.ceil(library.__heap_base.value / 8) * 8;
-const key = message + 16, text = key + 8, table = text + Number(LINE);
-library.memory.grow(Math.ceil(Number(size) / 65536) + 1);
+const written = message + 16, order = written + 8, table = order + 8 * PLACES, text = table + size;
+library.memory.grow(Math.ceil((text + most - message) / 65536) + 1);
 const bytes = Buffer.from(library.memory.buffer);
 
 // The bytes of a line, one more than a message has at most; half a byte makes a line of no message's length
@@ -30,30 +30,16 @@ function bytesOf(line) {
     return digits.length % 2 === 0 ? Buffer.from(digits, "hex") : Buffer.alloc(MESSAGE + 1);
 }
 
-function printed() {
-    const whole = bytes.subarray(text, text + Number(LINE));
-    process.stdout.write(whole.subarray(0, whole.indexOf(0)));
-}
-
-library.addercoil_set_up(table, size);
+library.addercoil_set_up(table, BigInt(size));
 let time = 0n, refused = 0;
 for await (const line of createInterface({ input: process.stdin })) {
     const received = bytesOf(line);
     received.copy(bytes, message);
-    if (library.addercoil_receive(table, size, message, BigInt(received.length), time) !== 0) {
+    if (library.addercoil_receive(table, BigInt(size), message, BigInt(received.length), time) !== 0) {
         refused++;
     }
     time += BigInt(step);
 }
 console.error(`${refused} refused`);
-library.addercoil_header(table, size, 0n, Number(all), text, LINE);
-printed();
-for (let held = 0n; ; ) {
-    library.addercoil_next(table, size, Number(held), key, 1n);
-    held = bytes.readBigUInt64LE(key);
-    if (held === 0n) {
-        break;
-    }
-    library.addercoil_line(table, size, Number(held), Number(all), text, LINE);
-    printed();
-}
+library.addercoil_listing(table, BigInt(size), 0n, Number(all), order, BigInt(PLACES), text, BigInt(most), written, 1n);
+process.stdout.write(bytes.subarray(text, text + Number(bytes.readBigUInt64LE(written))));

@@ -18,6 +18,7 @@ const struct shape shapes[FUNCTIONS] = {
     {"replay", NO_TABLE, BYTES, 2, WORDS},
     {"replay_at", NO_TABLE, BYTES, 4, WORDS},
     {"replay_coarse", NO_TABLE, BYTES, 3, WORDS},
+    {"listing", READS_TABLE, NOTHING, 2, BYTES},
     {"header", READS_TABLE, NOTHING, 2, BYTES},
     {"line", READS_TABLE, NOTHING, 2, BYTES},
     {"feed_block", WRITES_TABLE, BYTES, 1, WORDS},
@@ -35,12 +36,14 @@ const struct shape shapes[FUNCTIONS] = {
     {"me", NO_TABLE, NOTHING, 2, WORDS},
 };
 
-static struct lent table, given, result;
+static struct lent table, given, result, order, written;
 
 void call_open(void) {
-    lent_open(&table);
-    lent_open(&given);
-    lent_open(&result);
+    lent_open(&table, LENT_MOST);
+    lent_open(&given, LENT_MOST);
+    lent_open(&result, LENT_MOST);
+    lent_open(&order, LENT_ORDER);
+    lent_open(&written, LENT_WRITTEN);
 }
 
 /* Lends a copy of the bytes. */
@@ -80,6 +83,17 @@ static uint8_t byte_before(const struct call *call, size_t i) {
     return ((const uint8_t *)(call->numbers + 1))[i];
 }
 
+/* Whether a lent array is as it was before the call. */
+static int is_fresh(const struct lent *lent) {
+    size_t i;
+    for (i = 0; i < lent->size; i++) {
+        if (lent->at[i] != FRESH) {
+            return 0;
+        }
+    }
+    return 1;
+}
+
 static int result_left(const struct call *call) {
     size_t i;
     for (i = 0; i < result.size; i++) {
@@ -87,7 +101,7 @@ static int result_left(const struct call *call) {
             return 0;
         }
     }
-    return 1;
+    return is_fresh(&order) && is_fresh(&written);
 }
 
 /* Whether a call that answers so may have written its result: an accepted stamp is written, whatever its message earns.
@@ -98,7 +112,8 @@ static int result_written(const struct call *call, uint64_t answer) {
 
 /* What a call may not do, whatever it answers. */
 static const char *fault_of(const struct call *call, uint64_t answer) {
-    if (!lent_untouched(&table) || !lent_untouched(&given) || !lent_untouched(&result)) {
+    if (!lent_untouched(&table) || !lent_untouched(&given) || !lent_untouched(&result) || !lent_untouched(&order) ||
+        !lent_untouched(&written)) {
         return "bytes beside a lent array were written";
     }
     if (!same(&given, call->given, call->given_size, 0)) {
@@ -113,9 +128,19 @@ static const char *fault_of(const struct call *call, uint64_t answer) {
     return NULL;
 }
 
+/* Lends an array of words that hold nothing yet. */
+static uint64_t *lend_words(struct lent *lent, size_t length, const struct call *call) {
+    void *at = lend(lent, length * WORDS, call->below, call->null);
+    if (length != 0) {
+        memset(at, FRESH, length * WORDS);
+    }
+    return at;
+}
+
 struct outcome call_make(const struct call *call) {
     const struct shape *shape = &shapes[call->function];
     size_t size = call->result_length * shape->result, i;
+    struct call with = *call;
     struct outcome outcome;
     lend_copy(&table, call->table, call->table_size, call);
     lend_copy(&given, call->given, call->given_size, call);
@@ -123,9 +148,12 @@ struct outcome call_make(const struct call *call) {
     for (i = 0; i < size; i++) {
         result.at[i] = byte_before(call, i);
     }
-    outcome.answer = call_by(call, table.at, given.at, result.at);
+    with.order = lend_words(&order, call->order_length, call);
+    with.written = lend_words(&written, call->written_length, call);
+    outcome.answer = call_by(&with, table.at, given.at, result.at);
     outcome.table = table.at;
     outcome.result = result.at;
+    outcome.written = written.at;
     outcome.fault = fault_of(call, outcome.answer);
     return outcome;
 }
@@ -184,6 +212,12 @@ void call_write(const struct call *call) {
         host_put(' ');
         put_number(call->result_length);
     }
+    if (call->function == LISTING) {
+        host_put(' ');
+        put_number(call->order_length);
+        host_put(' ');
+        put_number(call->written_length);
+    }
     for (i = 0; i < shape->numbers; i++) {
         host_put(' ');
         put_number(call->numbers[i]);
@@ -197,6 +231,9 @@ void outcome_write(const struct call *call, const struct outcome *outcome) {
     put_number(outcome->answer);
     if (shape->result != NOTHING) {
         hex_array(outcome->result, call->result_length * shape->result, shape->result);
+    }
+    if (call->function == LISTING) {
+        hex_array(outcome->written, call->written_length * WORDS, WORDS);
     }
     if (shape->table == WRITES_TABLE) {
         hex_array(outcome->table, call->table_size, BYTES);

@@ -2,12 +2,13 @@
  * A call of any function of addercoil.h as a value, so that a script or a die can choose it. It is made with guards
  * around everything lent, and it can be written as a line that the model reads:
  *
- *     NAME [TABLE] [GIVEN] [LENGTH] NUMBER.. = ANSWER [RESULT] [TABLE]
+ *     NAME [TABLE] [GIVEN] [LENGTH] [ORDER WRITTEN] NUMBER.. = ANSWER [RESULT] [WRITTEN] [TABLE]
  *
  * TABLE and GIVEN are what is lent, in hex, of a check the capture and the listing; LENGTH is how many elements the
- * result array has, NUMBERs are in decimal. A double is its bit pattern, as a NUMBER and in a result array. Behind the
- * = stand the answer, the result array, and the table where it is lent to be written. Elements of 64 bits are 16 digits
- * each; nothing at all is "-".
+ * result array has, NUMBERs are in decimal. A listing has two arrays more, and ORDER and WRITTEN before the = are how
+ * many elements they have. A double is its bit pattern, as a NUMBER and in a result array. Behind the = stand the
+ * answer, the result array, of a listing what was written, and the table where it is lent to be written; never order,
+ * of which only a refusal says what it leaves. Elements of 64 bits are 16 digits each; nothing at all is "-".
  */
 #ifndef CALL_H
 #define CALL_H
@@ -32,6 +33,7 @@ enum function {
     REPLAY,
     REPLAY_AT,
     REPLAY_COARSE,
+    LISTING,
     HEADER,
     LINE,
     FEED_BLOCK,
@@ -56,7 +58,7 @@ enum table_use { NO_TABLE, READS_TABLE, WRITES_TABLE };
 #define MOST_NUMBERS 6
 
 /* The arrays that a call may be lent. */
-enum array { TABLE_ARRAY, GIVEN_ARRAY, RESULT_ARRAY, ARRAYS };
+enum array { TABLE_ARRAY, GIVEN_ARRAY, RESULT_ARRAY, ORDER_ARRAY, WRITTEN_ARRAY, ARRAYS };
 
 /* What a function is lent. */
 struct shape {
@@ -79,6 +81,10 @@ struct call {
     uint8_t *given;
     size_t given_size;
     size_t result_length; /* elements */
+    size_t order_length;  /* of a listing; of all others there are none */
+    size_t written_length;
+    uint64_t *order; /* these two, while the call is made */
+    uint64_t *written;
     uint64_t numbers[MOST_NUMBERS];
     size_t below;          /* how far the lent arrays end below a forbidden page, a multiple of 8 */
     int null;              /* whether an empty array is the null pointer */
@@ -90,6 +96,7 @@ struct outcome {
     uint64_t answer;
     const uint8_t *table;
     const uint8_t *result;
+    const uint8_t *written;
     const char *fault; /* what was touched that must not be, or null */
 };
 

@@ -10,7 +10,7 @@ enum { DEEPEST = 49152, ROOM = 256, LINES = (DEEPEST - ROOM) / 8 };
 
 #define PAINT 0xC3C3C3C3C3C3C3C3u
 
-static uint64_t result[LENT_MOST / WORDS];
+static uint64_t result[LENT_MOST / WORDS], order[LENT_ORDER / WORDS], written[LENT_WRITTEN / WORDS];
 static size_t depths[FUNCTIONS];
 static size_t painted; /* how much is painted, from below, in elements */
 
@@ -34,7 +34,10 @@ int main(void) {
     unsigned long number;
     int i;
     for (number = 1; line_read(&call, number); number++) {
-        size_t depth = depth_of(&call);
+        size_t depth;
+        call.order = order;
+        call.written = written;
+        depth = depth_of(&call);
         depths[call.function] = depth > depths[call.function] ? depth : depths[call.function];
     }
     for (i = 0; i < FUNCTIONS; i++) {

@@ -32,6 +32,10 @@ static uint64_t with_table(const struct call *call, uint8_t *t, const uint8_t *g
         return addercoil_next(t, size, (uint32_t)n[0], words, length);
     case LOOK_UP:
         return addercoil_look_up(t, size, (uint32_t)n[0], words, length);
+    case LISTING:
+        return addercoil_listing(t, size, n[0], (uint32_t)n[1], call->order,
+                                 call->order_length + call->more[ORDER_ARRAY], result, length, call->written,
+                                 call->written_length + call->more[WRITTEN_ARRAY]);
     case HEADER:
         return addercoil_header(t, size, n[0], (uint32_t)n[1], result, length);
     case LINE:

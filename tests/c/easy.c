@@ -413,6 +413,8 @@ static uint32_t with_table(const struct call *call, struct addercoil_table t, co
         return next(t, (uint32_t)n[0], row);
     case LOOK_UP:
         return look_up(t, (uint32_t)n[0], row);
+    case LISTING:
+        return addercoil_easy_listing(t, n[0], (int)n[1], call->order, (char *)result, call->written);
     case HEADER:
         return addercoil_easy_header(t, n[0], (int)n[1], (char *)result);
     case LINE:

@@ -5,8 +5,8 @@
 
 enum { GUARDS = LENT_GUARDS, GUARD = 0x5C };
 
-void lent_open(struct lent *lent) {
-    lent->end = host_memory(GUARDS + LENT_MOST + GUARDS) + GUARDS + LENT_MOST + GUARDS;
+void lent_open(struct lent *lent, size_t most) {
+    lent->end = host_memory(GUARDS + most + GUARDS) + GUARDS + most + GUARDS;
     lent->at = NULL;
     lent->size = 0;
 }

@@ -8,10 +8,15 @@
 #include <stddef.h>
 #include <stdint.h>
 
-/* The most bytes that can be lent: more than the largest table has, unless a small board has less. */
+/* The most bytes that can be lent: more than the largest listing has, unless a small board has less. */
 #ifndef LENT_MOST
-#define LENT_MOST 98304
+#define LENT_MOST 139264
 #endif
+
+/* The most bytes of what a listing is lent besides: 8 for each line that there is room for, and a few where 8 are due.
+ */
+#define LENT_ORDER (LENT_MOST / 128 * 8)
+#define LENT_WRITTEN 64
 
 /* The most bytes of guards before what is lent, and behind it. */
 #define LENT_GUARDS 64
@@ -22,8 +27,8 @@ struct lent {
     size_t size;  /* its bytes */
 };
 
-/* Gets the memory, once. */
-void lent_open(struct lent *lent);
+/* Gets the memory, once, for so many bytes at most. */
+void lent_open(struct lent *lent, size_t most);
 
 /*
  * Lends so many bytes, which end so many bytes below the forbidden page, 64 at most. A size of 0 lends the null pointer

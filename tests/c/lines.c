@@ -63,6 +63,15 @@ static uint64_t read_number(unsigned long number) {
     return read;
 }
 
+/* How many elements an array has that the call writes, so many at most. */
+static size_t read_length(size_t most, unsigned long number) {
+    uint64_t length = read_number(number);
+    if (length > most) {
+        line_fault("an array that cannot be lent", number, 2);
+    }
+    return (size_t)length;
+}
+
 static enum function read_function(unsigned long number) {
     char name[64];
     size_t size = 0;
@@ -96,9 +105,10 @@ int line_read(struct call *call, unsigned long number) {
     shape = &shapes[call->function];
     call->table_size = shape->table == NO_TABLE ? 0 : read_array(table, BYTES, number);
     call->given_size = shape->given == NOTHING ? 0 : read_array(given, shape->given, number);
-    call->result_length = shape->result == NOTHING ? 0 : read_number(number);
-    if (call->result_length > LENT_MOST / WORDS) {
-        line_fault("a result array that cannot be lent", number, 2);
+    call->result_length = shape->result == NOTHING ? 0 : read_length(LENT_MOST / shape->result, number);
+    if (call->function == LISTING) {
+        call->order_length = read_length(LENT_ORDER / WORDS, number);
+        call->written_length = read_length(LENT_WRITTEN / WORDS, number);
     }
     for (i = 0; i < shape->numbers; i++) {
         call->numbers[i] = read_number(number);

@@ -3,8 +3,9 @@
  * works the tracks of 1,000 runs out again from their logs, which the tables must have unless they were full. Then it
  * makes so many calls, the same for the same seed and compiler: random bytes, valid messages and damaged ones, times at
  * the edges of 64 bits, tables of bad lengths, of random bytes, and full ones, result arrays of wrong lengths. After
- * each of these it looks at the guards of all that was lent, and at what must be as it was. At a fault it names the
- * call and ends with 1. One call in EVERY is written as a line of call.h, for the model to answer too.
+ * each of these it looks at the guards of all that was lent, and at what must be as it was; and a whole listing must be
+ * what its lines are one by one. At a fault it names the call and ends with 1. One call in EVERY is written as a line
+ * of call.h, for the model to answer too.
  */
 #include "call.h"
 #include "host.h"
@@ -195,6 +196,12 @@ static void fill_places(uint8_t *table, size_t places) {
     }
 }
 
+/* Two places with one key, which no set-up makes. */
+static void double_key(uint8_t *table, size_t places) {
+    size_t from = below(places), to = below(places);
+    memcpy(table + 16 + 4 * to, table + 16 + 4 * from, 4);
+}
+
 /* Lengths that no table has, or any length at all. */
 static size_t bad_length(void) {
     size_t whole = ADDERCOIL_TABLE_BYTES(1 + below(6));
@@ -217,6 +224,8 @@ static void choose_table(struct call *call) {
         call->table[at] = (uint8_t)ONE_OF(0, 1, 2, 3, 255, below(256));
     } else if (kind == 5) {
         fill_places(call->table, live_places[which]);
+    } else if (kind == 6) {
+        double_key(call->table, live_places[which]);
     }
 }
 
@@ -240,6 +249,25 @@ static enum function choose_function(void) {
 /* A length that is right, or often one that is near it. */
 static size_t about(size_t length) {
     return below(16) != 0 ? length : ONE_OF(0, 1, 2, length - 1, length + 1, below(200));
+}
+
+/* How many places the bytes of a table have room for, whether it is one or not. */
+static size_t places_in(const struct call *call) {
+    return call->table_size < 16 ? 0 : (call->table_size - 16) / 86;
+}
+
+/* About this length, and no more than can be lent. */
+static size_t about_at_most(size_t length, size_t most) {
+    size_t made = about(length);
+    return made < most ? made : most;
+}
+
+/* The lengths of the three arrays of a listing. */
+static void listing_lengths(struct call *call) {
+    size_t places = places_in(call);
+    call->result_length = about_at_most(ADDERCOIL_LISTING_BYTES(places), LENT_MOST);
+    call->order_length = about_at_most(places, LENT_ORDER / WORDS);
+    call->written_length = about_at_most(1, LENT_WRITTEN / WORDS);
 }
 
 static size_t result_length(enum function function) {
@@ -306,32 +334,39 @@ static size_t make_log(uint64_t time) {
 
 /* ---- Checks: a capture in the place of a table, and a listing of it ---- */
 
-/* One line more in given, and how much then stands there: 256 lines have room. */
-static size_t put_line(size_t size, const uint8_t *line) {
+/* One line more in a text, and how much then stands there. */
+static size_t put_line(uint8_t *text, size_t size, const uint8_t *line) {
     size_t length = strlen((const char *)line);
-    memcpy(given + size, line, length);
+    memcpy(text + size, line, length);
     return size + length;
+}
+
+/* The lines of a table one by one, as a text that has room for them, and how many bytes they are. */
+static size_t make_lines(const uint8_t *table, size_t size, uint64_t bad, uint32_t all, uint8_t *text) {
+    uint8_t line[ADDERCOIL_LINE];
+    uint64_t key = 0;
+    size_t made;
+    addercoil_header(table, size, bad, all, line, sizeof line);
+    made = put_line(text, 0, line);
+    while (addercoil_next(table, size, (uint32_t)key, &key, 1) == ADDERCOIL_OK && key != 0) {
+        addercoil_line(table, size, (uint32_t)key, all, line, sizeof line);
+        made = put_line(text, made, line);
+    }
+    return made;
 }
 
 /* Our own listing of a capture, by the other functions. */
 static size_t make_listing(const uint8_t *capture, size_t size) {
     static uint8_t table[ADDERCOIL_TABLE_BYTES(256)];
-    uint8_t line[ADDERCOIL_LINE];
-    uint64_t bad = 0, key = 0;
-    size_t at, made;
+    uint64_t bad = 0;
+    size_t at;
     addercoil_set_up(table, sizeof table);
     for (at = 0; at < size; at += ADDERCOIL_BLOCK) {
         size_t left = size - at;
         addercoil_feed_block(table, sizeof table, capture + at, left < ADDERCOIL_BLOCK ? left : ADDERCOIL_BLOCK, bad,
                              &bad, 1);
     }
-    addercoil_header(table, sizeof table, bad, 1, line, sizeof line);
-    made = put_line(0, line);
-    while (addercoil_next(table, sizeof table, (uint32_t)key, &key, 1) == ADDERCOIL_OK && key != 0) {
-        addercoil_line(table, sizeof table, (uint32_t)key, 1, line, sizeof line);
-        made = put_line(made, line);
-    }
-    return made;
+    return make_lines(table, sizeof table, bad, 1, given);
 }
 
 /* A capture of a few blocks, now and then of any bytes. */
@@ -456,12 +491,13 @@ static uint64_t make_number(enum function function, int i, uint64_t time) {
             return number();
         }
         return i == 0 ? ADDERCOIL_KEY_AA(key) : i == 1 ? below(2) : make_station();
+    case LISTING:
     case HEADER:
     case LINE:
         if (i == 1) {
             return below(16) == 0 ? number() : below(2);
         }
-        return function == HEADER || below(8) == 0 ? number() : key;
+        return function != LINE || below(8) == 0 ? number() : key;
     case ME:
         if (i == 0) {
             return below(8) == 0 ? number() : any() >> 8;
@@ -506,7 +542,11 @@ static struct call make_call(void) {
         time = make_time(call.table_size < 8 ? 0 : clock_of(call.table));
     }
     call.given_size = call.function == CHECK ? make_text(&call) : make_given(call.function, time);
-    call.result_length = shape->result == NOTHING ? 0 : result_length(call.function);
+    if (call.function == LISTING) {
+        listing_lengths(&call);
+    } else {
+        call.result_length = shape->result == NOTHING ? 0 : result_length(call.function);
+    }
     for (i = 0; i < shape->numbers; i++) {
         call.numbers[i] = make_number(call.function, i, time);
     }
@@ -681,6 +721,7 @@ static int replays(void) {
 
 static unsigned long made;           /* calls */
 static unsigned long longer[ARRAYS]; /* good calls that were tried with a longer length of an array */
+static unsigned long listed;         /* whole listings that were compared with their lines */
 
 /* A page that nobody may touch was touched. */
 static void on_touch(int number) {
@@ -728,7 +769,9 @@ static const char *longer_fault(const struct call *call, enum array array, int g
 /* Whether an array of a call may be said to be longer: of a check the two texts are read, however long they are. */
 static int has_array(const struct call *call, enum array array) {
     const struct shape *shape = &shapes[call->function];
-    int lent[ARRAYS] = {shape->table != NO_TABLE, shape->given != NOTHING, shape->result != NOTHING};
+    int is_listing = call->function == LISTING;
+    int lent[ARRAYS] = {shape->table != NO_TABLE, shape->given != NOTHING, shape->result != NOTHING, is_listing,
+                        is_listing};
     return lent[array] && (call->function != CHECK || array == RESULT_ARRAY);
 }
 
@@ -744,11 +787,32 @@ static const char *try_longer(const struct call *call) {
     return longer_fault(call, array, good);
 }
 
+/* What is wrong with a listing that was made, or NULL: the lines one by one are the text, and behind it are zeros. */
+static const char *listing_fault(const struct call *call, const struct outcome *outcome) {
+    static uint8_t due[LENT_MOST];
+    uint32_t all = (uint32_t)call->numbers[1];
+    size_t size;
+    uint64_t written;
+    if (call->function != LISTING || outcome->answer != ADDERCOIL_OK) {
+        return NULL;
+    }
+    size = make_lines(call->table, call->table_size, call->numbers[0], all, due);
+    memset(due + size, 0, call->result_length - size);
+    memcpy(&written, outcome->written, sizeof written);
+    listed += 1;
+    return written == size && memcmp(outcome->result, due, call->result_length) == 0
+               ? NULL
+               : "a listing is not what its lines are one by one";
+}
+
 /* One call; whether it was without a fault. */
 static int one_call(unsigned long every) {
     struct call call = make_call();
     const char *fault = try_longer(&call);
     struct outcome outcome = call_make(&call);
+    if (fault == NULL) {
+        fault = listing_fault(&call, &outcome);
+    }
     if (fault != NULL) {
         outcome.fault = fault;
     }
@@ -764,6 +828,17 @@ static int one_call(unsigned long every) {
         memcpy(call.table, outcome.table, call.table_size);
     }
     return 1;
+}
+
+/* Whether there was a listing, and each array was said to be longer in a good call. */
+static int all_tried(void) {
+    int array;
+    for (array = 0; array < ARRAYS; array++) {
+        if (longer[array] == 0) {
+            return 0;
+        }
+    }
+    return listed != 0;
 }
 
 int main(int count, char **words) {
@@ -785,9 +860,11 @@ int main(int count, char **words) {
             host_end(1);
         }
     }
+    fprintf(stderr, "%lu whole listings: each is what its lines are one by one\n", listed);
     fprintf(stderr,
-            "%lu, %lu and %lu good calls with 2^32 more for a length, of a table, what is given, a result: refused\n",
-            longer[TABLE_ARRAY], longer[GIVEN_ARRAY], longer[RESULT_ARRAY]);
-    host_end(longer[TABLE_ARRAY] == 0 || longer[GIVEN_ARRAY] == 0 || longer[RESULT_ARRAY] == 0);
+            "%lu, %lu, %lu, %lu and %lu good calls with 2^32 more for a length, of a table, what is given, a result, "
+            "order and written: refused\n",
+            longer[TABLE_ARRAY], longer[GIVEN_ARRAY], longer[RESULT_ARRAY], longer[ORDER_ARRAY], longer[WRITTEN_ARRAY]);
+    host_end(all_tried() ? 0 : 1);
     return 0;
 }

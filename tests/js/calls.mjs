@@ -8,15 +8,22 @@ import { readFileSync, writeSync } from "node:fs";
 import { createInterface } from "node:readline";
 
 const [path, word] = process.argv.slice(2);
-const MOST = 98304; // bytes of an array
+const MOST = 139264; // bytes of an array
 const GUARDS = 64, GUARD = 0x5c, FRESH = 0xa5, PAINT = 0xc3;
+const ROLES = ["table", "given", "result", "order", "written"]; // what is lent, each in its place
+const PLACE = MOST + 2 * GUARDS;
 const { instance } = await WebAssembly.instantiate(readFileSync(path), {});
 const library = instance.exports;
 const base = library.__heap_base.value + 65536 - (library.__heap_base.value % 65536);
-library.memory.grow((base - library.memory.buffer.byteLength) / 65536 + 8);
+library.memory.grow(Math.ceil((base + ROLES.length * PLACE - library.memory.buffer.byteLength) / 65536));
 const memory = Buffer.from(library.memory.buffer);
 
-// The functions of the header, each with its parameters: the arrays in the order table, given, result, and numbers
+// The role of an array, by its name or by whether it is only read
+function roleOf(name, isRead) {
+    return ["table", "capture"].includes(name) ? "table" : isRead ? "given" : ["order", "written"].includes(name) ? name : "result";
+}
+
+// The functions of the header, each with its parameters: arrays, by their roles, and numbers
 function functions() {
     const text = readFileSync(new URL("../../include/addercoil.h", import.meta.url), "ascii").replace(/\/\*[^]*?\*\//g, "");
     const found = {};
@@ -26,7 +33,7 @@ function functions() {
             const array = parameter.match(/^(const )?(uint8_t|uint64_t|double) \*(\w+)$/);
             const size = array && (array[2] === "uint8_t" ? 1 : 8);
             if (array) {
-                const role = ["table", "capture"].includes(array[3]) ? "table" : array[1] ? "given" : "result";
+                const role = roleOf(array[3], array[1]);
                 shape[role] = { size, writes: !array[1] };
                 shape.parameters.push({ role });
             } else if (!parameter.endsWith("_len") && parameter !== "void") {
@@ -42,9 +49,9 @@ function functions() {
 const turned = (bytes, size) => (size === 8 ? Buffer.from(bytes).swap64() : Buffer.from(bytes));
 const text = (bytes, size) => (bytes.length ? turned(bytes, size).toString("hex") : "-");
 
-// Lends bytes in one of three places, between guards
-function lend(place, bytes) {
-    const at = base + 131072 * place + GUARDS;
+// Lends bytes in the place of their role, between guards
+function lend(role, bytes) {
+    const at = base + PLACE * ROLES.indexOf(role) + GUARDS;
     memory.fill(GUARD, at - GUARDS, at);
     bytes.copy(memory, at);
     memory.fill(GUARD, at + bytes.length, at + bytes.length + GUARDS);
@@ -72,19 +79,20 @@ function fault(why, line) {
 // The arrays of a call, each at its place; of the result array its first entries are the NUMBERs that no parameter takes
 function lentFor(shape, words) {
     const lent = {};
-    for (const [place, role] of ["table", "given"].entries()) {
+    for (const role of ["table", "given"]) {
         if (shape[role]) {
             const word = words.shift();
-            lent[role] = lend(place, turned(Buffer.from(word === "-" ? "" : word, "hex"), shape[role].size));
+            lent[role] = lend(role, turned(Buffer.from(word === "-" ? "" : word, "hex"), shape[role].size));
         }
     }
-    const length = shape.result ? Number(words.shift()) : 0;
+    const written = ["result", "order", "written"].filter((role) => shape[role]);
+    const lengths = written.map(() => Number(words.shift()));
     const entries = words.slice(shape.parameters.filter((one) => one.number).length);
-    if (shape.result) {
-        const bytes = Buffer.alloc(length * shape.result.size, FRESH);
-        const before = Buffer.concat(entries.map((entry) => { const one = Buffer.alloc(8); one.writeBigUInt64LE(BigInt(entry)); return one; }));
+    const before = Buffer.concat(entries.map((entry) => { const one = Buffer.alloc(8); one.writeBigUInt64LE(BigInt(entry)); return one; }));
+    for (const [index, role] of written.entries()) {
+        const bytes = Buffer.alloc(lengths[index] * shape[role].size, FRESH);
         before.copy(bytes);
-        lent.result = lend(2, bytes);
+        lent[role] = lend(role, bytes);
     }
     return lent;
 }
@@ -102,17 +110,22 @@ function call(line, shapes) {
         }
     }
     const answer = library[`addercoil_${name}`](...given);
+    const number = typeof answer === "bigint" ? BigInt.asUintN(64, answer) : answer >>> 0;
+    const isLeftAsItWas = (role) => lent[role].bytes.compare(memory, lent[role].at, lent[role].at + lent[role].bytes.length) === 0;
+    if (lent.order && number !== 0 && !isLeftAsItWas("order")) {
+        fault("a call that refused wrote its order", line);
+    }
     for (const [role, { at, bytes }] of Object.entries(lent)) {
         if (bytes.length > MOST || !isLeft(at - GUARDS, GUARDS) || !isLeft(at + bytes.length, GUARDS)) {
             fault("bytes beside a lent array were written", line);
         }
-        if (!shape[role].writes && bytes.compare(memory, at, at + bytes.length) !== 0) {
+        if (!shape[role].writes && !isLeftAsItWas(role)) {
             fault("an array lent to be read was written", line);
         }
     }
     const now = (role) => ` ${text(memory.subarray(lent[role].at, lent[role].at + lent[role].bytes.length), shape[role].size)}`;
-    const number = typeof answer === "bigint" ? BigInt.asUintN(64, answer) : answer >>> 0;
-    return { name, text: `= ${number}${shape.result ? now("result") : ""}${shape.table?.writes ? now("table") : ""}\n` };
+    const arrays = ["result", "written"].filter((role) => shape[role]).map(now).join("");
+    return { name, text: `= ${number}${arrays}${shape.table?.writes ? now("table") : ""}\n` };
 }
 
 const shapes = functions();

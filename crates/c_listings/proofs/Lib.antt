@@ -1,3 +1,4 @@
+pub mod Listed
 pub mod Printed
 pub mod Checked
 pub mod Ordered

@@ -34,7 +34,8 @@ use Rattle.addercoil.specs.Tables.{nextSaid}
 use Rattle.addercoil.proofs.Laws.{some-number}
 use Rattle.display.specs.Lines.{lineBuffer, chosen, linesSaid, headerSaid, lineSaid}
 use Rattle.c_listings.specs.Calls.{Header, Line, Next}
-use Rattle.c_listings.specs.Prints.{textOf, Lines, Lines.last, Lines.line, Prints, Prints.prints}
+use Rattle.c_listings.specs.Prints.{textOf, Lines, Lines.last, Lines.line, Prints, Prints.prints, Prints.at-once}
+use Rattle.c_listings.proofs.Listed.{listing-said}
 
 -- ---- each call did what the definition says
 
@@ -204,3 +205,8 @@ pub prints-listing : {s : List ℕ} {bad all : ℕ} {text : List ℕ} → Prints
 prints-listing {s} {bad} {all} (prints {text = text} h z lines) =
     let w : wholePlaces (length s) ≡ true = header-printed h z .whole in
     ap (λ (x : List ℕ). x ++ text) (header-said h z ∙ sym (header-text-is (chosen all) s w bad)) ∙ walk-prints (chosen all) s w bad (walked s all w lines .1)
+prints-listing (at-once b z e) = listing-said b z e
+
+-- at once or one by one, it is the same text
+pub both-ways : {s : List ℕ} {bad all : ℕ} {a b : List ℕ} → Prints s bad all a → Prints s bad all b → a ≡ b
+both-ways p q = prints-listing p ∙ sym (prints-listing q)

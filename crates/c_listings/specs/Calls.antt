@@ -15,6 +15,9 @@ use Rattle.display.proofs.lines.addercoil_header.Kinds as header-kinds
 use Rattle.display.proofs.lines.addercoil_header.Reads as header
 use Rattle.display.proofs.lines.addercoil_line.Kinds as line-kinds
 use Rattle.display.proofs.lines.addercoil_line.Reads as line
+use Rattle.display.specs.Handed.{Handed}
+use Rattle.display.proofs.listing.addercoil_listing.Kinds as listing-kinds
+use Rattle.display.proofs.listing.addercoil_listing.Reads as listing
 use Rattle.arbiter.proofs.addercoil_check.Kinds as check-kinds
 use Rattle.arbiter.proofs.addercoil_check.Reads as check
 
@@ -29,6 +32,22 @@ pub record Header (table : List ℕ) (bad all : ℕ) (buffer : List ℕ) (back :
   pub into : args .1 .1 .1 .0 .now ≡ buffer
   pub leaves : left .1 .1 .1 .0 .now ≡ back .array
   pub meets : header.Post κs args (back .number) left
+
+-- addercoil_listing(table, .., bad, all, order, .., out, .., written, ..)
+pub record Listing (table : List ℕ) (bad all : ℕ) (order out written : List ℕ) (back : Handed) : Type 0 where
+  pub κs : Lfts 4
+  pub args : Dens κs listing-kinds.ps
+  pub left : AtExit (endedOf 4 listing-kinds.ps listing-kinds.r) κs
+  pub lent : args .0 .now ≡ table
+  pub counted : args .1 .0 ≡ bad
+  pub asked : args .1 .1 .0 ≡ all
+  pub sorted-in : args .1 .1 .1 .0 .now ≡ order
+  pub into : args .1 .1 .1 .1 .0 .now ≡ out
+  pub long-in : args .1 .1 .1 .1 .1 .0 .now ≡ written
+  pub leaves-order : left .1 .1 .1 .0 .now ≡ back .order
+  pub leaves : left .1 .1 .1 .1 .0 .now ≡ back .out
+  pub leaves-written : left .1 .1 .1 .1 .1 .0 .now ≡ back .written
+  pub meets : listing.Post κs args (back .number) left
 
 -- addercoil_line(table, .., key, all, line, ..)
 pub record Line (table : List ℕ) (key all : ℕ) (buffer : List ℕ) (back : Sent) : Type 0 where

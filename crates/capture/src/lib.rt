@@ -51,7 +51,7 @@ pub fn block_of(b: &[u8]) -> Block
         return Block::Refused(Refusal::Block);
     }
     let unused = 3 + 22 * count;
-    if all_zero(&b[unused..509]) & (parity::remainder_of(b) == 0) {
+    if all_zero(&b[unused..509]) & (parity_words::remainder_of(b) == 0) {
         Block::Good(count)
     } else {
         Block::Refused(Refusal::Block)

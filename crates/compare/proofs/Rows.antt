@@ -2,7 +2,7 @@
 -- Assumes nothing.
 use Prim.Native.Nat.{ℕ, zero, suc, _+_, _-_, _*_, _%_, _^_, _≤_, _<_}
 use native.Mathlib.Omega.{arith}
-use mathlib.Core.Path.{_≡_}
+use mathlib.Core.Path.{_≡_, ap}
 use mathlib.Core.Bool.{Bool, true, false, cond, _||_}
 use mathlib.Core.List.{List, [], _∷_, _++_}
 use mathlib.Core.Option.{Option, some, none}
@@ -32,7 +32,9 @@ use Rattle.rules.specs.View.{trackIn, viewAt}
 use Rattle.table_bytes.specs.Layout.{clockOf, bodyAt}
 use Rattle.table.specs.Bytes.{bytes}
 use Rattle.table.specs.View.{view}
-use Rattle.report.specs.Listing.{latitudeIn, longitudeIn, feet, stepIn, rowOf, rowFor, asList, rowsBelow, rowsIn, texts, headerFor, listing}
+use Rattle.report.specs.Listing.{latitudeIn, longitudeIn, feet, stepIn, rowOf, rowFor, asList, rowsIn, texts, headerFor, listing}
+use Rattle.report.specs.Walked.{rowsBelow}
+use Rattle.report.proofs.Gathered.{rows-walked}
 use Rattle.report.proofs.Keys.{rows-none, rows-next}
 use Rattle.form.specs.Form.{pieces, bodyForm, inForm}
 use Rattle.form.specs.Own.{Sized, Fitting}
@@ -153,7 +155,7 @@ module _ (s : List ℕ) (b : Bytes s) where
   below-ours (suc k) = rw (rows-next true s k) (ours-append (below-ours k) (key-ours k))
 
   pub rows-ours : AllOurs (rowsIn true s)
-  rows-ours = below-ours endOfKeys
+  rows-ours = rw (rows-walked s true) (below-ours endOfKeys)
 
   one-most : (v : Option Row) → length (asList v) ≤ 1
   one-most none = omega arith
@@ -167,4 +169,4 @@ module _ (s : List ℕ) (b : Bytes s) where
   pub listing-in-form : (bad : ℕ) → bad < 2 ^ 64 → inForm (listing true s bad) ≡ true
   unfolding listing headerFor
   listing-in-form bad h =
-      header-then (clockOf s) (length (rowsIn true s)) bad (omega (arith, number-lt 8 s clockAt b)) (omega (arith, below-most endOfKeys)) (omega (arith, h)) (texts (rowsIn true s)) (texts-form rows-ours)
+      header-then (clockOf s) (length (rowsIn true s)) bad (omega (arith, number-lt 8 s clockAt b)) (omega (arith, below-most endOfKeys, ap length (rows-walked s true))) (omega (arith, h)) (texts (rowsIn true s)) (texts-form rows-ours)

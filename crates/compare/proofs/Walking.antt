@@ -26,8 +26,10 @@ use Rattle.table.specs.Bytes.{bytes}
 use Rattle.table.specs.Table.{nextAbove, lookedUp}
 use Rattle.table.specs.View.{view}
 use Rattle.table.specs.Code.{Follows}
-use Rattle.report.specs.Listing.{rowOf, rowFor, asList, rowsBelow, rowsIn}
+use Rattle.report.specs.Listing.{rowOf, rowFor, asList, rowsIn}
+use Rattle.report.specs.Walked.{rowsBelow}
 use Rattle.report.specs.Code.{keyOrLimit}
+use Rattle.report.proofs.Gathered.{rows-walked}
 use Rattle.report.proofs.Held.{held-seen, held-is-key}
 use Rattle.report.proofs.Keys.{Least, least, none-zero, skipped, rows-none, rows-next}
 use Rattle.agree.specs.Near.{agreesOf}
@@ -48,7 +50,7 @@ module _ (s : List ℕ) where
       ∙ append-assoc (rowsBelow true s k) (asList (rowFor true k (view s k))) (rowsFrom s (suc k) d)
 
   left-all : rowsIn true s ≡ rowsLeft s 0
-  left-all = rows-from 0 endOfKeys ∙ ap (λ (l : List Row). l ++ rowsLeft s 0) (rows-none true s)
+  left-all = rows-walked s true ∙ rows-from 0 endOfKeys ∙ ap (λ (l : List Row). l ++ rowsLeft s 0) (rows-none true s)
 
   left-more : (k : ℕ) → k < endOfKeys → rowsLeft s k ≡ asList (rowFor true k (view s k)) ++ rowsLeft s (suc k)
   unfolding rowsFrom

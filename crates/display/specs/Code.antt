@@ -6,6 +6,7 @@ use lib.ListN.{length}
 use Rattle.refusals.specs.Numbers.{numberOf}
 use Rattle.refusals.specs.Said.{Said, number, gives}
 use Rattle.memory.specs.Offsets.{wholePlaces}
+use Rattle.whole.specs.Whole.{roomFor}
 use Rattle.report.specs.declared.Printed.{Printed}
 use Rattle.report.specs.declared.Printed.the-variants.{Text, Nothing, Refused}
 use Rattle.report.specs.declared.Report.{Report}
@@ -13,6 +14,10 @@ use Rattle.report.specs.declared.Report.{Report}
 -- the number of a choice that is neither 0 nor 1: 7 comes before 8
 abbrev pub noChoice : List ℕ → ℕ
 noChoice s = cond (not (wholePlaces (length s))) 7 8
+
+-- .. of a whole listing: 1 comes before both
+abbrev pub noListing : List ℕ → ℕ → ℕ → ℕ
+noListing s order out = cond (not (roomFor s order out)) 1 (noChoice s)
 
 -- what a report says, by the bytes of its line
 abbrev pub printedSaid : Printed → List ℕ → Said (List ℕ)

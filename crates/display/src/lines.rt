@@ -32,7 +32,7 @@ fn give_report(out: &mut [u8], report: Report) -> u32
 }
 
 // What a choice that is neither 0 nor 1 earns: 7 comes before 8.
-fn no_choice(table: &[u8]) -> u32
+pub(crate) fn no_choice(table: &[u8]) -> u32
     ensures { λ r. ⌜ r ≡ noChoice (now (table .entry)) ⌝ }
 {
     if table_bytes::whole_places(table.len()) {

@@ -48,7 +48,7 @@ fn fill(out: &mut [u8], head: u64, me: u64)
 {
     fields::put_number(&mut out[0..4], head);
     fields::put_number(&mut out[4..11], me);
-    let seal = parity::seal_of(&out[0..11]);
+    let seal = parity_words::seal_of(&out[0..11]);
     fields::put_number(&mut out[11..14], seal as u64);
 }
 

@@ -5,8 +5,7 @@ use feed::Fed;
 use libc::STDERR_FILENO;
 use libc::STDIN_FILENO;
 use libc::STDOUT_FILENO;
-use rules::NextKey;
-use text::Line;
+use whole::Listed;
 use words::Asked;
 ghost use mathlib.Core.Path.{_≡_};
 ghost use lib.ListN.{length};
@@ -14,8 +13,12 @@ ghost use Rattle.memory.specs.Offsets.{tableSize};
 ghost use Rattle.table_bytes.specs.Layout.{emptied};
 ghost use Rattle.listing.specs.Code.{SomeFed};
 
-// The bytes of a table of 256 places.
-const TABLE: usize = memory::HEAD + memory::PLACE * 256;
+const PLACES: usize = 256;
+
+// The bytes of its table, and of its listing.
+const TABLE: usize = memory::HEAD + memory::PLACE * PLACES;
+
+const TEXT: usize = text::LINE * (PLACES + 1);
 
 // Feeds the input, block by block, to an empty table, and counts the bad blocks. A short read is the end, or a failed read, which ends it too.
 // A proved loop has to end, and nothing says that the input does. So the loop counts its turns down, from a number that no run uses up.
@@ -57,32 +60,14 @@ fn print_first(text: &[u8], n: usize) -> bool {
     true
 }
 
-fn print(line: Line) -> bool {
-    let bytes = line.bytes;
-    print_first(&bytes, line.len)
-}
-
-// The lines, in the order of the keys, and whether all were written. A key that is not shown has an empty line.
-fn print_tracks(table: &[u8], all: bool) -> bool {
-    let mut key: u32 = 0;
-    loop {
-        let NextKey::Key(next) = table::next(table, key) else {
-            return true;
-        };
-        let r = report::line_of(table, next, all);
-        if !print(r.line) {
-            return false;
-        }
-        key = next;
-    }
-}
-
-fn print_all(table: &[u8], bad: u64, all: bool) -> bool {
-    let r = report::header_of(table, bad, all);
-    if !print(r.line) {
+// The whole listing, and whether it was written. The arrays have the lengths that a table of 256 places asks for, so that it is never refused.
+fn print_listing(table: &[u8], bad: u64, all: bool) -> bool {
+    let mut order = [0u64; PLACES];
+    let mut out = [0u8; TEXT];
+    let Listed::Bytes(n) = whole::listing(table, bad, all, &mut order, &mut out) else {
         return false;
-    }
-    print_tracks(table, all)
+    };
+    print_first(&out, n)
 }
 
 fn run(all: bool) {
@@ -96,7 +81,7 @@ fn run(all: bool) {
         );
         return;
     }
-    if !print_all(&table, bad, all) {
+    if !print_listing(&table, bad, all) {
         io::write_all(STDERR_FILENO, b"listing: the output cannot be written\n");
     }
 }

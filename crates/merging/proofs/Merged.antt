@@ -3,7 +3,7 @@
 use Prim.Native.Nat.{ℕ, zero, suc}
 use mathlib.Core.Bool.{Bool}
 use mathlib.Core.Option.{Option}
-use mathlib.Core.Path.{_≡_, refl, ap, ap₂}
+use mathlib.Core.Path.{_≡_, refl, sym, ap, ap₂, _∙_}
 use mathlib.Core.List.{List, _++_}
 use lib.ListN.{length}
 use Rattle.keys.specs.Keys.{endOfKeys}
@@ -15,7 +15,9 @@ use Rattle.table_bytes.specs.Layout.{clockOf}
 use Rattle.table.specs.Bytes.{bytes}
 use Rattle.table.specs.View.{view}
 use Rattle.table.proofs.Lawful.{bytes-lawful, all-fit}
-use Rattle.report.specs.Listing.{rowFor, asList, rowsBelow, texts, headerFor, listing}
+use Rattle.report.specs.Listing.{rowFor, asList, rowsIn, texts, headerFor, listing}
+use Rattle.report.specs.Walked.{rowsBelow}
+use Rattle.report.proofs.Gathered.{rows-walked}
 use Rattle.slice_table.specs.Slice.{slice}
 use Rattle.slice_table.proofs.Lawful.{slice-lawful}
 use Rattle.merging.specs.Orders.{SameListing, Merges, TwoAntennas}
@@ -27,9 +29,12 @@ module _ (x y : List ℕ) (tracks : (key : ℕ) → view x key ≡ view y key) w
   rows-same all zero = refl
   rows-same all (suc k) = ap₂ (λ (l r : List Row). l ++ r) (rows-same all k) (ap (λ (v : Option Track). asList (rowFor all k v)) (tracks k))
 
+  all-same : (all : Bool) → rowsIn all x ≡ rowsIn all y
+  all-same all = rows-walked x all ∙ rows-same all endOfKeys ∙ sym (rows-walked y all)
+
   listing-same : clockOf x ≡ clockOf y → SameListing x y
   unfolding listing headerFor
-  listing-same e all bad = ap₂ (λ (c : ℕ) (rows : List Row). headerText c (length rows) bad ++ texts rows) e (rows-same all endOfKeys)
+  listing-same e all bad = ap₂ (λ (c : ℕ) (rows : List Row). headerText c (length rows) bad ++ texts rows) e (all-same all)
 
 pub two-antennas : TwoAntennas (received bytes)
 two-antennas s b a c g =

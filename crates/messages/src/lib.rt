@@ -97,7 +97,7 @@ pub fn head_taken(m: Message) -> bool
 fn parity_right(s: &[u8]) -> bool
     ensures { λ r. ⌜ r ≡ eqb (remainder (now (s .entry))) 0 ⌝ }
 {
-    parity::remainder_of(s) == 0
+    parity_words::remainder_of(s) == 0
 }
 
 fn frame_of(s: &[u8]) -> Frame

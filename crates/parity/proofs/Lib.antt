@@ -2,7 +2,6 @@ pub mod Entries
 pub mod Flipped
 pub mod Halves
 pub mod Linear
-pub mod OfCode
 pub mod Seal
 pub mod Small
 pub mod Unique

@@ -3,6 +3,7 @@ mod division;
 mod lookup;
 
 pub use division::step;
+pub use lookup::shifted;
 ghost use mathlib.Core.Path.{_≡_};
 ghost use Prim.Native.Nat.{_%_, _^_};
 ghost use Rattle.parity.specs.Parity.{remainder, seal};

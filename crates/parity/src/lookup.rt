@@ -1,7 +1,7 @@
 // The table of the division: what eight zero bits leave of i times x^16, for each byte i.
 ghost use mathlib.Core.Path.{_≡_};
 ghost use mathlib.Core.List.{_∷_, []};
-ghost use Prim.Native.Nat.{_<_, _^_};
+ghost use Prim.Native.Nat.{_<_, _%_, _^_};
 ghost use lib.ListN.{getD};
 ghost use Rattle.parity.specs.Division.{remainderFrom};
 ghost use Rattle.parity.specs.Code.{table};
@@ -17,6 +17,13 @@ fn shift(r: u32) -> u32
     } else {
         (x - 0x100_0000) ^ 0xFF_F409
     }
+}
+
+// What one zero bit more leaves of the low 24 bits of r.
+pub fn shifted(r: u32) -> u32
+    ensures { λ s. ⌜ s ≡ remainderFrom (r % 2 ^ 24) (0 ∷ []) ⌝ }
+{
+    shift(r % 0x100_0000)
 }
 
 // An entry by the division itself.

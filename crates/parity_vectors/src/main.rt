@@ -1,4 +1,4 @@
-// Runs `parity` on each byte string of standard input, two bytes of length and then the bytes, and writes its remainder and its seal.
+// Runs `parity_words` on each byte string of standard input, two bytes of length and then the bytes, and writes its remainder and its seal.
 use libc::STDIN_FILENO;
 use libc::STDOUT_FILENO;
 
@@ -7,9 +7,9 @@ fn say(n: u32) {
 }
 
 fn answer(s: &[u8]) {
-    say(parity::remainder_of(s));
+    say(parity_words::remainder_of(s));
     io::write_all(STDOUT_FILENO, b" ");
-    say(parity::seal_of(s));
+    say(parity_words::seal_of(s));
     io::write_all(STDOUT_FILENO, b"\n");
 }
 

@@ -26,10 +26,12 @@ use Rattle.table_bytes.specs.Layout.{clockOf, keyAt, bodyAt, placeAt}
 use Rattle.table_bytes.specs.Scan.{isFirst}
 use Rattle.table.specs.Bytes.{bytes}
 use Rattle.table.specs.View.{view}
-use Rattle.report.specs.Listing.{shown, rowFor, asList, rowsBelow, rowsIn}
+use Rattle.report.specs.Listing.{shown, rowFor, asList, rowsIn}
+use Rattle.report.specs.Walked.{rowsBelow}
 use Rattle.report.specs.Code.{hasRow}
 use Rattle.report.proofs.Held.{held-is-key}
 use Rattle.report.proofs.Keys.{rows-none, rows-next}
+use Rattle.report.proofs.Gathered.{rows-walked}
 
 -- ---- sums
 
@@ -152,7 +154,7 @@ module _ (all : Bool) (s : List ℕ) where
       ∙ sum-same _ _ (placesIn s) (λ i l. place-row i l m g)
 
   pub rows-counted : length (rowsIn all s) ≡ sum (λ i. one (hasRow all (clockOf s) s (placesIn s) i)) (placesIn s)
-  rows-counted = by-places endOfKeys (omega arith)
+  rows-counted = ap length (rows-walked s all) ∙ by-places endOfKeys (omega arith)
 
 -- ---- a place, as the code tests it
 

@@ -21,7 +21,8 @@ use Rattle.table.specs.Bytes.{bytes}
 use Rattle.table.specs.Table.{nextAbove}
 use Rattle.table.specs.View.{view}
 use Rattle.table.specs.Code.{Follows}
-use Rattle.report.specs.Listing.{rowFor, asList, rowsBelow, texts}
+use Rattle.report.specs.Listing.{rowFor, asList, texts}
+use Rattle.report.specs.Walked.{rowsBelow}
 use Rattle.report.specs.Code.{keyOrLimit}
 use Rattle.report.proofs.Held.{unheld-unseen, held-is-key}
 
@@ -45,7 +46,7 @@ none-zero s = unheld-unseen s 0 (λ w. omega (arith, never-zero 0 (held-is-key s
 
 -- what a key that is not held leaves as it is
 module _ {A : Type 0} (g : ℕ → A) (s : List ℕ) (keeps : (k : ℕ) → view s k ≡ none → g (suc k) ≡ g k) where
-  over : (from d : ℕ) → ((k : ℕ) → from ≤ k → k < from + d → view s k ≡ none) → g (from + d) ≡ g from
+  pub over : (from d : ℕ) → ((k : ℕ) → from ≤ k → k < from + d → view s k ≡ none) → g (from + d) ≡ g from
   over from zero n = ap g (add-zero from)
   over from (suc d) n = ap g (add-suc from d) ∙ keeps (from + d) (n (from + d) (omega arith) (omega arith)) ∙ over from d (λ k i j. n k i (omega arith))
 

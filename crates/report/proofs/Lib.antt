@@ -1,5 +1,6 @@
 pub mod Altitudes
 pub mod Counted
+pub mod Gathered
 pub mod Held
 pub mod Keys
 pub mod Promised

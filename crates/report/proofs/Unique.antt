@@ -8,6 +8,8 @@ use Rattle.report.proofs.line_of.Kinds as line-of-kinds
 use Rattle.report.proofs.line_of.Reads as line-of
 use Rattle.report.proofs.row_in.Kinds as row-in-kinds
 use Rattle.report.proofs.row_in.Reads as row-in
+use Rattle.report.proofs.row.row_from.Kinds as row-from-kinds
+use Rattle.report.proofs.row.row_from.Reads as row-from
 
 pub header-of-once : OneAnswer 1 header-of-kinds.ps header-of-kinds.r header-of.Post
 header-of-once κs args x y left left′ p q = p ∙ sym q
@@ -17,3 +19,6 @@ line-of-once κs args x y left left′ p q = p ∙ sym q
 
 pub row-in-once : OneAnswer 1 row-in-kinds.ps row-in-kinds.r row-in.Post
 row-in-once κs args x y left left′ p q = p ∙ sym q
+
+pub row-from-once : OneAnswer 0 row-from-kinds.ps row-from-kinds.r row-from.Post
+row-from-once κs args x y left left′ p q = p ∙ sym q

@@ -21,10 +21,11 @@ use Rattle.table.specs.Bytes.{bytes}
 use Rattle.table.specs.Table.{nextAbove}
 use Rattle.table.specs.View.{view}
 use Rattle.table.specs.Code.{Follows}
-use Rattle.report.specs.Listing.{rowFor, asList, rowsBelow, rowsIn, texts, headerFor, listing, headerIn, reported, lineIn}
-use Rattle.report.specs.Walked.{someText, Walked, ended, then}
+use Rattle.report.specs.Listing.{rowFor, asList, rowsIn, texts, headerFor, listing, headerIn, reported, lineIn}
+use Rattle.report.specs.Walked.{rowsBelow, someText, Walked, ended, then}
 use Rattle.report.specs.Code.{keyOrLimit}
 use Rattle.report.proofs.Held.{held-is-key}
+use Rattle.report.proofs.Gathered.{rows-walked}
 use Rattle.report.proofs.Keys.{Least, least, skipped, none-zero, rows-none, rows-next, rows-keep, texts-append}
 
 -- a row's text is not empty
@@ -61,7 +62,7 @@ module _ (all : Bool) (s : List ℕ) (whole : wholePlaces (length s) ≡ true) w
   -- what a walk from a key on prints: the rows after that key, their texts, and as many lines with text
   record Rest (above n : ℕ) (text : List ℕ) : Type 0 where
     pub left : List Row
-    pub rows : rowsIn all s ≡ rowsBelow all s (suc above) ++ left
+    pub rows : rowsBelow all s endOfKeys ≡ rowsBelow all s (suc above) ++ left
     pub many : length left ≡ n
     pub said : texts left ≡ text
 
@@ -91,7 +92,7 @@ module _ (all : Bool) (s : List ℕ) (whole : wholePlaces (length s) ≡ true) w
   whole-walk : {n : ℕ} {text : List ℕ} (w : Walked all s 0 n text) → rowsIn all s ≡ walk-rest (omega arith) w .left
   whole-walk w =
       let r = walk-rest (omega arith) w in
-      r .rows ∙ ap (λ (l : List Row). l ++ r .left) (rows-keep all s 0 (none-zero s) ∙ rows-none all s)
+      rows-walked s all ∙ r .rows ∙ ap (λ (l : List Row). l ++ r .left) (rows-keep all s 0 (none-zero s) ∙ rows-none all s)
 
   -- the header, then the lines of a walk from 0 on, is the listing
   pub walk-prints : (bad : ℕ) {n : ℕ} {text : List ℕ} → Walked all s 0 n text → textIn (headerIn all s bad .line) ++ text ≡ listing all s bad

@@ -1,11 +1,11 @@
--- The listing of a table, as documents 01 and 02 have it: the header, then the lines of a list of rows, those of the keys held, in the order of the kinds, then by address; of all, or of those with a known position.
+-- The listing of a table, as documents 01 and 02 have it: the header, then the lines of a list of rows, those of the keys held, in the order of the kinds, then by address, each once; of all, or of those with a known position.
 use Prim.Native.Nat.{ℕ, zero, suc}
 use mathlib.Core.Bool.{Bool, cond, not, _||_}
 use mathlib.Core.List.{List, [], _∷_, _++_}
 use mathlib.Core.Option.{Option, some, none}
+use lib.Dec.{eqb, ltb}
 use lib.IntN.{pos}
 use lib.ListN.{length}
-use Rattle.keys.specs.Keys.{endOfKeys}
 use Rattle.refusals.specs.declared.Refusal.the-variants.{Places}
 use Rattle.readings.specs.declared.altitude.Altitude.{Altitude}
 use Rattle.readings.specs.declared.altitude.Altitude.the-variants as altitude
@@ -16,8 +16,10 @@ use Rattle.text.specs.declared.Figure.{Figure}
 use Rattle.text.specs.declared.Figure.the-variants.{Unknown, Known}
 use Rattle.text.specs.declared.Row.{Row}
 use Rattle.text.specs.Lines.{headerText, rowText, lineOf}
-use Rattle.memory.specs.Offsets.{wholePlaces}
-use Rattle.table_bytes.specs.Layout.{clockOf}
+use Rattle.memory.specs.Offsets.{wholePlaces, placesIn}
+use Rattle.rules.specs.Form.{isHeld}
+use Rattle.table_bytes.specs.Layout.{clockOf, keyAt}
+use Rattle.table.specs.Bytes.{bytes}
 use Rattle.table.specs.View.{view}
 use Rattle.report.specs.declared.Printed.{Printed}
 use Rattle.report.specs.declared.Printed.the-variants.{Text, Nothing, Refused}
@@ -45,18 +47,36 @@ stepIn altitude.Unknown = Unknown
 stepIn (altitude.Refused r) = Unknown
 
 -- last heard, latitude, longitude, pressure altitude and its step
-unfoldable pub rowOf : ℕ → Track → Row
-rowOf key t =
+abbrev pub rowFrom : ℕ → ℕ → Position → ℕ → Row
+rowFrom key heard p pressure =
     record {
       key = key;
-      heard = t .heard;
-      latitude = latitudeIn (t .position);
-      longitude = longitudeIn (t .position);
-      altitude = feet (altitudeOf (t .groups .pressure));
-      step = stepIn (altitudeOf (t .groups .pressure));
+      heard = heard;
+      latitude = latitudeIn p;
+      longitude = longitudeIn p;
+      altitude = feet (altitudeOf pressure);
+      step = stepIn (altitudeOf pressure);
     }
 
--- ---- the whole listing, over all keys, whose order is by kind, then by address, of C then by flag and station
+unfoldable pub rowOf : ℕ → Track → Row
+rowOf key t = rowFrom key (t .heard) (t .position) (t .groups .pressure)
+
+-- ---- the keys that a table holds, whose order is by kind, then by address, of C then by flag and station
+
+-- a key among keys that rise: before the first above it; one that is there already stays there once
+unfoldable pub among : ℕ → List ℕ → List ℕ
+among key [] = key ∷ []
+among key (k ∷ ks) = cond (ltb key k) (key ∷ k ∷ ks) (cond (eqb key k) (k ∷ ks) (k ∷ among key ks))
+
+-- the keys that the first n places hold, rising, each once
+unfoldable pub keysHeld : List ℕ → ℕ → List ℕ
+keysHeld s zero = []
+keysHeld s (suc i) = cond (isHeld (clockOf s) (bytes .cell s i)) (among (keyAt s i) (keysHeld s i)) (keysHeld s i)
+
+abbrev pub keysIn : List ℕ → List ℕ
+keysIn s = keysHeld s (placesIn s)
+
+-- ---- the whole listing
 
 -- a track is shown if all are asked for, or if its position is known, whatever its age
 abbrev pub shown : Bool → Position → Bool
@@ -71,14 +91,14 @@ abbrev pub asList : Option Row → List Row
 asList none = []
 asList (some r) = r ∷ []
 
--- the rows of the keys below k, one key after the other
-unfoldable pub rowsBelow : Bool → List ℕ → ℕ → List Row
-rowsBelow all s zero = []
-rowsBelow all s (suc k) = rowsBelow all s k ++ asList (rowFor all k (view s k))
+-- the rows of some keys, one key after the other
+unfoldable pub rowsOf : Bool → List ℕ → List ℕ → List Row
+rowsOf all s [] = []
+rowsOf all s (key ∷ keys) = asList (rowFor all key (view s key)) ++ rowsOf all s keys
 
 -- the rows of a table: the keys that it holds, in order; without those that have no position, unless all are asked for
 abbrev pub rowsIn : Bool → List ℕ → List Row
-rowsIn all s = rowsBelow all s endOfKeys
+rowsIn all s = rowsOf all s (keysIn s)
 
 -- their texts, one after the other
 unfoldable pub texts : List Row → List ℕ

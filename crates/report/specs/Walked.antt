@@ -1,12 +1,19 @@
--- The walk of the keys: what a caller prints who asks for the next key again and again, and for the line of each.
-use Prim.Native.Nat.{ℕ, _+_}
+-- The walk of the keys: the rows of all keys that there are, one after the other; and what a caller prints who asks for the next key again and again, and for the line of each.
+use Prim.Native.Nat.{ℕ, zero, suc, _+_}
 use mathlib.Core.Path.{_≡_}
 use mathlib.Core.Bool.{Bool}
 use mathlib.Core.List.{List, [], _∷_, _++_}
+use Rattle.text.specs.declared.Row.{Row}
 use Rattle.text.specs.Lines.{textIn}
 use Rattle.rules.specs.declared.answers.NextKey.the-variants.{Key, End}
 use Rattle.table.specs.Table.{nextAbove}
-use Rattle.report.specs.Listing.{lineIn}
+use Rattle.table.specs.View.{view}
+use Rattle.report.specs.Listing.{rowFor, asList, lineIn}
+
+-- the rows of the keys below k, held or not, one key after the other
+unfoldable pub rowsBelow : Bool → List ℕ → ℕ → List Row
+rowsBelow all s zero = []
+rowsBelow all s (suc k) = rowsBelow all s k ++ asList (rowFor all k (view s k))
 
 -- 1 for a text, 0 for an empty one
 unfoldable pub someText : List ℕ → ℕ

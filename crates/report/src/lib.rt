@@ -2,6 +2,7 @@
 mod row;
 
 use refusals::Refusal;
+pub use row::row_from;
 use rules::Clock;
 use text::Line;
 use text::Row;

@@ -5,7 +5,7 @@ use text::Row;
 use track::Track;
 use whereabouts::Position;
 ghost use mathlib.Core.Path.{_≡_};
-ghost use Rattle.report.specs.Listing.{latitudeIn, longitudeIn, rowOf};
+ghost use Rattle.report.specs.Listing.{latitudeIn, longitudeIn, rowFrom, rowOf};
 ghost use Rattle.report.specs.Listing.{feet as feetOf, stepIn};
 
 fn latitude_in(p: Position) -> Figure
@@ -48,18 +48,25 @@ fn step_in(a: Altitude) -> Figure
     }
 }
 
-pub(crate) fn row_of(key: u32, t: Track) -> Row
-    ensures { λ r. ⌜ r ≡ rowOf key t ⌝ }
+// The row of a key, from what it says of a track: when it was last heard, its position and the code of its pressure altitude.
+pub fn row_from(key: u32, heard: u64, p: Position, pressure: u16) -> Row
+    ensures { λ r. ⌜ r ≡ rowFrom key heard p pressure ⌝ }
 {
-    let p = t.position;
-    let g = t.groups;
-    let altitude = readings::altitude_of(g.pressure);
+    let altitude = readings::altitude_of(pressure);
     Row {
         key: key,
-        heard: t.heard,
+        heard: heard,
         latitude: latitude_in(p),
         longitude: longitude_in(p),
         altitude: feet(altitude),
         step: step_in(altitude),
     }
+}
+
+pub(crate) fn row_of(key: u32, t: Track) -> Row
+    ensures { λ r. ⌜ r ≡ rowOf key t ⌝ }
+{
+    let p = t.position;
+    let g = t.groups;
+    row_from(key, t.heard, p, g.pressure)
 }

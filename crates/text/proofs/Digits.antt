@@ -1,9 +1,9 @@
--- Laws of numbers as text, a digit at a time: what the last digit is, and how many there are.
+-- Laws of numbers as text: what the last digit is, and from that the last two, four and eight; and how many there are.
 -- Assumes nothing.
 use Prim.Native.Nat.{ℕ, zero, suc, _+_, _-_, _*_, _/_, _%_, _^_, _<_, _≤_}
 use mathlib.Core.Path.{_≡_, refl, sym, ap, _∙_}
 use mathlib.Core.Bool.{Bool, true, false, cond}
-use mathlib.Core.List.{List, [], _∷_, _++_}
+use mathlib.Core.List.{List, [], _∷_, _++_, append-assoc}
 use native.Mathlib.Omega.{arith}
 use borrow.Author.Tests.{lt-ltb, le-ltb, ltb-true, ltb-false}
 use lib.Dec.{ltb}
@@ -11,6 +11,7 @@ use lib.IntN.{ℤ, pos, natAbs}
 use lib.Signed.{ltZ}
 use lib.Pow.{pow-add}
 use lib.ListN.{length, length-append}
+use Rattle.text.specs.Code.{two, four, eight}
 use Rattle.text.specs.Numbers.{decimalIn, decimal, hex, hexDigit, minus, signed}
 
 pow-ten : (k : ℕ) → 10 ^ suc k ≡ 10 * 10 ^ k
@@ -54,30 +55,54 @@ pub decimal-most : (n : ℕ) → length (decimal n) ≤ 20
 unfolding decimal
 decimal-most n = most 20 n
 
--- a number below 100 has at most two digits
-two-by : (n : ℕ) (t : Bool) → ltb n 10 ≡ t → n < 100 → length (decimalIn 20 n) ≤ 2
-two-by n true e h = omega (arith, ap length (small 19 n (ltb-true n 10 e)))
-two-by n false e h =
-    let one = ap length (small 18 (n / 10) (omega arith)) in
-    omega (arith, ap length (large 19 n (ltb-false n 10 e)), length-append (decimalIn 19 (n / 10)) ((48 + n % 10) ∷ []))
+pub decimal-two : (n : ℕ) → 10 ≤ n → n < 100 → decimal n ≡ two n
+decimal-two n h l = decimal-large n h (omega arith) ∙ ap (λ (x : List ℕ). x ++ ((48 + n % 10) ∷ [])) (decimal-small (n / 10) (omega arith))
 
-pub decimal-two : (n : ℕ) → n < 100 → length (decimal n) ≤ 2
-unfolding decimal
-decimal-two n h = two-by n (ltb n 10) refl h
+-- two digits more
+pub decimal-hundred : (n : ℕ) → 100 ≤ n → n < 2 ^ 64 → decimal n ≡ decimal (n / 100) ++ two (n % 100)
+decimal-hundred n h l =
+    let a : n / 10 / 10 ≡ n / 100 = omega arith in
+    let b : n / 10 % 10 ≡ n % 100 / 10 = omega arith in
+    let c : n % 10 ≡ n % 100 % 10 = omega arith in
+    decimal-large n (omega arith) l
+    ∙ ap (λ (x : List ℕ). x ++ ((48 + n % 10) ∷ [])) (decimal-large (n / 10) (omega arith) (omega arith))
+    ∙ append-assoc (decimal (n / 10 / 10)) ((48 + n / 10 % 10) ∷ []) ((48 + n % 10) ∷ [])
+    ∙ cc
+
+-- four
+pub decimal-four : (n : ℕ) → 10 ^ 4 ≤ n → n < 2 ^ 64 → decimal n ≡ decimal (n / 10000) ++ four (n % 10000)
+decimal-four n h l =
+    let a : n / 100 / 100 ≡ n / 10000 = omega arith in
+    let b : n / 100 % 100 ≡ n % 10000 / 100 = omega arith in
+    let c : n % 100 ≡ n % 10000 % 100 = omega arith in
+    decimal-hundred n (omega arith) l
+    ∙ ap (λ (x : List ℕ). x ++ two (n % 100)) (decimal-hundred (n / 100) (omega arith) (omega arith))
+    ∙ append-assoc (decimal (n / 100 / 100)) (two (n / 100 % 100)) (two (n % 100))
+    ∙ cc
+
+-- eight
+pub decimal-eight : (n : ℕ) → 10 ^ 8 ≤ n → n < 2 ^ 64 → decimal n ≡ decimal (n / 100000000) ++ eight (n % 100000000)
+decimal-eight n h l =
+    let a : n / 10000 / 10000 ≡ n / 100000000 = omega arith in
+    let b : n / 10000 % 10000 ≡ n % 100000000 / 10000 = omega arith in
+    let c : n % 10000 ≡ n % 100000000 % 10000 = omega arith in
+    decimal-four n (omega arith) l
+    ∙ ap (λ (x : List ℕ). x ++ four (n % 10000)) (decimal-four (n / 10000) (omega arith) (omega arith))
+    ∙ append-assoc (decimal (n / 10000 / 10000)) (four (n / 10000 % 10000)) (four (n % 10000))
+    ∙ cc
+
+-- a number below 100 has at most two digits
+short-by : (n : ℕ) (t : Bool) → ltb n 10 ≡ t → n < 100 → length (decimal n) ≤ 2
+short-by n true e h = omega (arith, ap length (decimal-small n (ltb-true n 10 e)))
+short-by n false e h = omega (arith, ap length (decimal-two n (ltb-false n 10 e) h))
+
+pub decimal-short : (n : ℕ) → n < 100 → length (decimal n) ≤ 2
+decimal-short n h = short-by n (ltb n 10) refl h
 
 pub hex-length : (k n : ℕ) → length (hex k n) ≡ k
 unfolding hex
 hex-length zero n = refl
 hex-length (suc k) n = omega (arith, length-append (hex k (n / 16)) (hexDigit (n % 16) ∷ []), hex-length k (n / 16))
-
-pub hex-none : (k n : ℕ) → k ≡ 0 → hex k n ≡ []
-unfolding hex
-hex-none k n e = ap (λ (j : ℕ). hex j n) e
-
-pub hex-more : (k n : ℕ) → (k ≡ 0 → ⊥) → hex k n ≡ hex (k - 1) (n / 16) ++ (hexDigit (n % 16) ∷ [])
-unfolding hex
-hex-more zero n h = absurd (h refl)
-hex-more (suc k) n h = ap (λ (j : ℕ). hex j (n / 16) ++ (hexDigit (n % 16) ∷ [])) (let e : k ≡ suc k - 1 = omega arith in e)
 
 pub signed-below : (z : ℤ) (n : ℕ) → n ≡ natAbs z → ltZ z (pos 0) ≡ true → minus ++ decimal n ≡ signed z
 unfolding signed

@@ -7,7 +7,7 @@ use mathlib.Core.List.{List, [], _∷_, _++_}
 use native.Mathlib.Omega.{arith}
 use lib.IntN.{ℤ, pos, natAbs}
 use lib.Signed.{ltZ}
-use lib.ListN.{length, drop, replicate, length-append, length-replicate, replicate-append-replicate}
+use lib.ListN.{length, take, drop, replicate, length-append, length-replicate, replicate-append-replicate}
 use lib.Seq.{take-append-seam, drop-at}
 use Rattle.keys.specs.Keys.{letterIn, addressIn, coarseIn, flagIn, stationIn}
 use Rattle.text.specs.Numbers.{decimal, hex, minus, signed}
@@ -18,7 +18,7 @@ use Rattle.text.specs.declared.Figure.the-variants.{Unknown, Known}
 use Rattle.text.specs.declared.Line.{Line}
 use Rattle.text.specs.declared.Row.{Row}
 use Rattle.text.proofs.Buffer.{text-first}
-use Rattle.text.proofs.Digits.{decimal-most, decimal-two, hex-length}
+use Rattle.text.proofs.Digits.{decimal-most, decimal-short, hex-length}
 
 field-most : (label : List ℕ) (n : ℕ) → length (field label n) ≤ length label + 20
 unfolding field
@@ -40,7 +40,7 @@ figure-most (Known z) = omega (arith, length-append space (signed z), signed-mos
 -- a flag or a station behind a space has at most two digits
 short-most : (n : ℕ) → n < 100 → length (field space n) ≤ 3
 unfolding field
-short-most n h = omega (arith, length-append space (decimal n), decimal-two n h)
+short-most n h = omega (arith, length-append space (decimal n), decimal-short n h)
 
 sender-most : (key : ℕ) → length (senderText key) ≤ 6
 unfolding senderText
@@ -56,7 +56,7 @@ sender-most key = by (coarseIn key)
         )
     by false = omega arith
 
-key-most : (key : ℕ) → length (keyText key) ≤ 14
+pub key-most : (key : ℕ) → length (keyText key) ≤ 14
 unfolding keyText
 key-most key =
     let l : List ℕ = letterIn key ∷ [] in
@@ -119,6 +119,11 @@ drop-zeros n m h =
     ∙ ap (drop n) (sym (replicate-append-replicate {A = ℕ} n (m - n) 0))
     ∙ drop-at (replicate n 0) (replicate (m - n) 0) n (length-replicate n 0)
 
+-- no text is cut off
+pub line-text : (text : List ℕ) → textIn (lineOf text) ≡ text
+unfolding lineOf
+line-text text = take-append-seam text (replicate (lineRoom - length text) 0)
+
 -- what is written from the start of zeros is the line
 pub line-made : {text : List ℕ} {n : ℕ} {l : List ℕ} → length text ≤ lineRoom → Wrote (replicate lineRoom 0) 0 text n l → _≡_ {A = Line} (record { bytes = l; len = n }) (lineOf text)
 unfolding lineOf
@@ -127,7 +132,10 @@ line-made {text} {n} {l} h w =
     (w .text ∙ text-first (replicate lineRoom 0) text (omega (arith, length-replicate {A = ℕ} lineRoom 0)) ∙ ap (λ (r : List ℕ). text ++ r) (drop-zeros (length text) lineRoom h))
     (let e : n ≡ length text = omega (arith, w .next) in e)
 
--- no text is cut off
-pub line-text : (text : List ℕ) → textIn (lineOf text) ≡ text
+-- .. and its first bytes are the text
+pub line-kept : {text : List ℕ} {n : ℕ} {l : List ℕ} → length text ≤ lineRoom → Wrote (replicate lineRoom 0) 0 text n l → take n l ≡ text
+line-kept {text} {n} {l} h w = ap textIn (line-made h w) ∙ line-text text
+
+pub line-long : {text : List ℕ} {n : ℕ} {l : List ℕ} → length text ≤ lineRoom → Wrote (replicate lineRoom 0) 0 text n l → n ≤ length l
 unfolding lineOf
-line-text text = take-append-seam text (replicate (lineRoom - length text) 0)
+line-long {text} h w = omega (arith, w .next, ap (λ (x : Line). length (x .bytes)) (line-made h w), length-append text (replicate (lineRoom - length text) 0))

@@ -8,9 +8,10 @@
 #include <string.h>
 
 enum { SYS_OPEN = 1, SYS_WRITE0 = 4, SYS_WRITE = 5, SYS_READ = 6, SYS_EXIT_EXTENDED = 0x20 };
-enum { READS = 0, WRITES = 4 };                              /* how a file is opened */
-enum { APPLICATION_EXIT = 0x20026 };                         /* why a program ends: it did */
-enum { POOL = 3 * (LENT_GUARDS + LENT_MOST + LENT_GUARDS) }; /* for the arrays of a call */
+enum { READS = 0, WRITES = 4 };      /* how a file is opened */
+enum { APPLICATION_EXIT = 0x20026 }; /* why a program ends: it did */
+/* For the arrays of a call: the table, what is given, the result, and what a listing is lent besides */
+enum { POOL = 3 * LENT_MOST + LENT_ORDER + LENT_WRITTEN + 5 * 2 * LENT_GUARDS };
 
 struct host_buffer host_given, host_printed;
 

@@ -1,54 +1,71 @@
--- `text::put_header` meets its contract: four texts, one after the other.
+-- `text::put_header` meets its contract: what is copied from a line of its own is its text.
 -- Assumes nothing.
-use Rattle.text.specs.Lines.{headerText}
-use Rattle.text.proofs.Buffer.{wrote-then}
+use mathlib.Core.Path.{ap}
+use native.Mathlib.Omega.{arith}
+use lib.ListN.{length}
+use Rattle.text.proofs.Buffer.{wrote-as}
+use Rattle.text.proofs.Fits.{header-most, line-long, line-kept}
 use borrow.Author.Needs.{needs}
 use Rattle.text.proofs.put_header.Statement.{statement}
 use Rattle.text.proofs.put_header.Tie as tie
 
-slice-aggregate-put-field : tie.Need-slice-aggregate-put-field
-slice-aggregate-put-field c = search needs
-
-put-field-requires : tie.Need-put-field-requires
-put-field-requires c κs = search needs
-
-slice-aggregate-put-field-2 : tie.Need-slice-aggregate-put-field-2
-slice-aggregate-put-field-2 c = search needs
-
-put-field-requires-2 : tie.Need-put-field-requires-2
-put-field-requires-2 c κs = search needs
-
-slice-aggregate-put-field-3 : tie.Need-slice-aggregate-put-field-3
-slice-aggregate-put-field-3 c = search needs
-
-put-field-requires-3 : tie.Need-put-field-requires-3
-put-field-requires-3 c κs = search needs
-
-put-byte-requires : tie.Need-put-byte-requires
-put-byte-requires c κs = search needs
+fill-header-requires : tie.Need-fill-header-requires
+fill-header-requires c κs = search needs
 
 same-length : tie.Need-same-length
 same-length c = search needs
 
 returns : tie.Need-returns
-unfolding headerText
-returns c =
-    wrote-then (wrote-then (wrote-then
-    (c .before .before .before .before .before .before .before .before .before .before .before .before .before .before .before .before .put-field .ensures .0)
-    (c .before .before .before .before .before .before .before .before .before .before .before .put-field2 .ensures .0))
-    (c .before .before .before .before .before .before .put-field3 .ensures .0))
-    (c .before .before .put-byte .ensures)
+returns c = search needs
+
+slice-aggregate-fill-header : tie.Need-slice-aggregate-fill-header
+slice-aggregate-fill-header c = search needs
+
+fill-header-requires-2 : tie.Need-fill-header-requires-2
+fill-header-requires-2 c κs = search needs
+
+array-share-prefix-line : tie.Need-array-share-prefix-line
+array-share-prefix-line c =
+    let a = c .before .before .before .before .before .before .args in
+    let w = c .before .before .fill-header2 .ensures in
+    let m = header-most (a .clock) (a .tracks) (a .bad) in
+    line-long (omega arith) w
+
+slice-aggregate-put-text : tie.Need-slice-aggregate-put-text
+slice-aggregate-put-text c =
+    let a = c .before .before .before .before .before .before .before .args in
+    let w = c .before .before .before .fill-header2 .ensures in
+    let m = header-most (a .clock) (a .tracks) (a .bad) in
+    omega (arith, w .next, ap length (line-kept (omega arith) w))
+
+put-text-requires : tie.Need-put-text-requires
+put-text-requires c κs =
+    let a = c .before .before .before .before .before .before .before .args in
+    let w = c .before .before .before .fill-header2 .ensures in
+    let m = header-most (a .clock) (a .tracks) (a .bad) in
+    omega (arith, ap length (line-kept (omega arith) w))
+
+same-length-2 : tie.Need-same-length-2
+same-length-2 c = search needs
+
+returns-2 : tie.Need-returns-2
+returns-2 c =
+    let a = c .before .before .before .before .before .before .before .before .before .before .args in
+    let w = c .before .before .before .before .before .before .fill-header2 .ensures in
+    let m = header-most (a .clock) (a .tracks) (a .bad) in
+    wrote-as (c .before .before .put-text .ensures) (line-kept (omega arith) w)
 
 pub put-header-spec : {M : Type 1} → statement M
 put-header-spec =
     tie.close
     (tie.spec
-    slice-aggregate-put-field
-    put-field-requires
-    slice-aggregate-put-field-2
-    put-field-requires-2
-    slice-aggregate-put-field-3
-    put-field-requires-3
-    put-byte-requires
+    fill-header-requires
     same-length
-    returns)
+    returns
+    slice-aggregate-fill-header
+    fill-header-requires-2
+    array-share-prefix-line
+    slice-aggregate-put-text
+    put-text-requires
+    same-length-2
+    returns-2)

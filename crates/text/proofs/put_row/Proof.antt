@@ -1,61 +1,71 @@
--- `text::put_row` meets its contract: seven texts, one after the other.
+-- `text::put_row` meets its contract: what is copied from a line of its own is its text.
 -- Assumes nothing.
-use Rattle.text.specs.Lines.{rowText}
-use Rattle.text.proofs.Buffer.{wrote-then}
+use mathlib.Core.Path.{ap}
+use native.Mathlib.Omega.{arith}
+use lib.ListN.{length}
+use Rattle.text.proofs.Buffer.{wrote-as}
+use Rattle.text.proofs.Fits.{row-most, line-long, line-kept}
 use borrow.Author.Needs.{needs}
 use Rattle.text.proofs.put_row.Statement.{statement}
 use Rattle.text.proofs.put_row.Tie as tie
 
-put-key-requires : tie.Need-put-key-requires
-put-key-requires c κs = search needs
-
-slice-aggregate-put-field : tie.Need-slice-aggregate-put-field
-slice-aggregate-put-field c = search needs
-
-put-field-requires : tie.Need-put-field-requires
-put-field-requires c κs = search needs
-
-put-figure-requires : tie.Need-put-figure-requires
-put-figure-requires c κs = search needs
-
-put-figure-requires-2 : tie.Need-put-figure-requires-2
-put-figure-requires-2 c κs = search needs
-
-put-figure-requires-3 : tie.Need-put-figure-requires-3
-put-figure-requires-3 c κs = search needs
-
-put-figure-requires-4 : tie.Need-put-figure-requires-4
-put-figure-requires-4 c κs = search needs
-
-put-byte-requires : tie.Need-put-byte-requires
-put-byte-requires c κs = search needs
+fill-row-requires : tie.Need-fill-row-requires
+fill-row-requires c κs = search needs
 
 same-length : tie.Need-same-length
 same-length c = search needs
 
 returns : tie.Need-returns
-unfolding rowText
-returns c =
-    wrote-then (wrote-then (wrote-then (wrote-then (wrote-then (wrote-then
-    (c .before .before .before .before .before .before .before .before .before .before .before .before .before .before .before .before .before .before .before .before .before .before .before .before .before .before .before .put-key .ensures .0)
-    (c .before .before .before .before .before .before .before .before .before .before .before .before .before .before .before .before .before .before .before .before .before .before .put-field .ensures .0))
-    (c .before .before .before .before .before .before .before .before .before .before .before .before .before .before .before .before .before .before .put-figure .ensures .0))
-    (c .before .before .before .before .before .before .before .before .before .before .before .before .before .before .put-figure2 .ensures .0))
-    (c .before .before .before .before .before .before .before .before .before .before .put-figure3 .ensures .0))
-    (c .before .before .before .before .before .before .put-figure4 .ensures .0))
-    (c .before .before .put-byte .ensures)
+returns c = search needs
+
+slice-aggregate-fill-row : tie.Need-slice-aggregate-fill-row
+slice-aggregate-fill-row c = search needs
+
+fill-row-requires-2 : tie.Need-fill-row-requires-2
+fill-row-requires-2 c κs = search needs
+
+array-share-prefix-line : tie.Need-array-share-prefix-line
+array-share-prefix-line c =
+    let a = c .before .before .before .before .before .before .args in
+    let w = c .before .before .fill-row2 .ensures in
+    let m = row-most (a .row) in
+    line-long (omega arith) w
+
+slice-aggregate-put-text : tie.Need-slice-aggregate-put-text
+slice-aggregate-put-text c =
+    let a = c .before .before .before .before .before .before .before .args in
+    let w = c .before .before .before .fill-row2 .ensures in
+    let m = row-most (a .row) in
+    omega (arith, w .next, ap length (line-kept (omega arith) w))
+
+put-text-requires : tie.Need-put-text-requires
+put-text-requires c κs =
+    let a = c .before .before .before .before .before .before .before .args in
+    let w = c .before .before .before .fill-row2 .ensures in
+    let m = row-most (a .row) in
+    omega (arith, ap length (line-kept (omega arith) w))
+
+same-length-2 : tie.Need-same-length-2
+same-length-2 c = search needs
+
+returns-2 : tie.Need-returns-2
+returns-2 c =
+    let a = c .before .before .before .before .before .before .before .before .before .before .args in
+    let w = c .before .before .before .before .before .before .fill-row2 .ensures in
+    let m = row-most (a .row) in
+    wrote-as (c .before .before .put-text .ensures) (line-kept (omega arith) w)
 
 pub put-row-spec : {M : Type 1} → statement M
 put-row-spec =
     tie.close
     (tie.spec
-    put-key-requires
-    slice-aggregate-put-field
-    put-field-requires
-    put-figure-requires
-    put-figure-requires-2
-    put-figure-requires-3
-    put-figure-requires-4
-    put-byte-requires
+    fill-row-requires
     same-length
-    returns)
+    returns
+    slice-aggregate-fill-row
+    fill-row-requires-2
+    array-share-prefix-line
+    slice-aggregate-put-text
+    put-text-requires
+    same-length-2
+    returns-2)

@@ -1,44 +1,16 @@
--- `report::row::row_of` meets its contract: each figure is the definition's.
+-- `report::row::row_of` meets its contract: the values are the track's.
 -- Assumes nothing.
-use mathlib.Core.Path.{ap, _∙_}
-use Rattle.report.specs.Listing.{feet, stepIn, rowOf}
+use Rattle.report.specs.Listing.{rowOf}
 use borrow.Author.Needs.{needs}
 use Rattle.report.proofs.row.row_of.Statement.{statement}
 use Rattle.report.proofs.row.row_of.Tie as tie
 
-altitude-of-requires : tie.Need-altitude-of-requires
-altitude-of-requires c κs = search needs
-
-latitude-in-requires : tie.Need-latitude-in-requires
-latitude-in-requires c κs = search needs
-
-longitude-in-requires : tie.Need-longitude-in-requires
-longitude-in-requires c κs = search needs
-
-feet-requires : tie.Need-feet-requires
-feet-requires c κs = search needs
-
-step-in-requires : tie.Need-step-in-requires
-step-in-requires c κs = search needs
+row-from-requires : tie.Need-row-from-requires
+row-from-requires c κs = search needs
 
 returns : tie.Need-returns
 unfolding rowOf
-returns c =
-    let altitude = c .before .before .before .before .altitude-of .ensures in
-    rw (
-      c .before .before .before .latitude-in .ensures,
-      c .before .before .longitude-in .ensures,
-      c .before .feet .ensures ∙ ap feet altitude,
-      c .step-in .ensures ∙ ap stepIn altitude,
-    )
+returns c = c .row-from .ensures
 
 pub row-of-spec : {M : Type 1} → statement M
-row-of-spec =
-    tie.close
-    (tie.spec
-    altitude-of-requires
-    latitude-in-requires
-    longitude-in-requires
-    feet-requires
-    step-in-requires
-    returns)
+row-of-spec = tie.close (tie.spec row-from-requires returns)

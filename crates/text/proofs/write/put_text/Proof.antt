@@ -22,11 +22,11 @@ abbrev μ-loop : tie.MeasureT-loop
 loop-holds : tie.Need-loop-holds Inv-loop μ-loop
 loop-holds c = (search needs, refl, search needs, wrote-none _ _)
 
-shared-slice-read-put-byte : tie.Need-shared-slice-read-put-byte Inv-loop μ-loop
-shared-slice-read-put-byte c = search needs
+shared-slice-read-put-cut : tie.Need-shared-slice-read-put-cut Inv-loop μ-loop
+shared-slice-read-put-cut c = search needs
 
-put-byte-requires : tie.Need-put-byte-requires Inv-loop μ-loop
-put-byte-requires c κs = search needs
+put-cut-requires : tie.Need-put-cut-requires Inv-loop μ-loop
+put-cut-requires c κs = search needs
 
 add-i : tie.Need-add-i Inv-loop μ-loop
 add-i c = search needs
@@ -39,7 +39,7 @@ loop-again c =
     let l = c .before .before .before .before .before .before .loop in
     let s = c .before .before .before .before .before .before .before .before .before .args .text .now in
     let e : take (l .i) s ++ (getD s (l .i) 0 ∷ []) ≡ take (l .i + 1) s = sym (rw add-one (take-suc s (l .i) 0 (omega arith))) in
-    let p = c .before .before .put-byte .ensures in
+    let p = c .before .before .put-cut .ensures in
     (search needs, search needs, omega (arith, p .next), wrote-as (wrote-then (l .inv .3) p) e)
 
 same-length : tie.Need-same-length Inv-loop μ-loop
@@ -57,8 +57,8 @@ put-text-spec =
     Inv-loop
     μ-loop
     loop-holds
-    shared-slice-read-put-byte
-    put-byte-requires
+    shared-slice-read-put-cut
+    put-cut-requires
     add-i
     loop-less
     loop-again

@@ -1,0 +1,10 @@
+pub mod Cases
+pub mod Rising
+pub mod Moves
+pub mod Heaps
+pub mod Sifts
+pub mod Sorts
+pub mod Firsts
+pub mod Meaning
+pub mod Joined
+pub mod Unique

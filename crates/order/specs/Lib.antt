@@ -1,0 +1,3 @@
+pub mod Sorted
+pub mod Facts
+pub mod Code

@@ -1,0 +1,3 @@
+pub mod Whole
+pub mod Said
+pub mod Code
