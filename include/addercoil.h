@@ -686,6 +686,14 @@ uint32_t addercoil_decode(const uint8_t *message, addercoil_size message_len, ui
                           addercoil_size fields_len);
 
 /*
+ * The key of a message of ADDERCOIL_MESSAGE bytes, under which addercoil_receive keeps its track, into out of 1 entry:
+ * by it messages are dealt out to several tables, or logged by aircraft. A message has a key even if a table would
+ * answer 6 or 12 to it. Or ADDERCOIL_REFUSED_LENGTH, ADDERCOIL_REFUSED_PARITY, ADDERCOIL_REFUSED_FORMAT,
+ * ADDERCOIL_REFUSED_TYPE.
+ */
+uint32_t addercoil_key(const uint8_t *message, addercoil_size message_len, uint64_t *out, addercoil_size out_len);
+
+/*
  * What an ME says, as ADDERCOIL_TRACK_IDENTIFICATION, _VELOCITY, _SURFACE and _STATUS have it, into fields of
  * ADDERCOIL_FIELDS entries, as addercoil_decode gives them; what stands before ME, which are entries 1 to 4, is 0. key
  * is that of the track: its kind tells what the height difference means and, if it is C, that the ME is a coarse one,

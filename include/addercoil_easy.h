@@ -540,6 +540,15 @@ static inline uint32_t addercoil_easy_decode(const uint8_t *bytes, addercoil_siz
     return addercoil_easy_to_message(number, fields, message);
 }
 
+static inline uint32_t addercoil_easy_key(const uint8_t *bytes, addercoil_size length, uint32_t *key) {
+    uint64_t said = 0;
+    uint32_t number = addercoil_key(bytes, length, &said, 1);
+    if (number == ADDERCOIL_OK) {
+        *key = (uint32_t)said;
+    }
+    return number;
+}
+
 static inline uint32_t addercoil_easy_me(uint64_t me, uint32_t key, struct addercoil_message *message) {
     uint64_t fields[ADDERCOIL_FIELDS];
     uint32_t number = addercoil_me(me, key, fields, ADDERCOIL_FIELDS);

@@ -482,6 +482,11 @@ def decode(message):
     return row(AT["FIELDS"], message_row(messages.decode(message)))
 
 
+def key(message):
+    """The key of a message."""
+    return [key_of(messages.decode(message))]
+
+
 def me(number, key):
     """What an ME of a key says; 8 for more than 56 bits or what is no key, then 5. Of kind C every ME is a coarse message's."""
     fits(number, 56)
@@ -543,6 +548,7 @@ FUNCTIONS = {
     "degrees": Function(to_degrees, None, None, AT["DEGREES"], WORDS),
     "from_degrees": Function(from_degrees, None, None, AT["SPOT"], WORDS),
     "decode": Function(decode, None, BYTES, AT["FIELDS"], WORDS),
+    "key": Function(key, None, BYTES, 1, WORDS),
     "encode": Function(encode, None, WORDS, AT["MESSAGE"], BYTES),
     "me": Function(me, None, None, AT["FIELDS"], WORDS),
 }

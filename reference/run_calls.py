@@ -386,7 +386,7 @@ def numbers_for(name, chance, table):
 
 def given_for(name, chance, table):
     """The array of a call."""
-    if name in ("receive", "receive_stamp", "decode"):
+    if name in ("receive", "receive_stamp", "decode", "key"):
         return some_message(chance)
     if name == "feed_block":
         return some_block(chance, table)
@@ -492,7 +492,7 @@ NUMBERS = {
     **{"encode_position": {0, 1, 8}, "pair": {0, 1, 8, 9, 10}, "single": {0, 1, 8, 9}},
     **{"encode_position_coarse": {0, 1, 8}, "pair_coarse": {0, 1, 8, 9, 10}, "single_coarse": {0, 1, 8, 9}},
     **{"degrees": {0, 1, 8}, "from_degrees": {0, 1, 15}},
-    **{"decode": {0, 1, 3, 4, 5}, "encode": {0, 1, 8}, "me": {0, 1, 5, 8}},
+    **{"decode": {0, 1, 3, 4, 5}, "key": {0, 1, 3, 4, 5}, "encode": {0, 1, 8}, "me": {0, 1, 5, 8}},
 }
 STEPPED = {"UNKNOWN", "KNOWN", "OVER"}
 KINDS = {

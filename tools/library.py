@@ -4,7 +4,7 @@ import re
 from pathlib import Path
 
 ROOT = Path(__file__).resolve().parent.parent
-LIBRARY = ['addercoil', 'display', 'audit', 'arbiter']
+LIBRARY = ['addercoil', 'display', 'audit', 'arbiter', 'dealer']
 
 
 def public(crate):

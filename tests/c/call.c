@@ -32,6 +32,7 @@ const struct shape shapes[FUNCTIONS] = {
     {"degrees", NO_TABLE, NOTHING, 2, WORDS},
     {"from_degrees", NO_TABLE, NOTHING, 2, WORDS},
     {"decode", NO_TABLE, BYTES, 0, WORDS},
+    {"key", NO_TABLE, BYTES, 0, WORDS},
     {"encode", NO_TABLE, WORDS, 0, BYTES},
     {"me", NO_TABLE, NOTHING, 2, WORDS},
 };

@@ -47,6 +47,7 @@ enum function {
     DEGREES,
     FROM_DEGREES,
     DECODE,
+    KEY,
     ENCODE,
     ME,
     FUNCTIONS

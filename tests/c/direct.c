@@ -95,6 +95,8 @@ static uint64_t without_table(const struct call *call, const uint8_t *given, uin
         return addercoil_from_degrees(double_of(n[0]), double_of(n[1]), words, length);
     case DECODE:
         return addercoil_decode(given, given_size, words, length);
+    case KEY:
+        return addercoil_key(given, given_size, words, length);
     case ME:
         return addercoil_me(n[0], (uint32_t)n[1], words, length);
     default:

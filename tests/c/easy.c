@@ -426,6 +426,15 @@ static uint32_t with_table(const struct call *call, struct addercoil_table t, co
     }
 }
 
+static uint32_t key(const uint8_t *given, size_t size, uint64_t *row) {
+    uint32_t said = 0;
+    uint32_t number = addercoil_easy_key(given, size, &said);
+    if (number == ADDERCOIL_OK) {
+        row[0] = said;
+    }
+    return number;
+}
+
 static uint64_t without_table(const struct call *call, const uint8_t *given, uint8_t *result) {
     const uint64_t *n = call->numbers;
     uint64_t *row = (uint64_t *)result;
@@ -464,6 +473,8 @@ static uint64_t without_table(const struct call *call, const uint8_t *given, uin
     case DECODE:
         number = addercoil_easy_decode(given, call->given_size, &message);
         return put_message(number, &message, row);
+    case KEY:
+        return key(given, call->given_size, row);
     case ME:
         number = addercoil_easy_me(n[0], (uint32_t)n[1], &message);
         return put_message(number, &message, row);

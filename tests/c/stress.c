@@ -406,6 +406,7 @@ static size_t make_given(enum function function, uint64_t time) {
     case RECEIVE:
     case RECEIVE_STAMP:
     case DECODE:
+    case KEY:
         make_message(given);
         return about(ADDERCOIL_MESSAGE);
     case FEED_BLOCK:

@@ -42,26 +42,26 @@ use Rattle.c_promises.proofs.Every.{run-met, look-up-met, replay-met}
 
 -- ---- a table of n places, set up without a site, and calls
 
-abbrev backs : ℕ → List Call → List Sent
+abbrev pub backs : ℕ → List Call → List Sent
 backs n cs = backsOf (setUp (empty-bytes n) .table) cs
 
-abbrev tableAfter : ℕ → List Call → List ℕ
+abbrev pub tableAfter : ℕ → List Call → List ℕ
 tableAfter n cs = leftBy (setUp (empty-bytes n) .table) (backs n cs)
 
-abbrev numbers : ℕ → List Call → List ℕ
+abbrev pub numbers : ℕ → List Call → List ℕ
 numbers n cs = map (λ (x : Sent). x .number) (backs n cs)
 
 -- ADDERCOIL_TRACK_HELD and ADDERCOIL_TRACK_HEARD, in an array that held sevens
-abbrev sevens : List ℕ
+abbrev pub sevens : List ℕ
 sevens = replicate 72 7
 
 abbrev heldAndHeard : Sent → List ℕ
 heldAndHeard x = getD (x .array) 0 7 ∷ getD (x .array) 1 7 ∷ []
 
-abbrev lookedIn : List ℕ → ℕ → List ℕ
+abbrev pub lookedIn : List ℕ → ℕ → List ℕ
 lookedIn table k = heldAndHeard (into 72 sevens (lookedSaid k (lookedUp table k)))
 
-abbrev looked : ℕ → List Call → List ℕ
+abbrev pub looked : ℕ → List Call → List ℕ
 looked n cs = lookedIn (tableAfter n cs) key
 
 -- noise when a track of 1000 is out of date
@@ -99,7 +99,7 @@ computed =
 
 -- ---- demand 3
 
-abbrev runOf : (n : ℕ) → setUpSent (setUp (empty-bytes n)) .number ≡ 0 → (cs : List Call) → Run none cs (backs n cs)
+abbrev pub runOf : (n : ℕ) → setUpSent (setUp (empty-bytes n)) .number ≡ 0 → (cs : List Call) → Run none cs (backs n cs)
 runOf n done cs = run-met none (empty-bytes n) done cs
 
 alike : Alike key (first ∷ stranger ∷ []) (first ∷ refused ∷ [])

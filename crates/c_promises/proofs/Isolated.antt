@@ -100,7 +100,7 @@ module _ (site : Option Site) {cs : List Call} {xs : List Sent} (p : Run site cs
   pub run-whole : bytes .whole (p .back .array) ≡ true
   run-whole = begun-whole site (p .table) (p .back) (p .begun) (p .done)
 
-  by-rule : Followed received (λ (z : List ℕ). z) (rules.setUp bytes (p .table) (siteOf site) .table) cs xs
+  pub by-rule : Followed received (λ (z : List ℕ). z) (rules.setUp bytes (p .table) (siteOf site) .table) cs xs
   by-rule = subst (λ (z : List ℕ). Followed received (λ (y : List ℕ). y) z cs xs) run-table (followed run-whole (p .ran))
 
   pub run-never : (key : ℕ) → Never6 key cs xs → NeverFull received key (rules.setUp bytes (p .table) (siteOf site) .table) cs

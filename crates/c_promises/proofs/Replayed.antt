@@ -64,11 +64,11 @@ coarse-is {log} {address} {flag} {station} {track} {back} b =
 
 -- ---- the table that a run leaves
 
-ran-left : {table : List ℕ} {cs : List Call} {backs : List Sent} → Ran table cs backs → leftBy table backs ≡ logs.left received table cs
+pub ran-left : {table : List ℕ} {cs : List Call} {backs : List Sent} → Ran table cs backs → leftBy table backs ≡ logs.left received table cs
 ran-left stopped = refl
 ran-left (then {cs = cs} b more) = ran-left more ∙ ap (λ (s : List ℕ). logs.left received s cs) (table-is b)
 
-left-whole : {table : List ℕ} {cs : List Call} {backs : List Sent} → Ran table cs backs → bytes .whole table ≡ true → bytes .whole (leftBy table backs) ≡ true
+pub left-whole : {table : List ℕ} {cs : List Call} {backs : List Sent} → Ran table cs backs → bytes .whole table ≡ true → bytes .whole (leftBy table backs) ≡ true
 left-whole stopped w = w
 left-whole (then b more) w = left-whole more (whole-left b w)
 

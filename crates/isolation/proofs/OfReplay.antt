@@ -61,7 +61,7 @@ replay-is {log} {kind} {address} {site} b =
     ∙ ap₂ (λ (l : List ℕ) (k : Kind). replayed l k (b .args .1 .1 .0) (b .args .1 .1 .1 .0)) (b .lent) (b .its-kind)
     ∙ ap₂ (λ (a : ℕ) (z : Site). replayed log kind a z) (b .its-address) (b .its-site)
 
-look-up-is : {s : List ℕ} {key : ℕ} {x : Looked} → LookUpMet s key x → x ≡ lookedUp s key
+pub look-up-is : {s : List ℕ} {key : ℕ} {x : Looked} → LookUpMet s key x → x ≡ lookedUp s key
 look-up-is b = b .meets ∙ ap₂ lookedUp (b .lent) (b .its-key)
 
 -- from a set-up on, as long as 6 was answered to none of the key's messages

@@ -138,7 +138,7 @@ same-prints e all bad p q u v = prints-listing u ∙ e all bad ∙ sym (prints-l
 
 -- ---- the two orders are those of the rules
 
-hear-is : {s message : List ℕ} {time : ℕ} {r : After Heard} → HearMet s message time r → r ≡ heard (received s message time)
+pub hear-is : {s message : List ℕ} {time : ℕ} {r : After Heard} → HearMet s message time r → r ≡ heard (received s message time)
 hear-is {s} {message} {time} {r} b =
     ap (after (r .answer)) (sym (b .table))
     ∙ b .meets

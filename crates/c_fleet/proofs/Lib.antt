@@ -1,0 +1,4 @@
+pub mod Sides
+pub mod Fleets
+pub mod Keys
+pub mod Examples

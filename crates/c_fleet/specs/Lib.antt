@@ -1,0 +1,3 @@
+pub mod Sides
+pub mod Fleets
+pub mod Keys

@@ -1,0 +1,10 @@
+-- The function has one answer: two that satisfy its contract both equal its definition, with what the lent array holds afterwards.
+-- Assumes nothing.
+use mathlib.Core.Path.{sym, _∙_}
+use Rattle.refusals.specs.Answers.{OneOutcome}
+use Rattle.entries.specs.Sent.{Sent, sent}
+use Rattle.dealer.proofs.key.addercoil_key.Kinds as key-kinds
+use Rattle.dealer.proofs.key.addercoil_key.Reads as key
+
+pub key-once : OneOutcome 2 key-kinds.ps key-kinds.r Sent (λ κs x left. sent x (left .1 .0 .now)) key.Post
+key-once κs args x y left left′ p q = p ∙ sym q

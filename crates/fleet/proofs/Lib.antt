@@ -1,0 +1,11 @@
+pub mod Shards
+pub mod Fleet
+pub mod Plain
+pub mod Room
+pub mod Together
+pub mod Wide
+pub mod Played
+pub mod OfCode
+pub mod OfHear
+pub mod OfSlice
+pub mod Examples

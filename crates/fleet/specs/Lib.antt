@@ -1,0 +1,5 @@
+pub mod Sparse
+pub mod Fleet
+pub mod Room
+pub mod Together
+pub mod Wide
