@@ -31,8 +31,9 @@
  *     32 times AA, plus 16 times the flag of the address, plus the number of the station (ADDERCOIL_KEY_COARSE): an
  *     aircraft that two stations tell of is two keys. Flag 0 is an ICAO address, 1 a Mode A code with a track number.
  *
- * Link with libaddercoil.a, which `tools/staticlib TARGET` writes to target/staticlib/TARGET/. A target is one of
- * x86_64, aarch64, armv6 and riscv64, which have Linux; thumbv7m and thumbv6m, boards without a system; and wasm32.
+ * Compile all .S files of dist/ with your program, or link with libaddercoil.a, which `tools/install` makes of
+ * them. The targets are x86_64, aarch64, armv6 and riscv64, which have Linux; thumbv7m and thumbv6m, boards without a
+ * system; and wasm32.
  */
 #ifndef ADDERCOIL_H
 #define ADDERCOIL_H

@@ -1,7 +1,7 @@
 """Runs the programs of this repository by way of tools/run.
 
 Those of C are built for several targets. PROCESSOR of the environment says which is meant; without it, this machine's processor. For
-wasm32 there is no program, but a module, which programs for node call: those in tests/js and examples/js.
+wasm32 there is no program, but the module of dist/, which programs for node call: those in tests/js and examples/js.
 """
 
 import os
@@ -13,7 +13,7 @@ ROOT = Path(__file__).resolve().parent.parent
 C = f"c/{os.environ.get('PROCESSOR', platform.machine())}"  # where tools/build-c put the programs of C, under target/
 
 
-MODULE = ROOT / "target/staticlib/wasm32/addercoil.wasm"
+MODULE = ROOT / "dist/addercoil.wasm"
 FOR_NODE = {f"c/wasm32/{path.stem}": path for folder in ("tests/js", "examples/js") for path in (ROOT / folder).glob("*.mjs")}
 
 

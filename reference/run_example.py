@@ -1,10 +1,10 @@
-"""Runs the example in C on its sample, and on lines that no receiver prints, and compares with the model: of all tracks,
+"""Runs the example `hex` in C on its sample, and on lines that no receiver prints, and compares with the model: of all tracks,
 with and without being asked, and of those with a position. Words that it does not take are a usage line; an input that
-cannot be read and an output that cannot be written are said.
+cannot be read and an output that cannot be written are said. Then the example `capture`, on the captures of samples/.
 
     python3 reference/run_example.py
 
-tools/build-c must have built target/c/PROCESSOR/listing; or for a board without a system minute, which takes the sample alone. For wasm32 it
+tools/build-c must have built target/c/PROCESSOR/hex and capture; or for a board without a system minute, which takes the sample alone. For wasm32 it
 is the example for node.
 """
 
@@ -52,15 +52,26 @@ WRONG = [1, 2], ["x"], [""], ["-1"], ["1x"], [" 1"], [2**64], [1, "x"], [1, ""],
 def failures():
     """What it does otherwise than it must with such words, or such an input or output."""
     for words in WRONG:
-        done = ran(f"{C}/listing", *words, given=GOOD.encode("ascii"))
+        done = ran(f"{C}/hex", *words, given=GOOD.encode("ascii"))
         if (done.returncode, done.stdout, done.stderr[:6]) != (2, b"", b"usage:"):
-            yield f"listing {words}: status {done.returncode}, {done.stdout}, {done.stderr}"
-    if not (ROOT / "target" / C / "listing").exists():
+            yield f"hex {words}: status {done.returncode}, {done.stdout}, {done.stderr}"
+    if "hex" not in built():
         return  # for node, which says such things in its own words
     for words, said in {"< /": b"the input cannot be read to its end", "< /dev/null > /dev/full": b"the output cannot be written"}.items():
-        done = subprocess.run(["sh", "-c", f"exec tools/run target/{C}/listing {words}"], cwd=ROOT, capture_output=True, timeout=60, check=False)
-        if (done.returncode, done.stdout, done.stderr) != (1, b"", b"0 refused\nlisting: " + said + b"\n"):
-            yield f"listing {words}: status {done.returncode}, {done.stdout}, {done.stderr}"
+        done = subprocess.run(["sh", "-c", f"exec tools/run target/{C}/hex {words}"], cwd=ROOT, capture_output=True, timeout=60, check=False)
+        if (done.returncode, done.stdout, done.stderr) != (1, b"", b"0 refused\nhex: " + said + b"\n"):
+            yield f"hex {words}: status {done.returncode}, {done.stdout}, {done.stderr}"
+
+
+ENDINGS = {"listing": ["all"], "positioned": []}  # of what a capture's listings are named, and the words that ask for each
+
+
+def captures():
+    """What the example `capture` prints otherwise than samples/ has it."""
+    for given, (ending, words) in product(sorted((ROOT / "samples").glob("*.capture")), ENDINGS.items()):
+        done = ran(f"{C}/capture", *words, given=given.read_bytes())
+        if (done.returncode, done.stdout, done.stderr) != (0, given.with_suffix(f".{ending}").read_bytes(), b""):
+            yield f"capture {words} of {given.name}: status {done.returncode}, {done.stdout}, {done.stderr}"
 
 
 def on_board():
@@ -72,19 +83,19 @@ def on_board():
 
 
 def main():
-    if "minute" in built() and "listing" not in built():
+    if "minute" in built() and "hex" not in built():
         found, due = on_board()
         print("a board prints what the model says" if found == due else f"found {found}\nand expected {due}")
         return 0 if found == due else 1
     for (given, strings, step), (words, every) in product(cases(), CHOICES.items()):
-        done = ran(f"{C}/listing", step, *words, given=given)
+        done = ran(f"{C}/hex", step, *words, given=given)
         listing, refused = hex_listing(strings, step, every)
         if (done.returncode, done.stdout, done.stderr) != (0, listing, f"{refused} refused\n".encode("ascii")):
             print(f"status {done.returncode}; the model says {refused} refused and\n{listing.decode()}and the example")
             print((done.stderr + done.stdout).decode())
             return 1
-    wrong = list(failures())
-    print("\n".join(wrong) if wrong else "the example prints what the model says, both ways, and says what it cannot do")
+    wrong = [*failures(), *(captures() if "capture" in built() else [])]
+    print("\n".join(wrong) if wrong else "the examples print what the model says, both ways, and say what they cannot do")
     return 1 if wrong else 0
 
 

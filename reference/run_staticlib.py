@@ -1,5 +1,5 @@
 """Shows what tools/staticlib refuses: modules with something of x86 in them, other sizes, pointers that are taken for 64 bits, a wide
-product in the zone count, another kit, another way to call clang.
+product in the zone count, assembler that makes another library than rt, another kit, another way to call clang.
 
     python3 reference/run_staticlib.py
 
@@ -146,16 +146,34 @@ def module_faults(script):
         keep(script, crate, MODULE + LENT)
     due = [f"{crate}.o" for crate in script.LIBRARY]
     for name in (name for name in others if script.TARGETS[name].sort != script.MODULE):
-        said = refusal(script, script.make_other, name)
+        said = refusal(script, script.make_archive, name)
         if said or script.output(script.tool("llvm-ar"), "t", script.archive(name)).split() != due:
             yield f"{name}: modules without anything of x86: {said}"
         elif script.symbols(script.archive(name)) != ["one"] * len(due):
             yield f"{name}: the global names of an archive were not found"
     for text, crate, name in zip(OF_X86, cycle(script.LIBRARY), cycle(others)):
         keep(script, crate, f"{MODULE}\n{text}\n")
-        if "of x86 in it, or something that was not tried" not in refusal(script, script.make_other, name):
+        if "of x86 in it, or something that was not tried" not in refusal(script, script.make_archive, name):
             yield f"{name}: not refused: {text}"
         keep(script, crate, MODULE)
+
+
+def text_faults(script):
+    """What is wrong with the assembler: its names, and that for x86-64 it makes what rt makes."""
+    if script.plain('\t.ascii\t"a::b"\n"a::b":\n\tcall\t"a::b"@PLT\n\t.ident\t"x"\n') != '\t.ascii\t"a::b"\na.b:\n\tcall\ta.b@PLT\n':
+        yield "names are not plain, or more than names is changed"
+    words = [*WORDS[:-1], "--no-default-config"]
+    for crate in script.LIBRARY:
+        keep(script, crate, MODULE.replace("@one", f"@{crate}"))
+        own = [f"{crate}.bc" if word == "module.bc" else f"{crate}.o" if word == "module.o" else word for word in words]
+        script.output(script.tool("clang"), *own, folder=script.MADE)
+    script.output(script.tool("llvm-ar"), "rcsD", script.of_rt(), *(f"{crate}.o" for crate in script.LIBRARY), folder=script.MADE)
+    said = refusal(script, script.make_archive, script.X86)
+    if said:
+        yield f"the assembler of rt's own modules was refused: {said}"
+    keep(script, script.LIBRARY[-1], MODULE.replace("@one", f"@{script.LIBRARY[-1]}").replace("ret i32 1", "ret i32 2"))
+    if "another library than rt" not in refusal(script, script.make_archive, script.X86):
+        yield "not refused: assembler that is not what rt makes"
 
 
 def layout_faults(script):
@@ -200,7 +218,7 @@ def other_faults(script):
         if "with other words" not in refusal(script, script.words_for, name, WORDS[:at] + WORDS[at + 1 :], "other.ll", "other.o"):
             yield f"not refused: without {WORDS[at]}"
     (script.MADE / f"{script.LIBRARY[-1]}.words").unlink()
-    if "handed no module" not in refusal(script, script.make_other, "aarch64"):
+    if "handed no module" not in refusal(script, script.make_archive, "aarch64"):
         yield "not refused: no module"
     if "there is no archive for" not in refusal(script, script.make, "i686"):
         yield "not refused: another processor"
@@ -211,7 +229,7 @@ def other_faults(script):
 
 def faults(script):
     """What is wrong with the script."""
-    for part in (module_faults, layout_faults, product_faults, other_faults):
+    for part in (module_faults, text_faults, layout_faults, product_faults, other_faults):
         yield from part(script)
 
 
@@ -224,7 +242,7 @@ def main():
     if found:
         print("\n".join(found))
         return 1
-    print(f"{len(OF_X86)} modules with something of x86, {len(OTHER_LAYOUTS)} layouts, {len(BY_POINTERS)} uses of a pointer's 64 bits, other words,")
+    print(f"{len(OF_X86)} modules with something of x86, {len(OTHER_LAYOUTS)} layouts, {len(BY_POINTERS)} uses of a pointer's 64 bits, other assembler, other words,")
     print(f"another kit: refused, each in a sentence; {len(WIDE)} wide products in each part of the zone count: seen")
     return 0
 

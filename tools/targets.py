@@ -24,6 +24,7 @@ class Target(NamedTuple):
     sort: str
     triple: str  # as clang calls it
     words: list  # what clang is told besides
+    told: str = ''  # by a compiler's macros, of a processor with the low byte first
     machine: int | None = None
     flags: int = 0  # of those in FLOATS
     compiler: str = ''  # of C, on a machine with another processor
@@ -33,16 +34,17 @@ class Target(NamedTuple):
     optimised: str = '-O3'
 
 
-def linux(triple, words, machine, gnu, debian, emulator, flags=0, more=()):
+def linux(triple, words, told, machine, gnu, debian, emulator, flags=0, more=()):
     """A processor under Linux, by the names that gcc, Debian and qemu have for it."""
     compiler = f'{gnu}-gcc'
     needs = {compiler: f'gcc-{gnu}', f'/usr/{gnu}/lib/libc.a': f'libc6-dev-{debian}-cross', emulator: 'qemu-user', **dict(more)}
-    return Target(LINUX, triple, words, machine, flags, compiler, emulator, needs)
+    return Target(LINUX, triple, words, told, machine, flags, compiler, emulator, needs)
 
 
-def board(triple, words):
-    """A processor of ARM without a system; its programs look alike."""
-    return Target(BOARD, triple, words, 40, SOFT, 'arm-none-eabi-gcc', 'qemu-system-arm', ARM_BOARD, False, '-Os')
+def board(triple, words, thumb):
+    """A processor of ARM without a system, by its Thumb; its programs look alike."""
+    told = f"defined(__arm__) && __ARM_ARCH_PROFILE == 'M' && __ARM_ARCH_ISA_THUMB == {thumb} && !defined(__ARM_PCS_VFP)"
+    return Target(BOARD, triple, words, told, 40, SOFT, 'arm-none-eabi-gcc', 'qemu-system-arm', ARM_BOARD, False, '-Os')
 
 
 FLOATS = 0x600  # of a program for 32-bit ARM: whether doubles pass in registers of their own
@@ -50,17 +52,24 @@ HARD, SOFT = 0x400, 0x200
 X86 = 'x86_64'  # the kit compiles for it, and has its emulator
 ARM_COMPILER = {'arm-none-eabi-gcc': 'gcc-arm-none-eabi'}
 ARM_BOARD = ARM_COMPILER | {'qemu-system-arm': 'qemu-system-arm'}
+LONG = '__SIZEOF_POINTER__ == 8'
 TARGETS = {
-    X86: Target(LINUX, 'x86_64-unknown-linux-gnu', ['-march=x86-64'], 62),
-    'aarch64': linux('aarch64-unknown-linux-gnu', [], 183, 'aarch64-linux-gnu', 'arm64', 'qemu-aarch64'),
+    X86: Target(LINUX, 'x86_64-unknown-linux-gnu', ['-march=x86-64'], f'defined(__x86_64__) && {LONG}', 62),
+    'aarch64': linux('aarch64-unknown-linux-gnu', [], f'defined(__aarch64__) && {LONG}', 183, 'aarch64-linux-gnu', 'arm64', 'qemu-aarch64'),
     # Every Raspberry Pi, with a 32-bit system. Debian's C library for it is for ARMv7: without one the calls run on the first one's processor too
     'armv6': linux(
-        'armv6-unknown-linux-gnueabihf', ['-mfloat-abi=hard', '-mfpu=vfp2'], 40, 'arm-linux-gnueabihf', 'armhf', 'qemu-arm', HARD, ARM_COMPILER
+        'armv6-unknown-linux-gnueabihf', ['-mfloat-abi=hard', '-mfpu=vfp2'],
+        "defined(__arm__) && __ARM_ARCH_PROFILE != 'M' && __ARM_ARCH >= 6 && defined(__ARM_PCS_VFP)",
+        40, 'arm-linux-gnueabihf', 'armhf', 'qemu-arm', HARD, ARM_COMPILER
     ),
-    'riscv64': linux('riscv64-unknown-linux-gnu', ['-march=rv64gc', '-mabi=lp64d'], 243, 'riscv64-linux-gnu', 'riscv64', 'qemu-riscv64'),
+    'riscv64': linux(
+        'riscv64-unknown-linux-gnu', ['-march=rv64gc', '-mabi=lp64d'],
+        'defined(__riscv) && __riscv_xlen == 64 && defined(__riscv_mul) && defined(__riscv_compressed) && defined(__riscv_float_abi_double)',
+        243, 'riscv64-linux-gnu', 'riscv64', 'qemu-riscv64'
+    ),
     # A Cortex-M3, a Cortex-M0, and what is above them, with doubles in software
-    'thumbv7m': board('thumbv7m-unknown-none-eabi', ['-mcpu=cortex-m3', '-mfloat-abi=soft']),
-    'thumbv6m': board('thumbv6m-unknown-none-eabi', ['-mcpu=cortex-m0', '-mfloat-abi=soft']),
+    'thumbv7m': board('thumbv7m-unknown-none-eabi', ['-mcpu=cortex-m3', '-mfloat-abi=soft'], 2),
+    'thumbv6m': board('thumbv6m-unknown-none-eabi', ['-mcpu=cortex-m0', '-mfloat-abi=soft'], 1),
     'wasm32': Target(MODULE, 'wasm32-unknown-unknown', [], emulator='node', needs={'node': 'nodejs'}, independent=False),
 }
 

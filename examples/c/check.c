@@ -2,9 +2,8 @@
  * Checks another decoder's listing of a capture: check CAPTURE LISTING. It prints "yes", or "line N" for the first line
  * at fault, the header being line 1. Where the library refuses, it prints nothing, and on standard error the number: 14
  * for a capture of more than 2,900 records, 16 for a text that is not in the form of a listing.
- *
- * tools/staticlib && gcc -std=c99 -Iinclude examples/c/check.c target/staticlib/$(uname -m)/libaddercoil.a -o c-check
  */
+// gcc -std=c99 -Idist examples/c/check.c dist/*.S -o c-check
 #include <addercoil.h>
 #include <inttypes.h>
 #include <stdio.h>

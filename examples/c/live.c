@@ -7,10 +7,9 @@
  * program says how many messages were taken, how many were refused with which number, and how many lines had no message.
  * With the receiver's latitude and longitude in degrees, north and east above zero, positions on the ground are read
  * against them.
- *
- * tools/staticlib && gcc -std=c99 -Iinclude examples/c/live.c target/staticlib/$(uname -m)/libaddercoil.a -o live
- * nc localhost 30002 | ./live
  */
+// gcc -std=c99 -Idist examples/c/live.c dist/*.S -o live
+// nc localhost 30002 | ./live
 #define _POSIX_C_SOURCE 200112L
 #include <addercoil.h>
 #include <ctype.h>

@@ -1,6 +1,6 @@
 // Reads messages in hex on standard input, one a line as *HEX; or HEX, keeps a table of 256 places and prints the listing at the end:
 //
-//     node listing.mjs addercoil.wasm [STEP [ALL]] < samples/minute.hex
+//     node hex.mjs addercoil.wasm [STEP [ALL]] < samples/minute.hex
 //
 // Message k, from 0, arrives at k times STEP milliseconds, or k. The listing has all tracks, or with 0 for ALL those whose position is known. What each call does,
 // include/addercoil.h says; lengths, counts and times are BigInts, and arrays are lent in the memory of the module.
@@ -10,7 +10,7 @@ import { createInterface } from "node:readline";
 const [path, step = "1", all = "1", ...more] = process.argv.slice(2);
 const isStep = /^[0-9]+$/.test(step) && BigInt(step) < 2n ** 64n;
 if (path === undefined || !isStep || !["0", "1"].includes(all) || more.length > 0) {
-    console.error("usage: node listing.mjs addercoil.wasm [STEP [ALL]]");
+    console.error("usage: node hex.mjs addercoil.wasm [STEP [ALL]]");
     process.exit(2);
 }
 const { instance } = await WebAssembly.instantiate(readFileSync(path), {});

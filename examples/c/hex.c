@@ -1,10 +1,9 @@
 /*
  * Reads messages in hex on standard input, one a line as *HEX; or HEX, keeps a table of 256 places and prints the
- * listing at the end: listing [STEP [ALL]]. Line k, from 0, arrives at k times STEP milliseconds, or k. The listing has
+ * listing at the end: hex [STEP [ALL]]. Line k, from 0, arrives at k times STEP milliseconds, or k. The listing has
  * all tracks, or with 0 for ALL those whose position is known.
- *
- * tools/staticlib && gcc -std=c99 -Iinclude examples/c/listing.c target/staticlib/$(uname -m)/libaddercoil.a -o c-listing
  */
+// gcc -std=c99 -Idist examples/c/hex.c dist/*.S -o c-hex
 #include <addercoil.h>
 #include <ctype.h>
 #include <errno.h>
@@ -79,17 +78,17 @@ int main(int count, char **arguments) {
     uint64_t step = 1, all = 1;
     if (count > 3 || (count > 1 && !number_in(arguments[1], UINT64_MAX, &step)) ||
         (count > 2 && !number_in(arguments[2], 1, &all))) {
-        fputs("usage: listing [STEP [ALL]], STEP a whole number of milliseconds, and 0 or 1 for ALL\n", stderr);
+        fputs("usage: hex [STEP [ALL]], STEP a whole number of milliseconds, and 0 or 1 for ALL\n", stderr);
         return 2;
     }
     addercoil_set_up(table, sizeof table);
     fprintf(stderr, "%lu refused\n", receive_all(stdin, step));
     if (ferror(stdin)) {
-        fputs("listing: the input cannot be read to its end\n", stderr);
+        fputs("hex: the input cannot be read to its end\n", stderr);
         return 1;
     }
     if (!print_listing((uint32_t)all)) {
-        fputs("listing: the output cannot be written\n", stderr);
+        fputs("hex: the output cannot be written\n", stderr);
         return 1;
     }
     return 0;
