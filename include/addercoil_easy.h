@@ -8,6 +8,9 @@
  * addercoil.h says what each call does, what the caller must keep, and what the units are. A struct has its entries by
  * name; a reading is what it is, ADDERCOIL_KNOWN or another, and its value. Text is empty where it is unknown.
  *
+ * Three have no twin: addercoil_easy_speed, addercoil_easy_direction and addercoil_easy_site_in_degrees, which compute in
+ * doubles. A program that calls one of the first two is linked with -lm, and no other needs it.
+ *
  *     static uint8_t bytes[ADDERCOIL_TABLE_BYTES(256)];
  *     struct addercoil_table table = {bytes, sizeof bytes};
  *     addercoil_easy_set_up(table);
@@ -529,6 +532,100 @@ static inline uint32_t addercoil_easy_from_degrees(struct addercoil_degrees degr
     uint64_t row[ADDERCOIL_SPOT];
     uint32_t number = addercoil_from_degrees(degrees.latitude, degrees.longitude, row, ADDERCOIL_SPOT);
     return addercoil_easy_to_spot(number, row, spot);
+}
+
+/* The whole number nearest to an angle in 2^-32 of a turn; a half goes away from zero. */
+static inline int64_t addercoil_easy_units(double degrees) {
+    double exact = degrees * 4294967296.0 / 360.0;
+    return (int64_t)(exact < 0 ? exact - 0.5 : exact + 0.5);
+}
+
+/*
+ * The spot nearest to a latitude, -90 to 90 degrees, and a longitude, -180 to 360, as people type them: for a site. Or
+ * ADDERCOIL_REFUSED_FIELD for what is beyond, and for not-a-number.
+ */
+static inline uint32_t addercoil_easy_site_in_degrees(struct addercoil_degrees degrees, struct addercoil_spot *spot) {
+    if (!(degrees.latitude >= -90 && degrees.latitude <= 90 && degrees.longitude >= -180 && degrees.longitude <= 360)) {
+        return ADDERCOIL_REFUSED_FIELD;
+    }
+    spot->latitude = (int32_t)addercoil_easy_units(degrees.latitude);
+    spot->longitude = (uint32_t)addercoil_easy_units(degrees.longitude);
+    return ADDERCOIL_OK;
+}
+
+/* ---- Over ground ---- */
+
+/* Whether a track is of kind C, whose angle alone is always known; and whether its last position was on the surface. */
+static inline int addercoil_easy_is_coarse(const struct addercoil_track *track) {
+    return track->angle.is == ADDERCOIL_KNOWN;
+}
+
+static inline int addercoil_easy_on_surface(const struct addercoil_track *track) {
+    return track->on_ground.is == ADDERCOIL_KNOWN && track->on_ground.value == 1;
+}
+
+/* The speed of the two parts: unknown if one is, else over if one is, else the root of the sum of their squares. */
+static inline uint32_t addercoil_easy_speed_in_air(const struct addercoil_track *track, double *knots) {
+    double east = (double)track->east.value, north = (double)track->north.value;
+    if (track->east.is == ADDERCOIL_UNKNOWN || track->north.is == ADDERCOIL_UNKNOWN) {
+        return ADDERCOIL_UNKNOWN;
+    }
+    if (track->east.is == ADDERCOIL_OVER || track->north.is == ADDERCOIL_OVER) {
+        return ADDERCOIL_OVER;
+    }
+    *knots = __builtin_sqrt(east * east + north * north);
+    return ADDERCOIL_KNOWN;
+}
+
+/*
+ * The speed over ground: says ADDERCOIL_KNOWN, ADDERCOIL_OVER or ADDERCOIL_UNKNOWN, and puts it into *knots. In the air
+ * it comes of the two parts, as the nearest double to the root; on the surface it is the movement, the lower edge; of
+ * kind C the lower edge of its step. *knots is where over begins on the surface and of kind C, else 0 if it is not known.
+ * An airspeed is none.
+ */
+static inline uint32_t addercoil_easy_speed(const struct addercoil_track *track, double *knots) {
+    struct addercoil_reading from = addercoil_easy_is_coarse(track) ? track->speed : track->movement;
+    *knots = 0;
+    if (!addercoil_easy_is_coarse(track) && !addercoil_easy_on_surface(track)) {
+        return addercoil_easy_speed_in_air(track, knots);
+    }
+    *knots = (double)from.value / (addercoil_easy_is_coarse(track) ? 1 : 48);
+    if (from.is == ADDERCOIL_STOPPED) {
+        return ADDERCOIL_KNOWN;
+    }
+    return from.is == ADDERCOIL_NONE ? (uint32_t)ADDERCOIL_UNKNOWN : from.is;
+}
+
+/* A direction in degrees, if its status says that it is valid. */
+static inline uint32_t addercoil_easy_valid(struct addercoil_reading turn, struct addercoil_reading status,
+                                            double *degrees) {
+    if (turn.is != ADDERCOIL_KNOWN || status.is != ADDERCOIL_KNOWN || status.value != 1) {
+        return ADDERCOIL_UNKNOWN;
+    }
+    *degrees = (double)turn.value * 360.0 / 4294967296.0;
+    return ADDERCOIL_KNOWN;
+}
+
+/*
+ * The direction over ground, from north, clockwise, 0 to below 360 degrees: says ADDERCOIL_KNOWN or ADDERCOIL_UNKNOWN,
+ * and puts it into *degrees, 0 if it is unknown. In the air it comes of the two parts, unless both are 0; on the surface
+ * it is the heading, and of kind C the angle, if its status says that it is valid.
+ */
+static inline uint32_t addercoil_easy_direction(const struct addercoil_track *track, double *degrees) {
+    double east = (double)track->east.value, north = (double)track->north.value;
+    *degrees = 0;
+    if (addercoil_easy_is_coarse(track)) {
+        return addercoil_easy_valid(track->angle, track->angle_status, degrees);
+    }
+    if (addercoil_easy_on_surface(track)) {
+        return addercoil_easy_valid(track->surface_heading, track->surface_status, degrees);
+    }
+    if (track->east.is != ADDERCOIL_KNOWN || track->north.is != ADDERCOIL_KNOWN || (east == 0 && north == 0)) {
+        return ADDERCOIL_UNKNOWN;
+    }
+    *degrees = __builtin_atan2(east, north) * 57.29577951308232; /* 180 over pi */
+    *degrees += *degrees < 0 ? 360 : 0;
+    return ADDERCOIL_KNOWN;
 }
 
 /* ---- Messages ---- */

@@ -2,10 +2,9 @@
 
     python3 reference/run_live.py
 
-tools/build-c must have built target/c/PROCESSOR/live. Its clock is the machine's, so that two things of a listing differ from run to
-run: the clock, and when each track was last heard. All else must be what the model says, which hears line k at k ms: times
-decide on a track only by 10, 120 and 125 seconds, and here as there all lines come within 10. When a track was last heard is
-held to the order of the lines, and to the clock.
+tools/build-c must have built target/c/PROCESSOR/live. Its clock is the machine's, so that two things of what it shows differ from run to
+run: the clock, and the age of each track. All else must be what the model says, which hears line k at k ms: times decide on a track only
+by 10, 120 and 125 seconds, and here as there all lines come within 10. The ages are held to the clock.
 """
 
 import pty
@@ -23,18 +22,22 @@ from typing import NamedTuple
 
 import table
 import traffic
-from captures import listing_of
+from captures import listing_of, shown
 from make_samples import STEP, hex_lines, minute
 from programs import C, ROOT, ran
 from positions import EVEN, ODD
 from refusals import Refused
+from survey import TITLES, live_line
 from traffic import OTHER, TRANSPONDER
 from vectors.message_vectors import flipped, sealed_message
 
 PROGRAM = f"{C}/live"
 FORM = re.compile(rb"\s*(?:\*|@[0-9A-Fa-f]{12})((?:[0-9A-Fa-f]{2})+);\s*")
 LONGEST = 63  # bytes of a line that can have a message
-HEADER = re.compile(r"clock (\d+) tracks (\d+) bad-blocks 0")
+HEADER = re.compile(r"clock (\d+) aircraft (\d+)")
+TIMES = re.compile(r"^(clock |[A-Z] [0-9A-F]{6} )\d+", flags=re.M)
+AGE = 5  # characters of a line
+LATITUDE = slice(23, 33)  # where it stands in a line
 AT_ONCE = 10_000  # ms, the least age that changes a track
 PLACES = 64  # of the model's table: slow to search, and no case that it answers fills it
 MOST = 1024  # of the program's
@@ -45,10 +48,10 @@ NO_MESSAGE = None  # in the place of a number
 
 
 class Listing(NamedTuple):
-    """The clock; of each track when it was last heard; and all other columns."""
+    """The clock; of each track how many seconds ago it was heard; and the line before that."""
 
     clock: int
-    heard: list
+    ages: list
     rows: list
 
 
@@ -59,15 +62,14 @@ def due(what, found, expected):
 
 
 def listings(text):
-    """The listings of a text, one after the other; each has as many lines as its header says."""
+    """What is shown in a text, one after the other; each has as many lines as its header says, below the titles."""
     lines, made = text.splitlines(), []
     while lines:
         header = HEADER.fullmatch(lines[0])
-        if not header or len(lines) <= int(header[2]):
-            sys.exit(f"no listing: {lines}")
-        columns = [line.split() for line in lines[1 : 1 + int(header[2])]]
-        made.append(Listing(int(header[1]), [int(row[2]) for row in columns], [row[:2] + row[3:] for row in columns]))
-        lines = lines[1 + int(header[2]) :]
+        if not header or len(lines) <= int(header[2]) + 1 or lines[1] != TITLES:
+            sys.exit(f"nothing is shown: {lines}")
+        shown, lines = lines[2 : 2 + int(header[2])], lines[2 + int(header[2]) :]
+        made.append(Listing(int(header[1]), [int(line[-AGE:]) for line in shown], [line[:-AGE] for line in shown]))
     return made
 
 
@@ -95,12 +97,23 @@ def number_of(made, line, time):
     return 0
 
 
-def model(given, site=None, every=True):
-    """The listing of lines, of all tracks or of those with a position, and how many got each number."""
+def received(given, site=None):
+    """The model's table after lines, and how many got each number."""
     made = bytearray(table.length_of(PLACES))
     table.set_up(made, site)
-    counts = Counter(number_of(made, line, time) for time, line in enumerate(lines_of(given)))
-    return listings(listing_of(made, 0, every))[0], counts
+    return made, Counter(number_of(made, line, time) for time, line in enumerate(lines_of(given)))
+
+
+def model(given, site=None, every=True):
+    """What is shown of lines, all tracks or those with a position, and how many got each number."""
+    made, counts = received(given, site)
+    rows = [live_line(key, track, track.heard)[:-AGE] for key, track in shown(made, every)]
+    return Listing(0, [0] * len(rows), rows), counts
+
+
+def is_placed(row):
+    """Has a line a position?"""
+    return row[LATITUDE].strip() != "-"
 
 
 def counted(counts):
@@ -110,11 +123,9 @@ def counted(counts):
 
 
 def compare(what, found, expected):
-    """A listing and the model's: all columns, last heard in the same order, and nothing after the clock."""
+    """What is shown, and the model's: all columns, and no age above the clock."""
     due(f"{what}: the tracks", found.rows, expected.rows)
-    in_order = [heard for _, heard in sorted(zip(expected.heard, found.heard), key=lambda pair: pair[0])]
-    due(f"{what}: last heard, in the order of the lines", in_order, sorted(in_order))
-    due(f"{what}: heard before its clock, all within 10 seconds", max([0, *in_order]) <= found.clock < AT_ONCE, True)
+    due(f"{what}: the ages, all within 10 seconds", max([0, *found.ages]) <= found.clock // 1000 < AT_ONCE // 1000, True)
 
 
 def try_at_once(what, given, *words, site=None):
@@ -191,11 +202,11 @@ def random_lines(chance):
 def real_lines():
     """The sample in all forms; the tracks are those of its listing, and each form has the same counts."""
     strings = list(minute())
-    sample = listings((ROOT / "samples/minute.listing").read_text(encoding="ascii"))[0]
-    if model(hex_lines(strings), every=False)[0].rows == sample.rows:
+    sample = TIMES.sub(r"\1", (ROOT / "samples/minute.listing").read_text(encoding="ascii"))
+    if model(hex_lines(strings), every=False)[0].rows == model(hex_lines(strings))[0].rows:
         sys.exit("the minute's tracks all have a position: the choice is not seen")
     for form, given in forms(strings):
-        due(f"{form}: the model and the sample", model(given)[0].rows, sample.rows)
+        due(f"{form}: the model and the sample", TIMES.sub(r"\1", listing_of(received(given)[0], 0, True)), sample)
         counts = try_at_once(f"the minute, {form}", given)
         due(f"{form}: every line has a message", (counts.total(), counts[NO_MESSAGE]), (len(strings), 0))
     return len(strings)
@@ -262,7 +273,7 @@ def next_listing(process):
     count = HEADER.fullmatch(header.rstrip("\n"))
     if not count:
         sys.exit(f"no header of a listing: {header!r}")
-    return listings(header + "".join(process.stdout.readline().decode("ascii") for _ in range(int(count[2]))))[0]
+    return listings(header + "".join(process.stdout.readline().decode("ascii") for _ in range(1 + int(count[2]))))[0]
 
 
 def pieces():
@@ -276,7 +287,7 @@ def pieces():
         out, said = process.communicate()
     due("pieces", said.decode(), counted(counts))
     compare("pieces", last_listing(out), expected)
-    due("pieces: both messages and the position", (counts[0], "-" in expected.rows[0]), (2, False))
+    due("pieces: both messages and the position", (counts[0], is_placed(expected.rows[0])), (2, True))
 
 
 def silence():
@@ -290,9 +301,10 @@ def silence():
     due("silence: the counts", (process.returncode, said), (0, b"2 taken, 0 lines without a message\n"))
     due("silence: a second or more between", all(b.clock - a.clock >= 1000 for a, b in zip(found[:2], found[1:3])), True)
     due("silence: not much more", found[2].clock < 30_000, True)
-    due("silence: last heard stays", [one.heard == found[0].heard for one in found[:3]], [True] * 3)
-    due("silence: heard anew", found[-1].heard[0] >= found[2].clock, True)
-    due("silence: and its position", ["-" in one.rows[0] for one in (found[2], found[-1])], [True, False])
+    last = [(one.clock - 1000 * one.ages[0] - 999, one.clock - 1000 * one.ages[0]) for one in found[:3]]  # between these it was heard
+    due("silence: the age grows with the clock", max(least for least, _ in last) <= min(most for _, most in last), True)
+    due("silence: heard anew", (found[2].ages[0] > 0, found[-1].ages[0]), (True, 0))
+    due("silence: and its position", [is_placed(one.rows[0]) for one in (found[2], found[-1])], [False, True])
     return len(found)
 
 

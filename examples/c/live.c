@@ -2,16 +2,17 @@
  * Shows the aircraft of a receiver while its lines come on standard input: live [all] [SECONDS [LATITUDE LONGITUDE]]. A
  * line is *HEX; or @TTTTTTTTTTTTHEX; as dump1090 and readsb print them on port 30002; the twelve digits are the
  * receiver's time, which is not used: a message arrives when its line does. Every so many seconds, or each second, the
- * listing is printed, on a terminal in place of the last one; and once more at the end of the input, or when the program
- * is interrupted. It has the aircraft whose position is known, or with the word all every one that is held. Then the
- * program says how many messages were taken, how many were refused with which number, and how many lines had no message.
- * With the receiver's latitude and longitude in degrees, north and east above zero, positions on the ground are read
- * against them.
+ * aircraft are shown, on a terminal in place of the last ones; and once more at the end of the input, or when the program
+ * is interrupted: callsign, latitude and longitude in degrees, altitude with its step, speed over ground, and how many
+ * seconds ago it was heard. These are the aircraft whose position is known, or with the word all every one that is held.
+ * Then the program says how many messages were taken, how many were refused with which number, and how many lines had no
+ * message. With the receiver's latitude and longitude in degrees, north and east above zero, positions on the ground are
+ * read against them.
  */
-// gcc -std=c99 -Idist examples/c/live.c dist/*.S -o live
+// gcc -std=c99 -Idist examples/c/live.c dist/*.S -lm -o live
 // nc localhost 30002 | ./live
 #define _POSIX_C_SOURCE 200112L
-#include <addercoil.h>
+#include <addercoil_easy.h>
 #include <ctype.h>
 #include <errno.h>
 #include <poll.h>
@@ -35,10 +36,11 @@ struct line {
     size_t length;
 };
 
-static uint8_t table[ADDERCOIL_TABLE_BYTES(1024)];
+static uint8_t bytes[ADDERCOIL_TABLE_BYTES(1024)];
+static const struct addercoil_table table = {bytes, sizeof bytes};
 static unsigned long answered[NUMBERS]; /* how many messages got each number */
 static unsigned long others;            /* how many lines had no message */
-static uint32_t all;                    /* 1 if every aircraft that is held is shown, 0 for those with a position */
+static int all;                         /* whether every aircraft that is held is shown, or those with a position */
 static uint64_t start;
 static volatile sig_atomic_t interrupted;
 
@@ -99,36 +101,92 @@ static void end_line(struct line *line) {
     if (count == 0) {
         others++;
     } else {
-        answered[addercoil_receive(table, sizeof table, message, count, clock_now())]++;
+        answered[addercoil_easy_receive(table, message, count, clock_now())]++;
     }
     line->length = 0;
 }
 
-/* More bytes of the input, which may end anywhere in a line. */
-static void take(struct line *line, const char *bytes, size_t count) {
+/* More of the input, which may end anywhere in a line. */
+static void take(struct line *line, const char *input, size_t count) {
     for (size_t i = 0; i < count; i++) {
-        if (bytes[i] == '\n') {
+        if (input[i] == '\n') {
             end_line(line);
         } else if (line->length < LONGEST) {
-            line->text[line->length++] = bytes[i];
+            line->text[line->length++] = input[i];
         }
     }
 }
 
-/* The listing at a time, on a terminal in place of the last one. Whether it could be written. */
-static int print_listing(uint64_t time) {
+/* Whether an aircraft is shown. */
+static int is_shown(const struct addercoil_track *track) {
+    return all || track->position_known;
+}
+
+/* How many are. */
+static unsigned count_shown(void) {
+    struct addercoil_track track;
+    uint32_t key = 0;
+    unsigned count = 0;
+    while (addercoil_easy_next(table, &key) && addercoil_easy_look_up(table, key, &track) == ADDERCOIL_OK) {
+        count += (unsigned)is_shown(&track);
+    }
+    return count;
+}
+
+/* Who it is: its kind and address, and of kind C the flag and the station, then the callsign. */
+static void print_name(uint32_t key, const struct addercoil_track *track) {
+    char sender[8] = "";
+    if (ADDERCOIL_KEY_IS_COARSE(key)) {
+        sprintf(sender, " %u %u", (unsigned)ADDERCOIL_KEY_FLAG(key), (unsigned)ADDERCOIL_KEY_STATION(key));
+    }
+    printf("%c %06X%-5s %-8s", addercoil_easy_kind_letter(key), (unsigned)ADDERCOIL_KEY_AA(key), sender,
+           track->callsign[0] == '\0' ? "-" : track->callsign);
+}
+
+/* Where it is: degrees, and feet with their step. */
+static void print_place(const struct addercoil_track *track) {
+    struct addercoil_degrees degrees;
+    char feet[32] = "-";
+    if (track->position_known && addercoil_easy_degrees(track->position, &degrees) == ADDERCOIL_OK) {
+        printf(" %10.5f %11.5f", degrees.latitude, degrees.longitude);
+    } else {
+        printf(" %10s %11s", "-", "-");
+    }
+    if (track->altitude.is == ADDERCOIL_KNOWN) {
+        sprintf(feet, "%d by %d", (int)track->altitude.value, (int)track->altitude_step.value);
+    }
+    printf(" %13s", feet);
+}
+
+/* How fast it goes over ground, in knots, and how many seconds ago it was heard. */
+static void print_motion(const struct addercoil_track *track, uint64_t time) {
+    double knots;
+    uint32_t is = addercoil_easy_speed(track, &knots);
+    if (is == ADDERCOIL_KNOWN) {
+        printf(" %5.0f", knots);
+    } else {
+        printf(" %5s", is == ADDERCOIL_OVER ? "over" : "-");
+    }
+    printf(" %4u\n", (unsigned)((time - track->heard) / 1000));
+}
+
+/* The aircraft at a time, on a terminal in place of the last ones. Whether they could be written. */
+static int print_aircraft(uint64_t time) {
     static const uint8_t nothing[ADDERCOIL_MESSAGE] = {0}; /* is refused, and moves the clock */
-    uint8_t text[ADDERCOIL_LINE];
-    uint64_t key = 0;
-    addercoil_receive(table, sizeof table, nothing, sizeof nothing, time);
+    struct addercoil_track track;
+    uint32_t key = 0;
+    addercoil_easy_receive(table, nothing, sizeof nothing, time);
     if (isatty(STDOUT_FILENO)) {
         fputs("\033[H\033[J", stdout); /* home, and clear */
     }
-    addercoil_header(table, sizeof table, 0, all, text, sizeof text);
-    fputs((const char *)text, stdout);
-    while (addercoil_next(table, sizeof table, (uint32_t)key, &key, 1) == ADDERCOIL_OK && key != 0) {
-        addercoil_line(table, sizeof table, (uint32_t)key, all, text, sizeof text);
-        fputs((const char *)text, stdout);
+    printf("clock %llu aircraft %u\n", (unsigned long long)time, count_shown());
+    printf("%13s %-8s %10s %11s %13s %5s %4s\n", "", "callsign", "latitude", "longitude", "feet", "knots", "age");
+    while (addercoil_easy_next(table, &key) && addercoil_easy_look_up(table, key, &track) == ADDERCOIL_OK) {
+        if (is_shown(&track)) {
+            print_name(key, &track);
+            print_place(&track);
+            print_motion(&track, time);
+        }
     }
     return fflush(stdout) == 0 && !ferror(stdout);
 }
@@ -136,16 +194,16 @@ static int print_listing(uint64_t time) {
 /* Waits for input, so many milliseconds at most, and takes it. 1, or 0 at its end, or -1 if it cannot be read. */
 static int take_input(struct line *line, int milliseconds) {
     struct pollfd input = {STDIN_FILENO, POLLIN, 0};
-    char bytes[4096];
+    char more[4096];
     ssize_t count;
     if (poll(&input, 1, milliseconds) <= 0) {
         return 1; /* nothing came, or a signal */
     }
-    count = read(STDIN_FILENO, bytes, sizeof bytes);
+    count = read(STDIN_FILENO, more, sizeof more);
     if (count < 0) {
         return errno == EINTR || errno == EAGAIN ? 1 : -1;
     }
-    take(line, bytes, (size_t)count);
+    take(line, more, (size_t)count);
     return count > 0;
 }
 
@@ -158,7 +216,7 @@ static const char *run(uint64_t period) {
         more = take_input(&line, (int)(due - now));
         now = clock_now();
         if (more > 0 && now >= due) {
-            if (!print_listing(now)) {
+            if (!print_aircraft(now)) {
                 return "the output cannot be written";
             }
             due = now + period;
@@ -167,7 +225,7 @@ static const char *run(uint64_t period) {
     if (more == 0 && line.length > 0) {
         end_line(&line); /* the last line, without a newline */
     }
-    if (!print_listing(clock_now())) {
+    if (!print_aircraft(clock_now())) {
         return "the output cannot be written";
     }
     return more < 0 ? "the input cannot be read to its end" : NULL;
@@ -190,31 +248,27 @@ static int number_in(const char *word, double least, double most, double *number
     return end != word && *end == '\0' && *number >= least && *number <= most;
 }
 
-/* Degrees in 2^-32 of a turn, rounded. */
-static int64_t units(double degrees) {
-    double exact = degrees / 360 * 4294967296.0;
-    return (int64_t)(exact < 0 ? exact - 0.5 : exact + 0.5);
-}
-
 /* Sets the table up as the words ask, and says the seconds; whether there are such words. */
 static int set_up(int count, char **words, double *seconds) {
-    double latitude, longitude;
+    struct addercoil_degrees degrees;
+    struct addercoil_spot site;
     if (count > 0 && !number_in(words[0], 1, MOST_SECONDS, seconds)) {
         return 0;
     }
     if (count < 2) {
-        return addercoil_set_up(table, sizeof table) == ADDERCOIL_OK;
+        return addercoil_easy_set_up(table) == ADDERCOIL_OK;
     }
-    return count == 3 && number_in(words[1], -90, 90, &latitude) && number_in(words[2], -180, 180, &longitude) &&
-           addercoil_set_up_at(table, sizeof table, (int32_t)units(latitude), (uint32_t)units(longitude)) ==
-               ADDERCOIL_OK;
+    return count == 3 && number_in(words[1], -90, 90, &degrees.latitude) &&
+           number_in(words[2], -180, 180, &degrees.longitude) &&
+           addercoil_easy_site_in_degrees(degrees, &site) == ADDERCOIL_OK &&
+           addercoil_easy_set_up_at(table, site) == ADDERCOIL_OK;
 }
 
 int main(int count, char **arguments) {
     double seconds = 1;
     const char *fault;
     all = count > 1 && strcmp(arguments[1], "all") == 0;
-    if (!set_up(count - 1 - (int)all, arguments + 1 + all, &seconds)) {
+    if (!set_up(count - 1 - all, arguments + 1 + all, &seconds)) {
         fputs("usage: live [all] [SECONDS [LATITUDE LONGITUDE]], 1 second or more, degrees to the north and east\n", stderr);
         return 2;
     }

@@ -5,6 +5,7 @@
  */
 #include "call.h"
 #include <addercoil_easy.h>
+#include <math.h>
 #include <stdio.h>
 #include <string.h>
 
@@ -104,6 +105,28 @@ static int left(const void *made, size_t size) {
     return 1;
 }
 
+/* Whether a number is another, but for what doubles lose. */
+static int is_near(double value, double other) {
+    return fabs(value - other) <= 1e-9 * (1 + fabs(other));
+}
+
+/* Whether speed and direction over ground, of a track in the air, have its two parts, if both are known. That each is what the
+ * model says, of all tracks, reference/run_python.py sees. */
+static int parts_right(const struct addercoil_track *track) {
+    const double turn = 57.29577951308232;
+    double knots = -1, degrees = -1;
+    uint32_t speed = addercoil_easy_speed(track, &knots), direction = addercoil_easy_direction(track, &degrees);
+    if (track->on_ground.value == 1 || track->angle.is == ADDERCOIL_KNOWN) {
+        return knots >= 0 && degrees >= 0 && degrees < 360;
+    }
+    if (track->east.is != ADDERCOIL_KNOWN || track->north.is != ADDERCOIL_KNOWN) {
+        return speed != ADDERCOIL_KNOWN && direction == ADDERCOIL_UNKNOWN && is_near(knots, 0) && is_near(degrees, 0);
+    }
+    return speed == ADDERCOIL_KNOWN && (direction == ADDERCOIL_KNOWN) == (knots > 0) &&
+           is_near(knots * sin(degrees / turn), (double)track->east.value) &&
+           is_near(knots * cos(degrees / turn), (double)track->north.value);
+}
+
 /* The entries of a track's struct. */
 static uint32_t put_track(uint32_t number, const struct addercoil_track *track, uint64_t *row) {
     if (number != ADDERCOIL_OK) {
@@ -126,7 +149,7 @@ static uint32_t put_track(uint32_t number, const struct addercoil_track *track, 
     put_identification(row, track);
     put_readings(row, track);
     put_standard(row, track);
-    return number;
+    return parts_right(track) ? number : NO_NUMBER;
 }
 
 static uint32_t look_up(struct addercoil_table table, uint32_t key, uint64_t *row) {
@@ -267,8 +290,13 @@ static uint32_t put_pair(uint32_t number, uint64_t *row, struct addercoil_spot f
 /* Doubles stand as their bit patterns. */
 static uint32_t degrees(const uint64_t *n, uint64_t *row) {
     struct addercoil_degrees made;
+    struct addercoil_spot back = spot(0, 0);
     uint32_t number = addercoil_easy_degrees(spot(n[0], n[1]), &made);
     if (number == ADDERCOIL_OK) {
+        if (addercoil_easy_site_in_degrees(made, &back) != ADDERCOIL_OK || back.latitude != (int32_t)n[0] ||
+            back.longitude != (uint32_t)n[1]) {
+            return NO_NUMBER;
+        }
         memcpy(row + ADDERCOIL_DEGREES_LATITUDE, &made.latitude, sizeof *row);
         memcpy(row + ADDERCOIL_DEGREES_LONGITUDE, &made.longitude, sizeof *row);
     }
