@@ -452,6 +452,13 @@ static inline uint32_t addercoil_easy_check(const uint8_t *capture, addercoil_si
     return addercoil_check(capture, capture_length, (const uint8_t *)listing, listing_length, line, 1);
 }
 
+/* Two listings as one, into text of as many chars as both have, of which *written are used. */
+static inline uint32_t addercoil_easy_merge(const char *a, addercoil_size a_length, const char *b,
+                                            addercoil_size b_length, char *text, uint64_t *written) {
+    return addercoil_merge((const uint8_t *)a, a_length, (const uint8_t *)b, b_length, (uint8_t *)text,
+                           a_length + b_length, written, 1);
+}
+
 /* ---- Positions; each of the first three has a twin of coarse counts ---- */
 
 /* A call that filled the row of counts, or of a spot, answered so: the struct of it, if it did. */

@@ -65,11 +65,11 @@ typedef uint64_t addercoil_size;
 #endif
 
 /*
- * 10,000 times the major number, 100 times the minor one, and the patch: this is 0.9.0. addercoil_version() says that
+ * 10,000 times the major number, 100 times the minor one, and the patch: this is 0.10.0. addercoil_version() says that
  * of the archive; where the two differ, the program was built with another header. The bytes of a table may change with
  * it.
  */
-#define ADDERCOIL_VERSION 900
+#define ADDERCOIL_VERSION 1000
 
 /* The version of the archive, as ADDERCOIL_VERSION has it. */
 uint32_t addercoil_version(void);
@@ -94,7 +94,7 @@ enum {
     ADDERCOIL_REFUSED_LOG = 14,      /* a log of more than 2,900 records, or not of whole ones, or a capture of more
                                         than 2,900 */
     ADDERCOIL_REFUSED_DEGREES = 15,  /* a double that is no spot's latitude or longitude in degrees */
-    ADDERCOIL_REFUSED_FORM = 16,     /* a text that is not in the form of a listing */
+    ADDERCOIL_REFUSED_FORM = 16,     /* a text that is not in the form of a listing, or two that cannot become one */
     ADDERCOIL_NUMBERS                /* one more than the largest */
 };
 
@@ -446,6 +446,20 @@ uint32_t addercoil_feed_block(uint8_t *table, addercoil_size table_len, const ui
  */
 uint32_t addercoil_check(const uint8_t *capture, addercoil_size capture_len, const uint8_t *listing,
                          addercoil_size listing_len, uint64_t *out, addercoil_size out_len);
+
+/*
+ * Two listings as one, for tables side by side: a header with the same clock and the sums of their tracks and of their
+ * bad blocks, then the lines of both as they are, in the order of their keys. out has exactly a_len + b_len bytes. The
+ * text always fits, and zeros follow it. How many bytes the text has goes into written of 1 entry. More than two are
+ * merged one after the other: a is the text so far, and b the next. Or ADDERCOIL_REFUSED_LENGTH if out or written has
+ * another length. Or ADDERCOIL_REFUSED_FORM, in each of these cases: a text is not in the form that addercoil_check
+ * tells of; a number of a header is "-", below 0 or not below 2^64; the tracks of a header are not as many as its lines;
+ * the keys of a text do not rise from line to line; a flag is not 0 or 1, or a station not 0 to 15; the clocks differ; a
+ * key is in both; the sum of the bad blocks is not below 2^64. A call that is refused leaves out and written as they
+ * were.
+ */
+uint32_t addercoil_merge(const uint8_t *a, addercoil_size a_len, const uint8_t *b, addercoil_size b_len, uint8_t *out,
+                         addercoil_size out_len, uint64_t *written, addercoil_size written_len);
 
 /* ---- Positions ---- */
 

@@ -13,6 +13,7 @@ import captures
 import checker
 import degrees
 import integrity
+import listings
 import messages
 import positions
 import readings
@@ -374,12 +375,12 @@ def asks_for_all(table, every):
 LISTED = 128  # bytes that a listing has room for, of each line and of the header
 
 
-def places_in(table):
+def places_in(table, _given=b""):
     """How many places bytes have room for behind the head, whether they are a table or not."""
     return max(0, len(table) - tables.HEAD) // (tables.KEY + tables.BODY)
 
 
-def listing_bytes(table):
+def listing_bytes(table, _given=b""):
     """How many bytes the listing of a table is given."""
     return LISTED * (places_in(table) + 1)
 
@@ -388,6 +389,17 @@ def listing(table, bad, every):
     """The whole listing, then zeros; and the length of the text."""
     text = captures.listing_of(table, bad, asks_for_all(table, every)).encode("ascii")
     return text.ljust(listing_bytes(table), b"\0"), [len(text)]
+
+
+def merged_bytes(one, other):
+    """How many bytes the listing of both is given."""
+    return len(one) + len(other)
+
+
+def merge(one, other):
+    """Two listings as one, then zeros; and the length of the text."""
+    text = listings.merge(bytes(one), bytes(other))
+    return text.ljust(merged_bytes(one, other), b"\0"), [len(text)]
 
 
 def header(table, bad, every):
@@ -515,9 +527,9 @@ class Function(NamedTuple):
     answer: Callable
     table: str | None = None  # what it does with the table that it is lent
     given: int | None = None  # the size of an element of the array that it is given
-    length: int | Callable = 0  # how many elements its result array has, or how many by the table
+    length: int | Callable = 0  # how many elements its result array has, or how many by the table and the array that it is given
     result: int | None = None  # and of what size
-    besides: tuple = ()  # of what it is lent besides, words: how many, or how many by the table
+    besides: tuple = ()  # of what it is lent besides, words: how many, or how many by these two
 
 
 FUNCTIONS = {
@@ -535,6 +547,7 @@ FUNCTIONS = {
     "replay_at": Function(replay_at, None, BYTES, AT["TRACK"], WORDS),
     "replay_coarse": Function(replay_coarse, None, BYTES, AT["TRACK"], WORDS),
     "check": Function(check, READS, BYTES, 1, WORDS),  # it reads a capture in place of a table
+    "merge": Function(merge, READS, BYTES, merged_bytes, BYTES, (1,)),  # it reads a listing in place of a table
     "listing": Function(listing, READS, None, listing_bytes, BYTES, (places_in, 1)),  # order and written
     "header": Function(header, READS, None, AT["LINE"], BYTES),
     "line": Function(line, READS, None, AT["LINE"], BYTES),
@@ -572,9 +585,9 @@ def array_of(word, element):
     return [int.from_bytes(whole[at : at + element], "big") for at in range(0, len(whole), element)]
 
 
-def lengths_due(function, table):
+def lengths_due(function, table, given=b""):
     """How many elements its result array has, and what it is lent besides."""
-    return [due(table) if callable(due) else due for due in (function.length, *function.besides)]
+    return [due(table, given) if callable(due) else due for due in (function.length, *function.besides)]
 
 
 def call_text(name, *, table=b"", given=(), length=0, besides=(), numbers=()):
@@ -593,14 +606,14 @@ def fresh(length, element):
 
 
 def arrays_left(function, left):
-    """The arrays of a call that is not refused, each with the size of an element: the result, and of a listing what was written."""
+    """The arrays of a call that is not refused, each with the size of an element: the result, and of a listing or of two as one what was written."""
     return [*zip(left, (function.result, WORDS))] if function.besides else [(left, function.result)] if function.result else []
 
 
 def answered(function, lengths, arguments):
     """The answer, and each array of the outcome after the call, with the size of an element."""
     try:
-        if function.result and lengths != lengths_due(function, arguments[0] if function.table else b""):
+        if function.result and lengths != lengths_due(function, arguments[0] if function.table else b"", arguments[1] if function.given and function.table else b""):
             raise Refused(1)
         return 0, arrays_left(function, function.answer(*arguments))
     except Wrote as refusal:
@@ -608,7 +621,7 @@ def answered(function, lengths, arguments):
     except Refused as refusal:
         before = arguments[-AT["STAMPS"] :] if function.answer is receive_stamp else []  # the array that is read too
         left = [([*before, *fresh(length, function.result)][:length], function.result) for length in lengths[:1]]
-        return refusal.number, left + [(fresh(length, WORDS), WORDS) for length in lengths[2:]]  # of order nothing is said
+        return refusal.number, left + [(fresh(length, WORDS), WORDS) for length in lengths[1:][-1:]]  # of order nothing is said
 
 
 def outcome_text(call):

@@ -13,10 +13,13 @@ import sys
 from itertools import product
 from random import Random
 
+import checker
+import listings
 import messages
 import table as tables
 import traffic
 from captures import BLOCK, MOST_RECORDS, block, listing
+from captures import line as line_of
 from captures import KINDS as LETTERS
 from embedding import AT, BYTES, FUNCTIONS, WORDS, WRITES, array_of, call_text, lengths_due, message_from, message_row, outcome_text, places_in, row
 from positions import AIRBORNE, COARSE, COUNTS, EVEN, ODD
@@ -47,6 +50,7 @@ REPLAYS = "replay", "replay_at", "replay_coarse"
 LATER = {"receive_stamp": 4_000, "degrees": 1_000, "from_degrees": 3_000, "version": 1}  # so many of these, behind all others
 LATER |= dict.fromkeys(REPLAYS, 1_500) | {"encode_position_coarse": 1_000, "pair_coarse": 3_000, "single_coarse": 2_000}
 LATER |= {"check": 200}
+MERGES = 3_000  # behind these
 COARSE_MES = 10_000  # so many random MEs under CF 3, each decoded and encoded again
 LAST = 2**64 - 1
 FIRST_READING = 20  # from this entry on fields are readings
@@ -241,6 +245,67 @@ def some_listing(chance, whole):
     return chance.choice((text, text, text[:at] + chance.choice((b"0", b"1", b"-", b" ")) + text[at + 1 :], text[:at], listing(whole, False).encode("ascii")))
 
 
+def listing_text(clock, lines, bad, tracks=None):
+    """A listing of lines; its header may say another number of them."""
+    return "".join(f"{line}\n" for line in (f"clock {clock} tracks {len(lines) if tracks is None else tracks} bad-blocks {bad}", *lines)).encode("ascii")
+
+
+def some_lines(chance):
+    """Lines of tracks in the order of their keys, of every kind."""
+    held = chance.sample(KEYS, chance.randrange(len(KEYS) + 1))
+    return [line_of(one, random_track(chance, 2**40)) for one in sorted(held)]
+
+
+def some_clock(chance):
+    """A clock, now and then one at an end."""
+    return chance.choice((0, LAST, number(chance), number(chance)))
+
+
+def two_listings(chance):
+    """Two listings that can become one: lines dealt out, a clock, and bad blocks whose sum is below 2^64."""
+    lines, clock, bad = some_lines(chance), some_clock(chance), chance.choice((0, 9, number(chance)))
+    first = [line for line in lines if chance.randrange(2)]
+    return [clock, first, bad], [clock, [line for line in lines if line not in first], chance.choice((0, 1, LAST - bad))]
+
+
+def spoilt(chance, one, other):
+    """Two listings, of which something is wrong: a text for each."""
+    texts = [listing_text(*one), listing_text(*other)]
+    which = chance.randrange(2)
+    clock, lines, bad = (one, other)[which]
+    station = "C ABCDEF 0 15 1 - - - -"
+    texts[which] = chance.choice(
+        (
+            listing_text((clock + 1) % 2**64, lines, bad),
+            listing_text(clock, lines, bad, len(lines) + chance.choice((1, -1) if lines else (1,))),
+            texts[1 - which],
+            b"",
+            listing_text(clock, lines[::-1], bad),
+            listing_text(clock, lines + lines[-1:], bad),
+            listing_text(clock, sorted([*one[1], *other[1]], key=listings.key_in), bad),
+            listing_text(clock, lines, LAST),
+            listing_text(*chance.choice((("-", lines, bad), (-1, lines, bad), (2**64 + clock, lines, bad)))),
+            listing_text(clock, lines, chance.choice(("-", -1, 2**64))),
+            listing_text(clock, [station.replace(" 0 15 ", f" {chance.choice(('0', '1', '2', '-', '-1', '10'))} {chance.choice(('0', '9', '10', '15', '16', '20', '-', '-1', '150'))} ")], bad),
+            texts[which][: chance.randrange(len(texts[which]))],
+            damaged_text(chance, texts[which]),
+        )
+    )
+    return texts
+
+
+def damaged_text(chance, text):
+    """A text with a byte changed."""
+    at = chance.randrange(len(text))
+    return text[:at] + bytes([chance.choice((*b"0123456789ABC- \n", chance.randrange(256)))]) + text[at + 1 :]
+
+
+def some_texts(chance):
+    """Two texts for a merge: half of them can become one."""
+    one, other = two_listings(chance)
+    return [listing_text(*one), listing_text(*other)] if chance.randrange(2) else spoilt(chance, one, other)
+
+
 def edge(chance, bits):
     """A code of so many bits, mostly at an end of its range, where readings change their kind."""
     last = 2**bits - 1
@@ -403,7 +468,7 @@ def given_for(name, chance, table):
 def named(chance):
     """The functions, in any order, each with a table; then those of a listing, with tables of many places and few keys; then the later ones."""
     pool = Tables(chance)
-    names = [*(name for name in FUNCTIONS if name not in LATER), "decode", "me", *["look_up"] * 3, *["receive"] * RECEIVED] * CALLS
+    names = [*(name for name in FUNCTIONS if name not in LATER and name != "merge"), "decode", "me", *["look_up"] * 3, *["receive"] * RECEIVED] * CALLS
     chance.shuffle(names)
     yield from ((name, pool.choose()) for name in names)
     yield from ((name, random_tracks(chance, 9, 40)) for name in LISTED * DOUBLED)
@@ -418,6 +483,17 @@ def answered(chance, name, table, length, *besides):
     if FUNCTIONS[name].table == WRITES:
         table[:] = array_of(outcome.split()[-1], BYTES)
     return call, outcome
+
+
+def merges(chance):
+    """Two texts as one, in arrays of the right lengths, and now and then of others."""
+    for _ in range(MERGES):
+        one, other = some_texts(chance)
+        due = lengths_due(FUNCTIONS["merge"], one, other)
+        at, more = chance.randrange(10 * len(due)), chance.choice(OTHERWISE)
+        length, *besides = [max(0, one_due + more) if at == place else one_due for place, one_due in enumerate(due)]
+        call = call_text("merge", table=one, given=other, length=length, besides=besides)
+        yield call, outcome_text(call)
 
 
 def there_and_back(chance):
@@ -462,6 +538,7 @@ def calls(chance):
     for name, table in named(chance):
         yield answered(chance, name, table, *about_due(chance, name, table))
     yield from other_lengths(chance)
+    yield from merges(chance)
     for name, length in OLD_LENGTHS:
         yield answered(chance, name, random_tracks(chance), length)
     for _ in range(COARSE_MES):
@@ -488,7 +565,7 @@ NUMBERS = {
     **{"set_up": {0, 7}, "set_up_at": {0, 7, 8}, "receive": {0, 1, 2, 3, 4, 5, 6, 7, 12}},
     **{"receive_stamp": {0, 1, 2, 3, 4, 5, 6, 7, 8, 12, 13}},
     **{name: {0, 1, 8, 14} for name in REPLAYS},
-    **{"check": {0, 1, 14, 16}},
+    **{"check": {0, 1, 14, 16}, "merge": {0, 1, 16}},
     **{"encode_position": {0, 1, 8}, "pair": {0, 1, 8, 9, 10}, "single": {0, 1, 8, 9}},
     **{"encode_position_coarse": {0, 1, 8}, "pair_coarse": {0, 1, 8, 9, 10}, "single_coarse": {0, 1, 8, 9}},
     **{"degrees": {0, 1, 8}, "from_degrees": {0, 1, 15}},
@@ -777,6 +854,51 @@ def listings_missing(asked):
     return (due | {1, 2, 257, 1_025}) - seen
 
 
+def merges_missing(asked):
+    """What was never tried: a kind among the lines of two listings that became one, a listing of so few lines, a reason why two could not."""
+    seen, why = set(), set()
+    for call, outcome in asked:
+        if not call.startswith("merge "):
+            continue
+        one, other = (array_of(word, BYTES) for word in call.split()[1:3])
+        if outcome.startswith("= 0 "):
+            seen |= {chr(line[0]) for text in (one, other) for line in text.splitlines()[1:]}
+            seen |= {min(text.count(b"\n") for text in (one, other))}
+        elif outcome.startswith("= 16 "):
+            why.add(reason(one, other))
+    return ({*LETTERS.values(), 1, 2, 3} - seen) | (REASONS - why)
+
+
+REASONS = {"form", "number", "tracks", "order", "sender", "clocks", "keys", "sum"}
+
+
+def fault_of(text):
+    """Why a text is no listing, or nothing."""
+    why = "form"
+    try:
+        header, *lines = checker.lines_of(text)
+        why = "number"
+        tracks = listings.numbers_of(header)[1]
+        why = "sender"
+        keys = [listings.key_in(line) for line in lines]
+    except Refused:
+        return why
+    if tracks != len(lines):
+        return "tracks"
+    return "" if keys == sorted(set(keys)) else "order"
+
+
+def reason(one, other):
+    """Why two texts cannot become one listing."""
+    fault = fault_of(one) or fault_of(other)
+    if fault:
+        return fault
+    (clock, lines, bad), (other_clock, other_lines, other_bad) = listings.read(one), listings.read(other)
+    if clock != other_clock:
+        return "clocks"
+    return "keys" if lines.keys() & other_lines.keys() else "sum" if bad + other_bad > LAST else "none"
+
+
 def for_structs(call):
     """Can structs say a call? The result array has its own length, a state 32 bits, and what is replayed makes a key."""
     name, *words = call.split()
@@ -790,7 +912,7 @@ def for_structs(call):
         return False
     if name in ("replay", "replay_at") and not (int(words[lent + 1]) < 2**7 and int(words[lent + 2]) < 2**24):
         return False
-    due = lengths_due(function, array_of(words[0], BYTES) if function.table else b"")
+    due = lengths_due(function, array_of(words[0], BYTES) if function.table else b"", array_of(words[1], BYTES) if name == "merge" else b"")
     return not function.result or [int(word) for word in words[lent : lent + len(due)]] == due
 
 
@@ -806,6 +928,8 @@ def fits_microbit(call):
     name, *words = call.split()
     if name == "check" or any(len(word) > 2 * 2_048 for word in words):
         return False
+    if name == "merge":
+        return int(words[2]) <= 2_048
     return name != "listing" or (int(words[1]) <= 2_048 and int(words[2]) <= 2_048 // 128)
 
 
@@ -814,7 +938,7 @@ def tried():
     asked = list(calls(Random(12)))
     untried = [numbers_missing(asked), kinds_missing(asked), lost_missing(asked), traffic_missing(asked)]
     untried += [steps_missing(asked), shown_missing(asked), me_missing(asked), full_missing(asked), doubled_missing(asked)]
-    untried += [replays_missing(asked), status_missing(asked), coarse_missing(asked), listings_missing(asked)]
+    untried += [replays_missing(asked), status_missing(asked), coarse_missing(asked), listings_missing(asked), merges_missing(asked)]
     if header_faults() or any(untried):
         sys.exit(f"the header has other numbers than the paper, or these were never tried: {header_faults()} {untried}")
     return asked

@@ -31,11 +31,12 @@ import survey
 import tracks
 from degrees import DEGREE
 from embedding import AT, FRESH, READINGS, entry_names, layout_of, message_row, track_row
+from listings import merge as model_merge
 from once import once
 from programs import ROOT
 from refusals import Refused
 from replay import replay
-from run_calls import tried
+from run_calls import MERGES, some_texts, tried
 from run_captures import message
 from run_check import due as check_due
 from run_check import for_people
@@ -72,11 +73,12 @@ def command(*words, given=b"", python=sys.executable, environment=None, folder=R
 
 SIZES = {"u8": 1, "u64": 8, "f64": 8}
 LATER = "order", "written"  # of a listing: behind the result array
+TABLES = "table", "capture", "a"  # what comes first in a line; of two listings a
 
 
 def role_of(name, use):
     """What an array is in the line of a call."""
-    if name in ("table", "capture"):
+    if name in TABLES:
         return "table"
     return "given" if use == "reads" else name if name in LATER else "result"
 
@@ -466,6 +468,25 @@ def every_check(folder):
     return count
 
 
+def merge_of(merge, one, other):
+    """What becomes of two texts, or the number that refuses them."""
+    try:
+        return merge(one, other)
+    except addercoil.Refused as refused:
+        return refused.refusal.number
+    except Refused as refused:
+        return refused.number
+
+
+def every_merge():
+    """Two listings as one."""
+    chance = Random(10)
+    for _ in range(MERGES):
+        texts = some_texts(chance)
+        due("merge", merge_of(addercoil.merge, *texts), merge_of(model_merge, *texts))
+    return MERGES
+
+
 # The commands
 
 
@@ -597,7 +618,7 @@ def main():
     over_is_no_number()
     print(f"{every_site()} sites in degrees, in Python and in C: the nearest unit")
     with TemporaryDirectory() as folder:
-        print(f"{every_replay()} replays, {every_check(folder)} checks, {every_listing()} listings, {every_csv()} lines of csv: the same")
+        print(f"{every_replay()} replays, {every_check(folder)} checks, {every_merge()} merges, {every_listing()} listings, {every_csv()} lines of csv: the same")
         every_live()
         wrong_words()
         no_capture()

@@ -28,6 +28,7 @@ import stamps as short_clock
 import table as lent_table
 import tracks
 import traffic
+from listings import merge as merge_listings
 from parity import GENERATOR, remainder, seal, sealed
 from positions import AIRBORNE, COARSE, COUNTS, EVEN, FIGURES, ODD, STEP, SURFACE, UNIT, zone_count, zones
 from refusals import Refused, answer
@@ -1243,6 +1244,27 @@ def listings_lent():
     equal("places", [embedding.places_in(bytes(length)) for length in (0, 15, 16, 101, 102, 187, 188, 88_080, 88_166)], [0, 0, 0, 0, 1, 1, 2, 1_024, 1_025])
 
 
+def two_as_one():
+    """Two listings as one: the order of the keys, the sums, and each reason why they cannot be one."""
+    one = b"clock 9 tracks 2 bad-blocks 1\nI 0000FF 5 - - - -\nC 000001 1 2 4 0 0 - -\n"
+    other = b"clock 9 tracks 2 bad-blocks 2\nO 000001 5 - - - -\nC 000001 0 15 4 0 0 - -\n"
+    due = b"clock 9 tracks 4 bad-blocks 3\nI 0000FF 5 - - - -\nO 000001 5 - - - -\nC 000001 0 15 4 0 0 - -\nC 000001 1 2 4 0 0 - -\n"
+    none = b"clock 9 tracks 0 bad-blocks 0\n"
+    equal("two listings", [merge_listings(one, other), merge_listings(other, one)], [due, due])
+    equal("with none", [merge_listings(one, none), merge_listings(none, none)], [one, none])
+    most = none.replace(b"blocks 0", b"blocks %d" % (2**64 - 1))
+    equal("the largest number", merge_listings(most, none), most)
+    turned = b"clock 9 tracks 2 bad-blocks 1\nC 000001 1 2 4 0 0 - -\nI 0000FF 5 - - - -\n"
+    for wrong in (b"", one[:-1], one + b"\n", turned, one.replace(b"tracks 2", b"tracks 3"), one.replace(b" 1 2 4", b" 2 2 4"), one.replace(b" 1 2 4", b" 1 16 4")):
+        refused(16, merge_listings, wrong, none)
+        refused(16, merge_listings, none, wrong)
+    for figure in (b"-", b"-9", b"%d" % 2**64):
+        refused(16, merge_listings, none.replace(b"clock 9", b"clock " + figure), none.replace(b"clock 9", b"clock " + figure))
+    refused(16, merge_listings, one, none.replace(b"clock 9", b"clock 8"))
+    refused(16, merge_listings, one, one)
+    refused(16, merge_listings, most, one)
+
+
 def random_captures():
     """Among the records of the random captures are TYPE 0s, status, and CF 2, 3 and 5, that are accepted, and some that earn 12 or 5."""
     chance, seen = Random(11), set()
@@ -1484,6 +1506,7 @@ TESTS = [
     listings,
     positioned,
     listings_lent,
+    two_as_one,
     random_captures,
     blocks,
     receiver_lines,

@@ -23,6 +23,7 @@ const struct shape shapes[FUNCTIONS] = {
     {"line", READS_TABLE, NOTHING, 2, BYTES},
     {"feed_block", WRITES_TABLE, BYTES, 1, WORDS},
     {"check", READS_TABLE, BYTES, 0, WORDS},
+    {"merge", READS_TABLE, BYTES, 0, BYTES},
     {"encode_position", NO_TABLE, NOTHING, 4, WORDS},
     {"pair", NO_TABLE, NOTHING, 5, WORDS},
     {"single", NO_TABLE, NOTHING, 6, WORDS},
@@ -38,6 +39,10 @@ const struct shape shapes[FUNCTIONS] = {
 };
 
 static struct lent table, given, result, order, written;
+
+int call_has_written(enum function function) {
+    return function == LISTING || function == MERGE;
+}
 
 void call_open(void) {
     lent_open(&table, LENT_MOST);
@@ -216,6 +221,8 @@ void call_write(const struct call *call) {
     if (call->function == LISTING) {
         host_put(' ');
         put_number(call->order_length);
+    }
+    if (call_has_written(call->function)) {
         host_put(' ');
         put_number(call->written_length);
     }
@@ -233,7 +240,7 @@ void outcome_write(const struct call *call, const struct outcome *outcome) {
     if (shape->result != NOTHING) {
         hex_array(outcome->result, call->result_length * shape->result, shape->result);
     }
-    if (call->function == LISTING) {
+    if (call_has_written(call->function)) {
         hex_array(outcome->written, call->written_length * WORDS, WORDS);
     }
     if (shape->table == WRITES_TABLE) {

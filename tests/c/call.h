@@ -2,13 +2,14 @@
  * A call of any function of addercoil.h as a value, so that a script or a die can choose it. It is made with guards
  * around everything lent, and it can be written as a line that the model reads:
  *
- *     NAME [TABLE] [GIVEN] [LENGTH] [ORDER WRITTEN] NUMBER.. = ANSWER [RESULT] [WRITTEN] [TABLE]
+ *     NAME [TABLE] [GIVEN] [LENGTH] [ORDER] [WRITTEN] NUMBER.. = ANSWER [RESULT] [WRITTEN] [TABLE]
  *
- * TABLE and GIVEN are what is lent, in hex, of a check the capture and the listing; LENGTH is how many elements the
- * result array has, NUMBERs are in decimal. A listing has two arrays more, and ORDER and WRITTEN before the = are how
- * many elements they have. A double is its bit pattern, as a NUMBER and in a result array. Behind the = stand the
- * answer, the result array, of a listing what was written, and the table where it is lent to be written; never order,
- * of which only a refusal says what it leaves. Elements of 64 bits are 16 digits each; nothing at all is "-".
+ * TABLE and GIVEN are what is lent, in hex, of a check the capture and the listing, of a merge the two listings; LENGTH
+ * is how many elements the result array has, NUMBERs are in decimal. A listing has two arrays more and a merge one, and
+ * ORDER and WRITTEN before the = are how many elements they have. A double is its bit pattern, as a NUMBER and in a
+ * result array. Behind the = stand the answer, the result array, of a listing and a merge what was written, and the
+ * table where it is lent to be written; never order, of which only a refusal says what it leaves. Elements of 64 bits
+ * are 16 digits each; nothing at all is "-".
  */
 #ifndef CALL_H
 #define CALL_H
@@ -38,6 +39,7 @@ enum function {
     LINE,
     FEED_BLOCK,
     CHECK,
+    MERGE,
     ENCODE_POSITION,
     PAIR,
     SINGLE,
@@ -81,10 +83,10 @@ struct call {
     size_t table_size;
     uint8_t *given;
     size_t given_size;
-    size_t result_length; /* elements */
-    size_t order_length;  /* of a listing; of all others there are none */
-    size_t written_length;
-    uint64_t *order; /* these two, while the call is made */
+    size_t result_length;  /* elements */
+    size_t order_length;   /* of a listing; of all others there are none */
+    size_t written_length; /* of a listing and a merge */
+    uint64_t *order;       /* these two, while the call is made */
     uint64_t *written;
     uint64_t numbers[MOST_NUMBERS];
     size_t below;          /* how far the lent arrays end below a forbidden page, a multiple of 8 */
@@ -106,6 +108,9 @@ struct outcome {
  * addercoil_easy.h (easy.c), whose structs are then laid out as the entries of a result array.
  */
 uint64_t call_by(const struct call *call, uint8_t *table, uint8_t *given, uint8_t *result);
+
+/* Whether a function says in an array how many bytes of text it wrote. */
+int call_has_written(enum function function);
 
 /* Gets the memory, once. */
 void call_open(void);

@@ -42,6 +42,9 @@ static uint64_t with_table(const struct call *call, uint8_t *t, const uint8_t *g
         return addercoil_line(t, size, (uint32_t)n[0], (uint32_t)n[1], result, length);
     case CHECK:
         return addercoil_check(t, size, given, given_size, words, length);
+    case MERGE:
+        return addercoil_merge(t, size, given, given_size, result, length, call->written,
+                               call->written_length + call->more[WRITTEN_ARRAY]);
     default:
         return addercoil_feed_block(t, size, given, given_size, n[0], words, length);
     }

@@ -449,6 +449,9 @@ static uint32_t with_table(const struct call *call, struct addercoil_table t, co
         return line(t, (uint32_t)n[0], (int)n[1], (char *)result);
     case CHECK:
         return check(call, t, given, row);
+    case MERGE:
+        return addercoil_easy_merge((const char *)t.bytes, t.length, (const char *)given, call->given_size,
+                                    (char *)result, call->written);
     default:
         return feed_block(call, t, given, row);
     }

@@ -108,6 +108,8 @@ int line_read(struct call *call, unsigned long number) {
     call->result_length = shape->result == NOTHING ? 0 : read_length(LENT_MOST / shape->result, number);
     if (call->function == LISTING) {
         call->order_length = read_length(LENT_ORDER / WORDS, number);
+    }
+    if (call_has_written(call->function)) {
         call->written_length = read_length(LENT_WRITTEN / WORDS, number);
     }
     for (i = 0; i < shape->numbers; i++) {

@@ -270,6 +270,12 @@ static void listing_lengths(struct call *call) {
     call->written_length = about_at_most(1, LENT_WRITTEN / WORDS);
 }
 
+/* The lengths of the two arrays that a merge writes. */
+static void merge_lengths(struct call *call) {
+    call->result_length = about_at_most(call->table_size + call->given_size, LENT_MOST);
+    call->written_length = about_at_most(1, LENT_WRITTEN / WORDS);
+}
+
 static size_t result_length(enum function function) {
     switch (function) {
     case RECEIVE_STAMP:
@@ -398,6 +404,41 @@ static size_t make_text(const struct call *call) {
         return size;
     default:
         return size;
+    }
+}
+
+/* The listing of a live table, with all its tracks. */
+static void choose_listing(struct call *call) {
+    size_t which = below(6);
+    call->table = strange;
+    call->table_size = make_lines(live[which], ADDERCOIL_TABLE_BYTES(live_places[which]), below(3), 1, strange);
+}
+
+/* What a listing becomes without its tracks: its clock stays. */
+static size_t without_tracks(uint8_t *text, size_t size) {
+    static const char rest[] = "tracks 0 bad-blocks 0\n";
+    size_t at = 0;
+    while (at < size && text[at] != 't') {
+        at++;
+    }
+    memcpy(text + at, rest, sizeof rest - 1);
+    return at + sizeof rest - 1;
+}
+
+/* A listing to merge with it: mostly a header with the same clock; or the listing itself, whole, damaged or cut off. */
+static size_t make_other(const struct call *call) {
+    size_t size = call->table_size, at = below(size + 1);
+    memcpy(given, call->table, size);
+    switch (below(8)) {
+    case 0:
+        damage(given, size);
+        return size;
+    case 1:
+        return at;
+    case 2:
+        return size;
+    default:
+        return without_tracks(given, size);
     }
 }
 
@@ -538,13 +579,19 @@ static struct call make_call(void) {
     call.null = (int)below(2);
     if (call.function == CHECK) {
         choose_capture(&call);
+    } else if (call.function == MERGE) {
+        choose_listing(&call);
     } else if (shape->table != NO_TABLE) {
         choose_table(&call);
         time = make_time(call.table_size < 8 ? 0 : clock_of(call.table));
     }
-    call.given_size = call.function == CHECK ? make_text(&call) : make_given(call.function, time);
+    call.given_size = call.function == CHECK   ? make_text(&call)
+                      : call.function == MERGE ? make_other(&call)
+                                               : make_given(call.function, time);
     if (call.function == LISTING) {
         listing_lengths(&call);
+    } else if (call.function == MERGE) {
+        merge_lengths(&call);
     } else {
         call.result_length = shape->result == NOTHING ? 0 : result_length(call.function);
     }
@@ -767,13 +814,14 @@ static const char *longer_fault(const struct call *call, enum array array, int g
     return outcome.fault != NULL || !good || refused ? outcome.fault : "a length was cut";
 }
 
-/* Whether an array of a call may be said to be longer: of a check the two texts are read, however long they are. */
+/* Whether an array of a call may be said to be longer: of a check and a merge the two texts are read, however long they
+ * are. */
 static int has_array(const struct call *call, enum array array) {
     const struct shape *shape = &shapes[call->function];
-    int is_listing = call->function == LISTING;
-    int lent[ARRAYS] = {shape->table != NO_TABLE, shape->given != NOTHING, shape->result != NOTHING, is_listing,
-                        is_listing};
-    return lent[array] && (call->function != CHECK || array == RESULT_ARRAY);
+    int lent[ARRAYS] = {shape->table != NO_TABLE, shape->given != NOTHING, shape->result != NOTHING,
+                        call->function == LISTING, call_has_written(call->function)};
+    int reads_texts = call->function == CHECK || call->function == MERGE;
+    return lent[array] && (!reads_texts || array == RESULT_ARRAY || array == WRITTEN_ARRAY);
 }
 
 /* One call in 16 with a length of one of its arrays 2^32 more; what is wrong with it, or NULL. */

@@ -20,7 +20,7 @@ const memory = Buffer.from(library.memory.buffer);
 
 // The role of an array, by its name or by whether it is only read
 function roleOf(name, isRead) {
-    return ["table", "capture"].includes(name) ? "table" : isRead ? "given" : ["order", "written"].includes(name) ? name : "result";
+    return ["table", "capture", "a"].includes(name) ? "table" : isRead ? "given" : ["order", "written"].includes(name) ? name : "result";
 }
 
 // The functions of the header, each with its parameters: arrays, by their roles, and numbers

@@ -142,6 +142,8 @@ class Hostile:
             lambda: ("replay", (Track, Refusal, type(None)), closes, lambda: addercoil.replay(self.octets(), self.chance.choice("IOTMNCX"), *self.some(3))),
             lambda: ("check", Checked, (TypeError, OSError, ValueError), lambda: addercoil.check(*self.some(2))),
             lambda: ("check", Checked, raises, lambda: addercoil.check(self.octets(), self.octets())),
+            lambda: ("merge", bytes, (TypeError, addercoil.Refused), lambda: addercoil.merge(*self.some(2))),
+            lambda: ("merge", bytes, (addercoil.Refused,), lambda: addercoil.merge(self.octets(), self.octets())),
             lambda: ("Positions", (Track, type(None)), closes, lambda: addercoil.Positions(table).receive(*self.some(1))),
             lambda: ("Positions", (Track, type(None)), closes, lambda: addercoil.Positions(table).receive((self.chance.choice(NUMBERS), self.octets()))),
             lambda: ("read_capture", tuple, (TypeError, OSError, ValueError), lambda: addercoil.read_capture(*self.some(1))),

@@ -8,10 +8,11 @@
 
 The library behind it is proved. This package is a thin layer over it and is not: it is compared with the model in the project's tests.
 A message is bytes or hex. What the library refuses comes back as a Refusal. Wrong types, closed tables and files that cannot be read
-raise, and so does a table that cannot be made. Unknown is None; what is above its code is an Over, which no arithmetic takes.
+raise, and so do a table that cannot be made and two listings that cannot become one. Unknown is None; what is above its code is an Over,
+which no arithmetic takes.
 """
 from . import calls
-from ._captures import Capture, Checked, Positions, Record, check, read_capture, replay
+from ._captures import Capture, Checked, Positions, Record, check, merge, read_capture, replay
 from ._messages import Message, decode, encode
 from ._names import VERSION
 from ._spots import degrees, units
@@ -36,6 +37,7 @@ __all__ = [
     "decode",
     "degrees",
     "encode",
+    "merge",
     "read_capture",
     "replay",
     "units",

@@ -12,7 +12,7 @@ from ._names import BLOCK, FIELDS, HEAD, KINDS, LAYOUTS, MESSAGE, RECORD, TRACK
 from ._spots import pair_of, units
 from ._tables import Table, checked_key
 from ._tracks import Track
-from ._values import FIELD, LOG, Refusal
+from ._values import FIELD, LOG, Refusal, Refused
 
 FIRST = 3  # where the records of a block begin, behind its count and its serial number
 TIME = 8  # bytes of a time
@@ -112,7 +112,7 @@ class Positions:
         return track if track is not None and track.position_time == time else None
 
 
-# R-8 and R-13
+# RULES 13 and 14
 
 
 def log_of(log: bytes | Iterable[tuple[int, Any]]) -> bytes | Refusal:
@@ -143,7 +143,7 @@ def replay(
     station: int = 0,
     site: tuple[float, float] | None = None,
 ) -> Track | Refusal | None:
-    """The track of one aircraft, worked out again from a log of at most 2,900 records; None if it is not held. R-8.
+    """The track of one aircraft, worked out again from a log of at most 2,900 records; None if it is not held. RULES 13.
 
     A log is what a table received since its set-up: bytes, 22 for each record, or records. Kind C has no use for a site.
     """
@@ -173,9 +173,26 @@ def contents(source: File | bytes) -> bytes:
 
 
 def check(capture: File | bytes, listing: File | bytes) -> Checked:
-    """Another decoder's listing of a capture, checked against ours: R-13. Each is the path of a file, or bytes."""
+    """Another decoder's listing of a capture, checked against ours: RULES 14. Each is the path of a file, or bytes."""
     out = calls.words(1)
     number = calls.check(contents(capture), contents(listing), out)
     if number:
         return Checked(refusal=Refusal(number))
     return Checked(line=int(out[0]) or None)
+
+
+def merge(a: bytes, b: bytes) -> bytes:
+    """The listings of two tables as one. It raises Refused, with 16, for a text that is no listing, or for two that cannot become one."""
+    one, other = octets_in(a), octets_in(b)
+    out, written = calls.octets(len(one) + len(other)), calls.words(1)
+    number = calls.merge(one, other, out, written)
+    if number:
+        raise Refused(Refusal(number))
+    return bytes(out)[: int(written[0])]
+
+
+def octets_in(text: Any) -> bytes:
+    """The bytes of a listing; a wrong type raises."""
+    if not isinstance(text, (bytes, bytearray, memoryview)):
+        raise TypeError(f"a listing is bytes, and not {type(text).__name__}")
+    return exact(text)

@@ -1,7 +1,7 @@
 """Names and numbers of include/addercoil.h. tools/bindings writes this file."""
 from typing import Final
 
-VERSION: Final = 900
+VERSION: Final = 1000
 RECORD: Final = 22
 RECORDS: Final = 2900
 LINE: Final = 129
@@ -211,6 +211,7 @@ FUNCTIONS: Final[dict[str, tuple[str, tuple[tuple[str, str, str], ...]]]] = {
     'line': ('u32', (('table', 'u8', 'reads'), ('key', 'u32', ''), ('all', 'u32', ''), ('out', 'u8', 'writes'))),
     'feed_block': ('u32', (('table', 'u8', 'writes'), ('block', 'u8', 'reads'), ('bad', 'u64', ''), ('out', 'u64', 'writes'))),
     'check': ('u32', (('capture', 'u8', 'reads'), ('listing', 'u8', 'reads'), ('out', 'u64', 'writes'))),
+    'merge': ('u32', (('a', 'u8', 'reads'), ('b', 'u8', 'reads'), ('out', 'u8', 'writes'), ('written', 'u64', 'writes'))),
     'encode_position': ('u32', (('latitude', 'i32', ''), ('longitude', 'u32', ''), ('surface', 'u32', ''), ('odd', 'u32', ''), ('out', 'u64', 'writes'))),
     'pair': ('u32', (('even_latitude', 'u32', ''), ('even_longitude', 'u32', ''), ('odd_latitude', 'u32', ''), ('odd_longitude', 'u32', ''), ('later_odd', 'u32', ''), ('out', 'u64', 'writes'))),
     'single': ('u32', (('latitude', 'i32', ''), ('longitude', 'u32', ''), ('count_latitude', 'u32', ''), ('count_longitude', 'u32', ''), ('surface', 'u32', ''), ('odd', 'u32', ''), ('out', 'u64', 'writes'))),

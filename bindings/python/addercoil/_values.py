@@ -31,7 +31,7 @@ class Refusal:
 
 
 class Refused(ValueError):
-    """A table that cannot be made: a constructor has no other way to refuse."""
+    """A table that cannot be made, since a constructor has no other way to refuse; or two listings that cannot become one."""
 
     def __init__(self, refusal: Refusal) -> None:
         super().__init__(str(refusal))

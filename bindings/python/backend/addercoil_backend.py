@@ -18,7 +18,7 @@ DATE = (1980, 1, 1, 0, 0, 0)  # of each file, so that the same sources make the 
 
 
 def version():
-    """The version of the library, as 0.9.0."""
+    """The version of the library, as 0.10.0."""
     number = int(re.search(r"^VERSION: Final = (\d+)$", (PACKAGE / "_names.py").read_text(encoding="ascii"), flags=re.M)[1])
     return f"{number // 10_000}.{number // 100 % 100}.{number % 100}"
 

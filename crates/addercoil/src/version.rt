@@ -7,5 +7,5 @@ ghost use Rattle.addercoil.specs.Version.{version};
 pub extern "C" fn addercoil_version() -> u32
     ensures { λ r. ⌜ r ≡ version ⌝ }
 {
-    900
+    1000
 }

@@ -1,11 +1,12 @@
--- The promises are not empty, and each premise is needed: runs of a few calls in tables of one place and of two, computed. Every number below is one that C gets.
+-- `side-by-side` is not empty, and each of its premises is needed; `roomy-fleet` is not empty. By runs of a few calls in tables of one place and of two, computed. Every number below is one that C gets.
 -- Assumes nothing.
-use Prim.Native.Nat.{ℕ}
-use mathlib.Core.Bool.{false, true≢false}
+use Prim.Native.Nat.{ℕ, _≤_}
+use mathlib.Core.Bool.{false, cond, true≢false}
 use mathlib.Core.Option.{none}
 use mathlib.Core.Path.{_≡_, refl, ap, sym, _∙_}
 use mathlib.Core.List.{List, [], _∷_}
 use native.Mathlib.Omega.{arith}
+use lib.Dec.{eqb}
 use lib.ListN.{getD}
 use Rattle.parity.specs.Division.{remainderFrom, reduce}
 use Rattle.parity.specs.Parity.{remainder}
@@ -20,19 +21,23 @@ use Rattle.place.specs.Place.{savedFrom, groupsIn, lowered, positionIn, written
 use Rattle.rules.specs.Form.{isHeld, holds}
 use Rattle.rules.specs.Rules as rules
 use Rattle.table_bytes.specs.Layout.{siteFrom, keyAt, bodyAt, moved, stored, emptied}
+use Rattle.table.specs.Table.{setUp}
 use Rattle.entries.specs.Sent.{Sent, into}
 use Rattle.track_rows.specs.Tracks.{keptRow, trackRow}
 use Rattle.isolation.specs.Runs.{Call}
-use Rattle.isolation.proofs.Examples.{key, first, stranger-first, stranger, own-calls}
+use Rattle.isolation.proofs.Examples.{key, first, stranger-first, stranger, own-calls, empty-bytes}
 use Rattle.addercoil.specs.Tables.{setUpSent, receivedSent}
 use Rattle.fleet.specs.Sparse.{latest, timely, Sparse, ownCalls}
+use Rattle.fleet.specs.Room.{Among}
 use Rattle.fleet.proofs.Examples.{tick-2, far, own-others}
 use Rattle.c_promises.specs.Runs.{Run, Never6, SameTrack}
 use Rattle.c_promises.specs.Logs.{leftOf}
-use Rattle.c_promises.proofs.Every.{look-up-met}
+use Rattle.c_promises.proofs.Every.{set-up-met, look-up-met, ran-met}
 use Rattle.c_promises.proofs.Examples.{backs, numbers, sevens, lookedIn, looked, runOf, computed, zero-not-six}
 use Rattle.c_fleet.specs.Sides.{SameSide}
+use Rattle.c_fleet.specs.Roomy.{TableOf, AsSingle}
 use Rattle.c_fleet.proofs.Sides.{side-by-side}
+use Rattle.c_fleet.proofs.Roomy.{roomy-fleet}
 
 -- the stream, and what the aircraft's table is handed of it: its own message, and a tick
 abbrev stream : List Call
@@ -41,8 +46,13 @@ stream = stranger-first ∷ first ∷ stranger ∷ []
 abbrev its-deal : List Call
 its-deal = first ∷ tick-2 ∷ []
 
+-- .. and the stranger's table, if the tables are two
+abbrev other-deal : List Call
+other-deal = stranger-first ∷ stranger ∷ tick-2 ∷ []
+
 pub record Seen : Type 0 where
   pub in-both : (numbers 2 stream ≡ 0 ∷ 0 ∷ 0 ∷ []) × (numbers 1 its-deal ≡ 0 ∷ 4 ∷ []) × (looked 2 stream ≡ 1 ∷ 1000 ∷ []) × (looked 1 its-deal ≡ 1 ∷ 1000 ∷ [])
+  pub in-other : numbers 1 other-deal ≡ 0 ∷ 0 ∷ 4 ∷ []
   -- one place would not do for the whole stream
   pub one-place : numbers 1 stream ≡ 0 ∷ 6 ∷ 0 ∷ []
   pub full : looked 1 stream ≡ 0 ∷ 0 ∷ []
@@ -51,7 +61,7 @@ pub record Seen : Type 0 where
 
 pub seen : Seen
 unfolding setUpSent receivedSent into trackRow keptRow remainder remainderFrom reduce opened kindOf isHeld holds rules.setUp rules.placeOf rules.freePlace rules.delivered rules.received rules.lookedUp wholePlaces siteFrom keyAt bodyAt moved stored emptied numberAt lowBytes put savedFrom groupsIn lowered positionIn writtenIn meantGroups meantPosition meantSaved meant trackOf abovePole marksOf savedNumber savedBytes messageBytes spotBytes bodyOf ranges.inRange groupTrack surfaceTrack surfacePosition
-seen = record { in-both = (refl, refl, refl, refl); one-place = refl; full = refl; no-tick = (refl, refl, refl, refl); late-in-one = (refl, refl) }
+seen = record { in-both = (refl, refl, refl, refl); in-other = refl; one-place = refl; full = refl; no-tick = (refl, refl, refl, refl); late-in-one = (refl, refl) }
 
 -- ---- two runs that keep every premise
 
@@ -81,6 +91,57 @@ not-empty =
             (record { calls = rw (own-calls .0, own-calls .2, own-calls .3, own-others .0); clock = refl }) never-in-stream never-in-deal,
       ),
     )
+
+-- ---- a fleet with room: two tables of one place each, for two aircraft. Neither returned 6 (`in-both`, `in-other`), as one of these tables by itself does (`one-place`)
+
+abbrev which : ℕ → ℕ
+which k = cond (eqb k key) 0 1
+
+abbrev both-keys : List ℕ
+both-keys = key ∷ 0x1123456 ∷ []
+
+both-among : Among both-keys stream
+unfolding remainder remainderFrom reduce opened kindOf
+both-among = (refl, (refl, (refl, tt)))
+
+pub its-table : TableOf which 0 none stream both-keys
+unfolding setUpSent remainder remainderFrom reduce opened kindOf
+its-table =
+    record {
+      last = tick-2;
+      tick = record { zeros = refl; at = refl };
+      backs = backs 1 its-deal;
+      run =
+          record {
+            table = empty-bytes 1;
+            back = setUpSent (setUp (empty-bytes 1));
+            begun = set-up-met (empty-bytes 1);
+            done = computed .done .0;
+            ran = ran-met (setUp (empty-bytes 1) .table) its-deal;
+          };
+      room = let e : 1 ≤ 1 = omega arith in e;
+    }
+
+pub other-table : TableOf which 1 none stream both-keys
+unfolding setUpSent remainder remainderFrom reduce opened kindOf
+other-table =
+    record {
+      last = tick-2;
+      tick = record { zeros = refl; at = refl };
+      backs = backs 1 other-deal;
+      run =
+          record {
+            table = empty-bytes 1;
+            back = setUpSent (setUp (empty-bytes 1));
+            begun = set-up-met (empty-bytes 1);
+            done = computed .done .0;
+            ran = ran-met (setUp (empty-bytes 1) .table) other-deal;
+          };
+      room = let e : 1 ≤ 1 = omega arith in e;
+    }
+
+pub two-in-one-place-each : AsSingle which none stream both-keys key its-table × AsSingle which none stream both-keys 0x1123456 other-table
+two-in-one-place-each = (roomy-fleet which none stream both-keys both-among key its-table, roomy-fleet which none stream both-keys both-among 0x1123456 other-table)
 
 -- ---- each premise is needed
 

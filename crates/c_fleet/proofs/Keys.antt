@@ -40,11 +40,11 @@ use Rattle.addercoil.proofs.Laws.{some-number}
 use Rattle.dealer.specs.Keys.{keySaid}
 use Rattle.c_promises.specs.Calls.{Receive, LookUp}
 use Rattle.c_promises.specs.Flips.{Accepted.by-receive}
-use Rattle.c_promises.specs.Runs.{Site, Run}
+use Rattle.c_promises.specs.Runs.{Site, siteOf, Run}
 use Rattle.c_promises.specs.Logs.{leftOf}
 use Rattle.c_promises.proofs.Flipped.{acceptable}
 use Rattle.c_promises.proofs.Followed.{rowOf, writes}
-use Rattle.c_promises.proofs.Isolated.{siteOf, east, number-is, table-is, whole-left, run-done}
+use Rattle.c_promises.proofs.Isolated.{east, number-is, table-is, whole-left, run-done}
 use Rattle.c_fleet.specs.Keys.{Key, KeyByKey, HeldAt, KeyIsKept}
 use Rattle.c_fleet.proofs.Sides.{left-is, whole-in-end}
 

@@ -1,4 +1,11 @@
 pub mod Sides
 pub mod Fleets
 pub mod Keys
+pub mod Roomy
+pub mod Rows
+pub mod Sound
+pub mod Listings
+pub mod Lines
+pub mod Texts
+pub mod Merged
 pub mod Examples

@@ -12,24 +12,20 @@ use Rattle.rules.specs.declared.answers.Clock.the-variants as clock
 use Rattle.rules.specs.Rules as rules
 use Rattle.table_bytes.specs.Layout.{clockOf}
 use Rattle.table.specs.Bytes.{bytes}
-use Rattle.table.specs.Heard.{heardAs}
 use Rattle.table.specs.Table.{received, clockIn}
 use Rattle.table.specs.View.{view}
 use Rattle.isolation.specs.Runs.{Call, call}
 use Rattle.isolation.specs.Logs.{left}
-use Rattle.addercoil.specs.Tables.{heardNumber, clockSaid}
+use Rattle.addercoil.specs.Tables.{clockSaid}
 use Rattle.fleet.specs.Sparse.{ticked, heeds, told}
 use Rattle.fleet.proofs.OfCode.{bytes-shards}
-use Rattle.c_promises.specs.Runs.{Site, Run}
+use Rattle.c_promises.specs.Runs.{Site, siteOf, Run}
 use Rattle.c_promises.specs.Logs.{leftOf}
 use Rattle.c_promises.proofs.Followed.{Followed, Followed.no-more, Followed.one-more, same-track}
-use Rattle.c_promises.proofs.Isolated.{siteOf, east, run-done, run-table, run-whole, run-never, by-rule}
+use Rattle.c_promises.proofs.Isolated.{east, run-done, run-table, run-whole, run-never, by-rule}
 use Rattle.c_promises.proofs.Replayed.{ran-left, left-whole}
 use Rattle.c_promises.proofs.Timed.{clock-is}
-use Rattle.c_fleet.specs.Sides.{returned, SideBySide}
-
-abbrev numberIn : Decoded → ℕ
-numberIn d = heardNumber (heardAs d)
+use Rattle.c_fleet.specs.Sides.{numberIn, returned, SideBySide}
 
 -- ---- the numbers are those of what the rule answers
 
@@ -37,7 +33,7 @@ mapped : (b : Bool) (d : Decoded) (ds : List Decoded) → cond b (numberIn d ∷
 mapped true d ds = refl
 mapped false d ds = refl
 
-returned-is : (key n : ℕ) {s : List ℕ} {cs : List Call} {xs : List Sent} → Followed received (λ (z : List ℕ). z) s cs xs → returned key n cs xs ≡ map numberIn (told received key n s cs)
+pub returned-is : (key n : ℕ) {s : List ℕ} {cs : List Call} {xs : List Sent} → Followed received (λ (z : List ℕ). z) s cs xs → returned key n cs xs ≡ map numberIn (told received key n s cs)
 returned-is key n no-more = refl
 returned-is key n {s} (one-more {c = c} {x = x} {cs = cs} {xs = xs} number-is table-is w more) =
     ap₂ (λ (k : ℕ) (l : List ℕ). cond (heeds key n c) (k ∷ l) l) number-is (returned-is key (ticked n c) more) ∙ mapped (heeds key n c) (call received s c .answer) _
@@ -51,7 +47,7 @@ module _ (site : Option Site) {cs : List Call} {xs : List Sent} (p : Run site cs
   pub whole-in-end : bytes .whole (leftOf p) ≡ true
   whole-in-end = left-whole (p .ran) (run-whole site p)
 
-  clock-said : clockIn (leftOf p) ≡ clock.At (clockOf (leftOf p))
+  pub clock-said : clockIn (leftOf p) ≡ clock.At (clockOf (leftOf p))
   unfolding clockIn
   clock-said = rw whole-in-end
 

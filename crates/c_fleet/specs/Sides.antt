@@ -5,11 +5,18 @@ use mathlib.Core.Option.{Option}
 use mathlib.Core.Path.{_≡_}
 use mathlib.Core.List.{List, [], _∷_}
 use Rattle.entries.specs.Sent.{Sent}
+use Rattle.messages.specs.declared.Decoded.{Decoded}
+use Rattle.table.specs.Heard.{heardAs}
 use Rattle.isolation.specs.Runs.{Call}
+use Rattle.addercoil.specs.Tables.{heardNumber}
 use Rattle.fleet.specs.Sparse.{ticked, heeds, Sparse}
 use Rattle.c_promises.specs.Calls.{Clock}
 use Rattle.c_promises.specs.Runs.{Site, Run, Never6, SameTrack}
 use Rattle.c_promises.specs.Logs.{leftOf}
+
+-- the number that addercoil_receive returns for an answer
+abbrev pub numberIn : Decoded → ℕ
+numberIn d = heardNumber (heardAs d)
 
 -- the numbers that addercoil_receive returned to an aircraft's own calls that are not late, from a clock on. To one that is late it returned 2
 abbrev pub returned : ℕ → ℕ → List Call → List Sent → List ℕ

@@ -29,7 +29,7 @@ listing-is {table} {bad} {all} {order} {out} {written} {back} b =
     ∙ ap₂ (λ (a : ℕ) (o : List ℕ). listingInto a table bad o (b .args .1 .1 .1 .1 .0 .now) (b .args .1 .1 .1 .1 .1 .0 .now)) (b .asked) (b .sorted-in)
     ∙ ap₂ (λ (x w : List ℕ). listingInto all table bad order x w) (b .into) (b .long-in)
 
-taken : (n : ℕ) (text : List ℕ) → length text ≤ n → take (length text) (filled n text) ≡ text
+pub taken : (n : ℕ) (text : List ℕ) → length text ≤ n → take (length text) (filled n text) ≡ text
 taken n [] h = refl
 taken zero (b ∷ text) h = absurd (let z : ⊥ = omega arith in z)
 taken (suc n) (b ∷ text) h = ap (λ (l : List ℕ). b ∷ l) (taken n text (omega arith))

@@ -23,10 +23,9 @@ use Rattle.addercoil.specs.Tables.{setUpSent, receivedSent, clockSaid}
 use Rattle.audit.specs.Replays.{replaySaid, coarseSaid}
 use Rattle.c_promises.specs.Calls.{SetUp, SetUpAt, Receive, LookUp, Clock, Decode, Replay, ReplayAt, ReplayCoarse, ReceiveStamp, InDegrees, FromDegrees}
 use Rattle.c_promises.specs.Backs.{backsOf, stampedBacks}
-use Rattle.c_promises.specs.Runs.{Site, Begin, Ran, Ran.stopped, Ran.then, Run}
+use Rattle.c_promises.specs.Runs.{Site, siteOf, Begin, Ran, Ran.stopped, Ran.then, Run}
 use Rattle.c_promises.specs.Stamps as stamps
 use Rattle.c_promises.specs.Stamps.{RanStamps, RunStamps}
-use Rattle.c_promises.proofs.Isolated.{siteOf}
 
 -- a lent array, wherever it stands
 abbrev pub lend : {A : Type 0} → List A → RefT (List A)

@@ -7,8 +7,6 @@ use mathlib.Core.Option.{Option, some, none}
 use mathlib.Core.List.{List}
 use lib.IntN.{ℤ}
 use Rattle.entries.specs.Sent.{Sent, sent}
-use Rattle.whereabouts.specs.declared.Site as located
-use Rattle.whereabouts.specs.Located.{noSite, siteAt}
 use Rattle.rules.specs.declared.answers.SetUp as setting-up
 use Rattle.rules.specs.declared.answers.SetUp.the-variants as setting
 use Rattle.rules.specs.Form.{East}
@@ -23,15 +21,10 @@ use Rattle.isolation.proofs.Both.{bytes-isolated}
 use Rattle.addercoil.specs.Tables.{setUpNumber, setUpSent, heardNumber, receivedSent}
 use Rattle.addercoil.proofs.Laws.{some-number}
 use Rattle.c_promises.specs.Calls.{Receive}
-use Rattle.c_promises.specs.Runs.{Site, Begin, Ran, Ran.stopped, Ran.then, Run, Never6, Isolation}
+use Rattle.c_promises.specs.Runs.{Site, siteOf, Begin, Ran, Ran.stopped, Ran.then, Run, Never6, Isolation}
 use Rattle.c_promises.proofs.Followed.{Followed, Followed.no-more, Followed.one-more, never-full, side-by-side}
 
 -- ---- each call did what the rule says
-
--- the site of a run: none after `addercoil_set_up`
-abbrev pub siteOf : Option Site → located.Site
-siteOf none = noSite
-siteOf (some site) = siteAt (record { latitude = site .latitude; longitude = site .longitude })
 
 begin-is : (site : Option Site) (table : List ℕ) (back : Sent) → Begin site table back → back ≡ setUpSent (rules.setUp bytes table (siteOf site))
 begin-is none table back b = ap (sent (back .number)) (sym (b .leaves)) ∙ b .meets ∙ ap (λ (s : List ℕ). setUpSent (setUp s)) (b .lent)

@@ -32,11 +32,11 @@ use Rattle.isolation.specs.Logs.{logOf}
 use Rattle.isolation.proofs.Replayed.{done-site, log-whole, replays}
 use Rattle.audit.specs.Replays.{workedOut, askedOf, replaySaid, coarseSaid}
 use Rattle.c_promises.specs.Calls.{ReplayCoarse}
-use Rattle.c_promises.specs.Runs.{Site, Ran, Ran.stopped, Ran.then, Run, Never6}
+use Rattle.c_promises.specs.Runs.{Site, siteOf, Ran, Ran.stopped, Ran.then, Run, Never6}
 use Rattle.c_promises.specs.Logs.{leftBy, leftOf, keyOf, keyCoarse, SameAsTable, ReplayBy, Replays, ReplaysCoarse}
 use Rattle.c_promises.proofs.Coarse.{any-site}
 use Rattle.c_promises.proofs.Followed.{rowOf, written, writes}
-use Rattle.c_promises.proofs.Isolated.{siteOf, east, table-is, whole-left, run-done, run-table, run-whole, run-never}
+use Rattle.c_promises.proofs.Isolated.{east, table-is, whole-left, run-done, run-table, run-whole, run-never}
 
 -- ---- each call did what the rule says
 

@@ -32,10 +32,10 @@ use Rattle.isolation.proofs.OfStamped.{bytes-stamped}
 use Rattle.addercoil.specs.Blocks.{Both, both}
 use Rattle.addercoil.specs.Stamps.{stateIn, stateRow, noState, notedAfter, receivedStamp}
 use Rattle.c_promises.specs.Calls.{ReceiveStamp}
-use Rattle.c_promises.specs.Runs.{Site, Never6}
+use Rattle.c_promises.specs.Runs.{Site, siteOf, Never6}
 use Rattle.c_promises.specs.Stamps.{RanStamps, RanStamps.stopped, RanStamps.then, RunStamps, RunEqual, tablesOf, StampedIsolation}
 use Rattle.c_promises.proofs.Followed.{Followed, Followed.no-more, Followed.one-more, never-full, side-by-side}
-use Rattle.c_promises.proofs.Isolated.{siteOf, east, begun, begun-table, begun-whole}
+use Rattle.c_promises.proofs.Isolated.{east, begun, begun-table, begun-whole}
 
 receive-stamp-is : {table message : List ℕ} {stamp : ℕ} {state : List ℕ} {back : Both} → ReceiveStamp table message stamp state back → back ≡ receivedStamp table message stamp state
 receive-stamp-is {table} {message} {stamp} {state} {back} b =

@@ -32,9 +32,10 @@ use Rattle.addercoil.specs.Blocks.{Both}
 use Rattle.addercoil.specs.Stamps.{stateRow, notedAfter}
 use Rattle.addercoil.specs.Tables.{heardNumber, receivedSent, clockSaid}
 use Rattle.c_promises.specs.Calls.{Clock, Receive}
+use Rattle.c_promises.specs.Runs.{siteOf}
 use Rattle.c_promises.specs.Stamps.{RanStamps, RanStamps.stopped, RanStamps.then}
 use Rattle.c_promises.specs.Times.{accepted, FirstTrue, NoneFar, ClockIs, Right, TimesRight}
-use Rattle.c_promises.proofs.Isolated.{siteOf, east, receive-is}
+use Rattle.c_promises.proofs.Isolated.{east, receive-is}
 use Rattle.c_promises.proofs.Stamped.{Good, next-good, noted, table-noted, state-noted, ready-good, ready-done, ready-table}
 
 -- ---- what addercoil_clock says

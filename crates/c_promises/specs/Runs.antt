@@ -10,6 +10,8 @@ use lib.IntN.{ℤ}
 use lib.ListN.{length, getD}
 use Rattle.entries.specs.Sent.{Sent}
 use Rattle.messages.specs.Message.{decoded}
+use Rattle.whereabouts.specs.declared.Site as located
+use Rattle.whereabouts.specs.Located.{noSite, siteAt}
 use Rattle.isolation.specs.Runs.{Call, isOf, own, Alike}
 use Rattle.c_promises.specs.Calls.{SetUp, SetUpAt, Receive, LookUp, Decode}
 
@@ -18,6 +20,11 @@ pub record Site : Type 0 where
   pub latitude : ℤ
   pub longitude : ℕ
   pub fits : longitude < 2 ^ 32
+
+-- the site of a table that was set up so: none after addercoil_set_up
+abbrev pub siteOf : Option Site → located.Site
+siteOf none = noSite
+siteOf (some site) = siteAt (record { latitude = site .latitude; longitude = site .longitude })
 
 -- a set-up with a site or with none
 abbrev pub Begin : Option Site → List ℕ → Sent → Type 0

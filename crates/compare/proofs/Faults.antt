@@ -78,7 +78,7 @@ never-refused n (l ∷ ls) (r ∷ rs) e = by-test (agreesOf (l ++ newline) r) e 
 
 -- ---- our own
 
-unfoldable ownLines : List Row → List (List ℕ)
+unfoldable pub ownLines : List Row → List (List ℕ)
 ownLines [] = []
 ownLines (r ∷ rs) = rowLine r ∷ ownLines rs
 
@@ -99,13 +99,19 @@ lines-of [] = refl
 lines-of (l ∷ []) = refl
 lines-of (l ∷ m ∷ ms) = ap (λ (x : List (List ℕ)). l ∷ x) (lines-of (m ∷ ms))
 
+-- the lines of our own text
+pub own-lines : (clock tracks bad : ℕ) (rs : List Row) → linesIn (pieces 10 (headerText clock tracks bad ++ texts rs)) ≡ headerLine clock tracks bad ∷ ownLines rs
+own-lines clock tracks bad rs =
+    ap linesIn
+    (ap (pieces 10) (header-cut clock tracks bad (texts rs))
+    ∙ pieces-cut 10 (headerLine clock tracks bad) (texts rs) (header-over clock tracks bad)
+    ∙ ap (λ (x : List (List ℕ)). headerLine clock tracks bad ∷ x) (own-pieces rs))
+    ∙ lines-of (headerLine clock tracks bad ∷ ownLines rs)
+
 -- our own text gets yes
 pub own-yes : (clock tracks bad : ℕ) (rs : List Row) → against (linesIn (pieces 10 (headerText clock tracks bad ++ texts rs))) (headerText clock tracks bad) rs ≡ Yes
 unfolding against
 own-yes clock tracks bad rs =
-    let h = headerLine clock tracks bad in
-    let p : linesIn (pieces 10 (headerText clock tracks bad ++ texts rs)) ≡ h ∷ ownLines rs
-    = ap linesIn (ap (pieces 10) (header-cut clock tracks bad (texts rs)) ∙ pieces-cut 10 h (texts rs) (header-over clock tracks bad) ∙ ap (λ (x : List (List ℕ)). h ∷ x) (own-pieces rs)) ∙ lines-of (h ∷ ownLines rs) in
-    ap (λ (x : List (List ℕ)). against x (headerText clock tracks bad) rs) p
+    ap (λ (x : List (List ℕ)). against x (headerText clock tracks bad) rs) (own-lines clock tracks bad rs)
     ∙ ap (λ (t : Bool). cond t (compared 2 (ownLines rs) rs) (Fault 1)) (ap (λ (x : List ℕ). same x (headerText clock tracks bad)) (sym (header-text clock tracks bad)) ∙ same-self (headerText clock tracks bad))
     ∙ own-compared 2 rs

@@ -111,7 +111,7 @@ altitude-sized (altitude.Refused r) p = (tt, tt)
 abbrev pub Ours : Row → Type 0
 Ours r = Fitting r × Placed r
 
-row-ours : (key : ℕ) (t : Track) → Fits t → Ours (rowOf key t)
+pub row-ours : (key : ℕ) (t : Track) → Fits t → Ours (rowOf key t)
 unfolding rowOf latitudeIn longitudeIn
 row-ours key t f =
     let y = latitude-by (t .position .spot .latitude) (t .position .known) (leb-true (natAbs (t .position .spot .latitude)) 1073741824 (f .position .latitude)) in

@@ -1,2 +1,3 @@
 pub mod Keyed
+pub mod Joining
 pub mod Unique

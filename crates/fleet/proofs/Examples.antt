@@ -1,7 +1,7 @@
 -- The statement is not empty, and both of its premises are needed: runs of a few calls, computed in the bytes and in the slice.
 -- Assumes nothing.
 use Prim.Native.Nat.{ℕ, suc, _<_, _^_}
-use mathlib.Core.Bool.{Bool, true, false, cond, true≢false}
+use mathlib.Core.Bool.{false, true≢false}
 use mathlib.Core.Option.{Option, some, none}
 use mathlib.Core.Path.{_≡_, refl, ap, sym, _∙_}
 use mathlib.Core.List.{List, [], _∷_}
@@ -30,21 +30,14 @@ use Rattle.isolation.specs.Runs.{Call, own, call, NeverFull}
 use Rattle.isolation.specs.Logs.{left}
 use Rattle.isolation.specs.Wrong.{numberIn}
 use Rattle.isolation.proofs.Examples.{key, first, stranger-first, stranger, bytes-of, own-calls, not-six, empty-bytes, empty-slice}
-use Rattle.fleet.specs.Sparse.{late, ticked, latest, timely, Sparse, ownCalls}
+use Rattle.fleet.specs.Sparse.{latest, timely, Sparse, ownCalls}
 use Rattle.fleet.specs.Fleet.{zeroBytes, Tick}
+use Rattle.fleet.proofs.Fleet.{latest-fits}
 
 -- ---- every stream has a tick
 
 abbrev pub zeros : (time : ℕ) → time < 2 ^ 64 → Call
 zeros time f = record { message = zeroBytes; bytes = bytes-of zeroBytes refl; whole = refl; time = time; fits = f }
-
-pub latest-fits : (n : ℕ) (cs : List Call) → n < 2 ^ 64 → latest n cs < 2 ^ 64
-latest-fits n [] h = h
-latest-fits n (c ∷ cs) h = latest-fits (ticked n c) cs (by-test (late n c))
-  where
-    by-test : (b : Bool) → cond b n (c .time) < 2 ^ 64
-    by-test true = h
-    by-test false = c .fits
 
 pub some-tick : (stream : List Call) → Tick stream (zeros (latest 0 stream) (latest-fits 0 stream (omega arith)))
 some-tick stream = record { zeros = refl; at = refl }

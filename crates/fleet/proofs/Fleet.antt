@@ -1,6 +1,6 @@
 -- A fleet: a deal of a stream is sparse of it for each key that goes to the table. Nothing that is handed over is late, and of the aircraft's own calls each that is not late is handed over.
 -- Assumes nothing.
-use Prim.Native.Nat.{ℕ, _≤_}
+use Prim.Native.Nat.{ℕ, _≤_, _<_, _^_}
 use native.Mathlib.Omega.{arith}
 use mathlib.Core.Bool.{Bool, true, false, cond, not, _&&_}
 use mathlib.Core.Path.{_≡_, refl, ap, sym, _∙_, subst}
@@ -31,6 +31,15 @@ ticked-below k n c h g = by-test (late k c)
     by-test : (b : Bool) → cond b k (c .time) ≤ n
     by-test true = h
     by-test false = g
+
+-- a stream's latest time has 64 bits, as each time has
+pub latest-fits : (n : ℕ) (cs : List Call) → n < 2 ^ 64 → latest n cs < 2 ^ 64
+latest-fits n [] h = h
+latest-fits n (c ∷ cs) h = latest-fits (ticked n c) cs (by-test (late n c))
+  where
+    by-test : (b : Bool) → cond b n (c .time) < 2 ^ 64
+    by-test true = h
+    by-test false = c .fits
 
 -- ---- a deal
 

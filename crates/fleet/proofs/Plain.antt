@@ -85,6 +85,10 @@ module _ {S T : Type 0} (F : Form S) (G : Form T) (L : Lawful F) (M : Lawful G) 
   pub plain-clock : (i : ℕ) → G .clock (left (received G) (of i) (deal i)) ≡ F .clock (left (received F) one stream)
   plain-clock i = clock-from G M site east (tables i) (all-done i) (deal i) ∙ tick-deal tick which i .1 ∙ sym (clock-from F L site east s done stream)
 
+  -- of a key that goes elsewhere nothing is held
+  pub plain-unheld : (i key : ℕ) → (which key ≡ i → ⊥) → view G (left (received G) (of i) (deal i)) key ≡ none
+  plain-unheld i key n = unheard G M key site east (tables i) (all-done i) (deal i) (others-handed which i key n _ (tick-nobody's tick key) 0 stream)
+
   module _ (key : ℕ) (f : NeverFull (received F) key one stream) (g : NeverFull (received G) key (of (which key)) (deal (which key))) where
     -- what a key is told, and what is held of it, in its own table
     pub plain-same : Same F G (received F) (received G) key one (of (which key)) stream (deal (which key))
@@ -97,5 +101,4 @@ module _ {S T : Type 0} (F : Form S) (G : Form T) (L : Lawful F) (M : Lawful G) 
       where
         by-test : (b : Bool) → eqb (which key) i ≡ b → view G (left (received G) (of i) (deal i)) key ≡ cond b (view F (left (received F) one stream) key) none
         by-test true e = subst (λ (j : ℕ). view G (left (received G) (of j) (deal j)) key ≡ view F (left (received F) one stream) key) (eqb-true (which key) i e) (sym (plain-same .track))
-        by-test false e =
-            unheard G M key site east (tables i) (all-done i) (deal i) (others-handed which i key (eqb-false (which key) i e) _ (tick-nobody's tick key) 0 stream)
+        by-test false e = plain-unheld i key (eqb-false (which key) i e)

@@ -29,7 +29,7 @@ use Rattle.fleet.proofs.Plain.{plain-same, plain-clock, plain-holds}
 
 -- ---- rows in order
 
-abbrev Below : ℕ → List Row → Type 0
+abbrev pub Below : ℕ → List Row → Type 0
 Below k [] = Unit {0}
 Below k (x ∷ xs) = (x .key < k) × Below k xs
 
@@ -49,7 +49,7 @@ put-length x (y ∷ ys) = by-test (ltb (x .key) (y .key)) (put-length x ys)
     by-test true e = refl
     by-test false e = ap suc e
 
-together-length : (xs ys : List Row) → length (together xs ys) ≡ length xs + length ys
+pub together-length : (xs ys : List Row) → length (together xs ys) ≡ length xs + length ys
 together-length [] ys = omega arith
 together-length (x ∷ xs) ys = omega (arith, put-length x (together xs ys), together-length xs ys)
 
@@ -84,7 +84,7 @@ module _ (k : ℕ) (r : Option Row) (its : (z : Row) → r ≡ some z → z .key
 
 -- ---- what is held, key by key
 
-key-of : (all : Bool) (k : ℕ) (t : Option Track) (z : Row) → rowFor all k t ≡ some z → z .key ≡ k
+pub key-of : (all : Bool) (k : ℕ) (t : Option Track) (z : Row) → rowFor all k t ≡ some z → z .key ≡ k
 unfolding rowFor rowOf
 key-of all k none z e = absurd (some-held (sym e))
 key-of all k (some t) z e = by-test (shown all (t .position)) e
@@ -93,7 +93,7 @@ key-of all k (some t) z e = by-test (shown all (t .position)) e
     by-test true p = let q : rowOf k t ≡ z = cc in sym (ap (λ (x : Row). x .key) q)
     by-test false p = absurd (some-held (sym p))
 
-below-held : (all : Bool) (held : ℕ → Option Track) (k : ℕ) → Below k (rowsHeld all held k)
+pub below-held : (all : Bool) (held : ℕ → Option Track) (k : ℕ) → Below k (rowsHeld all held k)
 below-held all held zero = tt
 below-held all held (suc k) = below-end (suc k) (rowsHeld all held k) (rowFor all k (held k)) (below-more k (suc k) (omega arith) (rowsHeld all held k) (below-held all held k)) (of-one (rowFor all k (held k)) refl)
   where
@@ -101,7 +101,7 @@ below-held all held (suc k) = below-end (suc k) (rowsHeld all held k) (rowFor al
     of-one none e = tt
     of-one (some z) e = (omega (arith, key-of all k (held k) z e), tt)
 
-held-same : (all : Bool) (u w : ℕ → Option Track) → ((key : ℕ) → u key ≡ w key) → (k : ℕ) → rowsHeld all u k ≡ rowsHeld all w k
+pub held-same : (all : Bool) (u w : ℕ → Option Track) → ((key : ℕ) → u key ≡ w key) → (k : ℕ) → rowsHeld all u k ≡ rowsHeld all w k
 held-same all u w e zero = refl
 held-same all u w e (suc k) = ap₂ (λ (l : List Row) (t : Option Track). l ++ asList (rowFor all k t)) (held-same all u w e k) (e k)
 

@@ -3,11 +3,12 @@
 use Prim.Native.Nat.{ℕ, _≤_}
 use native.Mathlib.Omega.{arith}
 use mathlib.Core.Bool.{Bool, true, false, cond, not, _&&_, _||_}
-use mathlib.Core.Path.{_≡_, refl, ap, _∙_}
+use mathlib.Core.Option.{none}
+use mathlib.Core.Path.{_≡_, refl, ap, sym, _∙_, subst}
 use mathlib.Core.List.{List, [], _∷_, _++_}
 use lib.Dec.{eqb}
 use lib.ListN.{length}
-use borrow.Author.Tests.{eqb-true, eq-eqb, ne-eqb}
+use borrow.Author.Tests.{eqb-true, eqb-false, eq-eqb, ne-eqb}
 use Rattle.fields.proofs.Bools.{by-test, and-left}
 use Rattle.positions.specs.Positions.{poleToPole}
 use Rattle.parity.specs.Division.{remainderFrom, reduce}
@@ -20,15 +21,17 @@ use Rattle.rules.specs.declared.answers.SetUp.{SetUp}
 use Rattle.rules.specs.declared.answers.SetUp.the-variants.{Done}
 use Rattle.rules.specs.Form.{taken, Form, East, Lawful}
 use Rattle.rules.specs.Rules.{After, setUp, received}
+use Rattle.rules.specs.View.{view}
 use Rattle.rules.proofs.Search.{clash}
 use Rattle.rules.proofs.Laws.{not-done}
 use Rattle.isolation.specs.Runs.{Call, NeverFull}
-use Rattle.fleet.specs.Sparse.{late, ticked}
+use Rattle.isolation.specs.Logs.{left}
+use Rattle.fleet.specs.Sparse.{late, ticked, Same}
 use Rattle.fleet.specs.Fleet.{isFor, callFor, handed, leastDeal, zeroBytes, Tick}
 use Rattle.fleet.specs.Wide.{Wide, wide, roomy, RoomySame, RoomyListing}
 use Rattle.fleet.specs.Room.{member, isAmong, Among, goingTo}
 use Rattle.fleet.proofs.Together.{fleet-listing}
-use Rattle.fleet.proofs.Plain.{plain-same}
+use Rattle.fleet.proofs.Plain.{plain-same, plain-clock, plain-unheld}
 use Rattle.fleet.proofs.Room.{room}
 
 -- ---- the form of any number of places
@@ -99,31 +102,52 @@ zeros-among keys = refl
 among-deal : (which : ℕ → ℕ) (i : ℕ) (keys : List ℕ) (stream : List Call) (t : Call) → Tick stream t → Among keys stream → Among (goingTo which i keys) (leastDeal which i stream t)
 among-deal which i keys stream t tick h = among-handed which i keys t (ap (λ (m : List ℕ). isAmong (goingTo which i keys) (decoded m)) (tick .zeros) ∙ zeros-among (goingTo which i keys)) 0 stream h
 
--- ---- a fleet in which each table has a place for every key that goes to it, beside a single table with a place for every key
+-- ---- table i of a fleet, which has a place for every key that goes to it, beside a single table with a place for every key
 
-module _ {T : Type 0} (G : Form T) (M : Lawful G) (which : ℕ → ℕ) (site : Site) (east : East site) (tables : ℕ → T) (done : (i : ℕ) → setUp G (tables i) site .answer ≡ Done)
-    (stream : List Call) (t : Call) (tick : Tick stream t) (keys : List ℕ) (among : Among keys stream) (places : (i : ℕ) → length (goingTo which i keys) ≤ G .count (tables i)) where
+module _ {T : Type 0} (G : Form T) (M : Lawful G) (which : ℕ → ℕ) (i : ℕ) (site : Site) (east : East site) (table : T) (done : setUp G table site .answer ≡ Done)
+    (stream : List Call) (t : Call) (tick : Tick stream t) (keys : List ℕ) (among : Among keys stream) (places : length (goingTo which i keys) ≤ G .count table) where
   abbrev one : Wide
   one = setUp wide (roomy (length keys)) site .table
 
-  abbrev of : ℕ → T
-  of i = setUp G (tables i) site .table
+  abbrev of : T
+  of = setUp G table site .table
 
-  one-done : setUp wide (roomy (length keys)) site .answer ≡ Done
-  one-done = wide-done G (tables 0) site (length keys) (done 0)
+  pub one-done : setUp wide (roomy (length keys)) site .answer ≡ Done
+  one-done = wide-done G table site (length keys) done
 
   one-room : (key : ℕ) → NeverFull (received wide) key one stream
   one-room key = room wide wide-lawful keys key site east (roomy (length keys)) one-done stream among (omega arith)
 
-  of-room : (key i : ℕ) → NeverFull (received G) key (of i) (leastDeal which i stream t)
-  of-room key i = room G M (goingTo which i keys) key site east (tables i) (done i) (leastDeal which i stream t) (among-deal which i keys stream t tick among) (places i)
+  of-room : (key : ℕ) → NeverFull (received G) key of (leastDeal which i stream t)
+  of-room key = room G M (goingTo which i keys) key site east table done (leastDeal which i stream t) (among-deal which i keys stream t tick among) places
+
+  pub table-clock : G .clock (left (received G) of (leastDeal which i stream t)) ≡ wide .clock (left (received wide) one stream)
+  table-clock = plain-clock wide G wide-lawful M which site east (roomy (length keys)) one-done (λ j. table) (λ j. done) stream t tick i
+
+  -- a key that goes to it
+  pub table-same : (key : ℕ) → which key ≡ i → Same wide G (received wide) (received G) key one of stream (leastDeal which i stream t)
+  table-same key e =
+      subst (λ (j : ℕ). Same wide G (received wide) (received G) key one of stream (leastDeal which j stream t)) e
+      (plain-same wide G wide-lawful M which site east (roomy (length keys)) one-done (λ j. table) (λ j. done) stream t tick key (one-room key)
+      (subst (λ (j : ℕ). NeverFull (received G) key of (leastDeal which j stream t)) (sym e) (of-room key)))
+
+  -- every key
+  pub table-holds : (key : ℕ) → view G (left (received G) of (leastDeal which i stream t)) key ≡ cond (eqb (which key) i) (view wide (left (received wide) one stream) key) none
+  table-holds key = by-cases (eqb (which key) i) refl
+    where
+      by-cases : (b : Bool) → eqb (which key) i ≡ b → view G (left (received G) of (leastDeal which i stream t)) key ≡ cond b (view wide (left (received wide) one stream) key) none
+      by-cases true e = sym (table-same key (eqb-true (which key) i e) .track)
+      by-cases false e =
+          plain-unheld wide G wide-lawful M which site east (roomy (length keys)) one-done (λ j. table) (λ j. done) stream t tick i key (eqb-false (which key) i e)
+
+-- ---- a fleet of such tables
 
 pub roomy-same : {T : Type 0} (G : Form T) → Lawful G → RoomySame G
 roomy-same G M which site east tables done stream t tick keys among places key =
-    plain-same wide G wide-lawful M which site east (roomy (length keys)) (one-done G M which site east tables done stream t tick keys among places) tables done stream t tick key
-    (one-room G M which site east tables done stream t tick keys among places key) (of-room G M which site east tables done stream t tick keys among places key (which key))
+    table-same G M which (which key) site east (tables (which key)) (done (which key)) stream t tick keys among (places (which key)) key refl
 
 pub roomy-listing : {T : Type 0} (G : Form T) → Lawful G → RoomyListing G
 roomy-listing G M which site east tables done stream t tick keys among places n h =
-    fleet-listing wide G wide-lawful M which n h site east (roomy (length keys)) (one-done G M which site east tables done stream t tick keys among places) tables done stream t tick
-    (one-room G M which site east tables done stream t tick keys among places) (λ key. of-room G M which site east tables done stream t tick keys among places key (which key))
+    fleet-listing wide G wide-lawful M which n h site east (roomy (length keys)) (one-done G M which 0 site east (tables 0) (done 0) stream t tick keys among (places 0)) tables done stream t tick
+    (one-room G M which 0 site east (tables 0) (done 0) stream t tick keys among (places 0))
+    (λ key. of-room G M which (which key) site east (tables (which key)) (done (which key)) stream t tick keys among (places (which key)) key)
