@@ -31,6 +31,7 @@ class Header(NamedTuple):
 
     version: int
     defines: dict  # the plain numbers, by name without the prefix
+    formulas: dict  # how many bytes belong to so many places, in C, by name without the prefix
     enums: list  # of each enum its numbers by name, in its order
     words: list  # of the numbers that come back
     functions: list
@@ -62,10 +63,12 @@ def read():
     text = re.sub(r'/\*.*?\*/', '', HEADER.read_text(encoding='ascii'), flags=re.S)
     defines = {name: int(value) for name, value in re.findall(rf'^#define {PREFIX}(\w+) (\d+)$', text, flags=re.M)}
     version = defines.pop('VERSION')
+    formulas = dict(re.findall(rf'^#define {PREFIX}(\w+)\(places\) \((.*)\)$', text, flags=re.M))
     words = re.findall(r'"(.*)"', re.search(rf'#define {PREFIX}NUMBER_WORDS.*?\{{(.*?)\}}', text, flags=re.S)[1])
     declared = re.findall(r'^(\w+) addercoil_(\w+)\(([^)]*)\);', text, flags=re.M)
     functions = [Function(name, SIZES[answer], parameters_of(inside)) for answer, name, inside in declared]
-    return Header(version, defines, [numbers_of(inside) for inside in re.findall(r'enum \{(.*?)\}', text, flags=re.S)], words, functions)
+    enums = [numbers_of(inside) for inside in re.findall(r'enum \{(.*?)\}', text, flags=re.S)]
+    return Header(version, defines, formulas, enums, words, functions)
 
 
 def with_prefix(header, prefix):
