@@ -271,6 +271,7 @@ class Beside:
         for track in self.ours:
             same_track(f"{what}: {track}", track, track.key, self.held.track(track.key))
             self.seen[type(track.speed).__name__, "C" if track.kind == "C" else track.on_ground] += 1
+        self.ours = addercoil.Table.from_bytes(self.ours.to_bytes())  # which goes on as the one that was saved
         due(f"{what}: the clock", (self.ours.clock, self.ours.site is None), (self.held.clock, self.held.site is None))
         self.count += len(keys)
 
@@ -305,6 +306,29 @@ def random_tracks():
     missing = SORTS - set(both.seen)
     due("sorts of speed that never came", missing, set())
     return both.count
+
+
+def raised(function, *given):
+    """The name of what a call raises, and if it refuses its number."""
+    try:
+        function(*given)
+    except Exception as why:
+        return type(why).__name__, why.refusal.number if isinstance(why, addercoil.Refused) else None
+    return None
+
+
+def no_table():
+    """What cannot be taken up: bytes of a wrong length, and no bytes. A table that is closed, or takes stamps, is not saved."""
+    for size in (0, 15, 16, 101, 103, 16 + 86 * 1_025):
+        due(f"a table of {size} bytes", raised(addercoil.Table.from_bytes, bytes(size)), ("Refused", 7))
+    due("a text", raised(addercoil.Table.from_bytes, "0" * 102), ("TypeError", None))
+    for size in (102, 16 + 86 * MOST):
+        due(f"a table of {size} bytes", len(addercoil.Table.from_bytes(bytes(size)).to_bytes()), size)
+    stamped, closed = addercoil.Table(1), addercoil.Table(1)
+    stamped.receive_stamp(bytes(14), 7)
+    closed.close()
+    for table in (stamped, closed):
+        due("a table that is not saved", raised(table.to_bytes), ("ValueError", None))
 
 
 def random_velocity(chance):
@@ -616,6 +640,7 @@ def main():
     print(f"{every_call()} calls of {len(addercoil.calls.FUNCTIONS)} functions by addercoil.calls: what the model does")
     print(f"{sample_tracks()} tracks of samples and {random_tracks()} of random messages, in C too, {every_message()} messages: as the model has them")
     over_is_no_number()
+    no_table()
     print(f"{every_site()} sites in degrees, in Python and in C: the nearest unit")
     with TemporaryDirectory() as folder:
         print(f"{every_replay()} replays, {every_check(folder)} checks, {every_merge()} merges, {every_listing()} listings, {every_csv()} lines of csv: the same")

@@ -157,7 +157,7 @@ def is_position(message):
 
 
 class Held:
-    """The tracks of a table of so many places by their keys, without its bytes."""
+    """The tracks of a table by their keys, without its bytes: of so many places, or of None: one for every key."""
 
     def __init__(self, places, site=None):
         self.places, self.site, self.clock, self.tracks = places, site, 0, {}
@@ -178,11 +178,17 @@ class Held:
             return None
         key = tracks.key_of(message)
         before = self.track(key)
-        full = before is None and sum(self.track(one) is not None for one in self.tracks) >= self.places
+        full = before is None and self.places is not None and sum(self.track(one) is not None for one in self.tracks) >= self.places
         if full or (before is None and not tracks.starts(message)):
             return None
         self.tracks[key] = tracks.step(before or tracks.Track(), string, self.site, time)
         return key
+
+    def listing(self, every):
+        """What a table with these tracks lists."""
+        held = [(key, self.track(key)) for key in sorted(self.tracks)]
+        lines = [captures.line(key, track) for key, track in held if track is not None and captures.is_shown(track, every)]
+        return "".join(f"{text}\n" for text in (f"clock {self.clock} tracks {len(lines)} bad-blocks 0", *lines))
 
 
 def records_of(whole):

@@ -5,7 +5,7 @@ import sys
 from pathlib import Path
 
 ROOT = Path(__file__).resolve().parent.parent
-COMMAND = re.compile(r'(\./|~/|tools/|gcc |rt |python3 |export |DESTDIR=|nc |mkdir |node |cargo )')
+COMMAND = re.compile(r'(\./|~/|tools/|gcc |rt |python3 |export |DESTDIR=|nc |mkdir |node |cargo |redis-server |\(redis-server )')
 PROGRESS = re.compile(r'^(proving |crate \d+ of |the last crate).*\n', flags=re.M)
 
 

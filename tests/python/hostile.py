@@ -77,7 +77,7 @@ class Hostile:
 
     def octets(self):
         """Bytes of some sort."""
-        size = self.chance.choice((0, 1, 13, 14, 14, 14, 15, 22, 44, 511, 512, 512, 513))
+        size = self.chance.choice((0, 1, 13, 14, 14, 14, 15, 22, 44, 188, 511, 512, 512, 513))
         made = self.chance.choice((bytes(size), self.chance.randbytes(size), bytes.fromhex(GOOD)))
         wide = memoryview(bytes(2 * size))[::2]
         return self.chance.choice((made, made, bytearray(made), memoryview(made), wide, Lies(made), memoryview(bytes(8 * size)).cast("Q")))
@@ -131,6 +131,9 @@ class Hostile:
             lambda: ("track", (Track, Refusal, type(None)), closes, lambda: table.track(*self.some(4))),
             lambda: ("track", (Track, Refusal, type(None)), closes, lambda: table.track(self.chance.choice("IOTMNCX"), *self.some(1))),
             lambda: ("listing", str, closes, lambda: table.listing(*self.some(1))),
+            lambda: ("to_bytes", bytes, (ValueError,), table.to_bytes),
+            lambda: ("from_bytes", Table, (TypeError, Refused), lambda: Table.from_bytes(*self.some(1))),
+            lambda: ("from_bytes", str, Refused, lambda: Table.from_bytes(self.octets()).listing(all=True)),
             lambda: ("walk", list, closes, lambda: list(table)),
             lambda: ("clock", int, closes, lambda: table.clock),
             lambda: ("site", (tuple, type(None)), closes, lambda: table.site),

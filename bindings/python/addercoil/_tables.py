@@ -38,6 +38,27 @@ class Table:
             raise Refused(Refusal(number))
         self._bytes = made
 
+    @classmethod
+    def from_bytes(cls, saved: bytes) -> Table:
+        """A table as `to_bytes` gave it, by the same version of the library. Bytes of a wrong length raise Refused; any others are read by the library's rules."""
+        table, whole = cls(1), exact(saved)
+        made = calls.octets(len(whole))
+        made[:] = whole
+        number = calls.clock(made, calls.words(1))
+        if number:
+            raise Refused(Refusal(number))
+        table._bytes = made
+        return table
+
+    def to_bytes(self) -> bytes:
+        """The bytes of the table, which another version of the library may read otherwise. The count of bad blocks is not in them."""
+        with self._lock:
+            if self._bytes is None:
+                raise ValueError("the table is closed")
+            if any(self._stamps):
+                raise ValueError("a table that takes stamps has more to save than its bytes")
+            return bytes(self._bytes)
+
     def _call(self, name: str, *given: Any) -> int:
         """A function of the library on this table."""
         with self._lock:
