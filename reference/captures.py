@@ -1,4 +1,4 @@
-"""The paper, "Captures and the listing"; of document 02 the requests R-1, which tracks the listing shows, R-3 and R-12, its kinds."""
+"""RULES 11 and 12: captures and the listing."""
 
 import readings
 import table
@@ -104,7 +104,7 @@ def key_text(key):
 
 
 def line(key, track):
-    """The key, last heard, latitude, longitude, pressure altitude and, since R-4, its step."""
+    """The key, last heard, latitude, longitude, pressure altitude and its step."""
     position = track.position
     place = f"{position.latitude} {position.longitude}" if position.known else f"{UNKNOWN} {UNKNOWN}"
     known = readings.altitude(track.pressure) != readings.UNKNOWN

@@ -1,4 +1,4 @@
-"""Document 02, R-13: another decoder's listing against ours, by its numbers."""
+"""RULES 14: another decoder's listing against ours, by its numbers."""
 
 import re
 

@@ -1,4 +1,4 @@
-"""Document 02, R-9: a place in degrees as two doubles, told by their bit patterns, and the way back. Values are exact fractions."""
+"""RULES 15: a place in degrees as two doubles, told by their bit patterns, and the way back. Values are exact fractions."""
 
 import struct
 from fractions import Fraction

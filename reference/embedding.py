@@ -140,7 +140,7 @@ def shown(track, kind):
 
 # Messages
 
-# The entries of ME after TYPE, in the order of their bits; the header's names in the paper's order. A coarse one has no TYPE
+# The entries of ME after TYPE, in the order of their bits; the header's names in the order of RULES 2. A coarse one has no TYPE
 PLACE = ["T", "F", "LATITUDE_COUNT", "LONGITUDE_COUNT"]
 VERTICAL = ["SOURCE", "DOWN", "RATE_CODE", "RESERVED", "BELOW", "DIFFERENCE_CODE"]
 VELOCITY = ["SUBTYPE", "BIT9", "BIT10", "NACV"]
@@ -255,7 +255,7 @@ def version():
 
 
 def table_bytes(places):
-    """The one answer that is no number of the paper."""
+    """The one answer that is no number of RULES 3.2."""
     return tables.length_of(places) if 1 <= places <= tables.MOST_PLACES else 0
 
 

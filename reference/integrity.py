@@ -1,5 +1,5 @@
-"""Request R-10 of document 02: which version of the standard a key's messages are of, and what the TYPE of a position message says then.
-Request R-12: of kind C the version is that of the other traffic kinds, and the integrity is unknown.
+"""RULES 16: which version of the standard a key's messages are of, and what the TYPE of a position message says then.
+RULES 16.6: of kind C the version is that of the other traffic kinds, and the integrity is unknown.
 
 The tables are data, a row for each that the sources print: version 0 by source 001, table 2-11, whose slips of 380.4 m and
 7.704 km are lower bounds and not here; version 1 by the published DO-260A; version 2 by source 000, table 2-70, the published

@@ -20,14 +20,14 @@ from positions import EVEN, ODD
 from traffic import ANOTHER, ICAO, MODE_A, NO_TRANSPONDER, OTHER, TRANSPONDER
 from vectors.message_vectors import FLAGS, flipped, sealed_message
 
-STRANGE = (3, 3, 4, 4, 6, 7)  # CFs of DF 18, for a draw; of these 3 is taken since R-12
+STRANGE = (3, 3, 4, 4, 6, 7)  # CFs of DF 18, for a draw; of these 3 is taken
 MINUTE = 60_000
 HOUR = 60 * MINUTE
 DEGREE = 2**32 // 360
 
 
 def example():
-    """The paper's own: I ABCDEF at 45 N 90 E, 10,000 feet, even at 1,000, odd at 1,400."""
+    """The capture of RULES 12.9: I ABCDEF at 45 N 90 E, 10,000 feet, even at 1,000, odd at 1,400."""
     place = 2**29, 2**30
     rows = (1_000, EVEN), (1_400, ODD)
     return capture([(time, traffic.airborne(TRANSPONDER, 0xABCDEF, i, place)) for time, i in rows])
@@ -259,7 +259,7 @@ def told_by(station, aa, spot, feet, flag=0, first=0, step=3_000):
 
 
 def stations():
-    """Kind C. The paper's example, told by station 3, then by station 4; an aircraft between two stations, which sends itself and is
+    """Kind C. The example of RULES 17.10, told by station 3, then by station 4; an aircraft between two stations, which sends itself and is
     sent finely too; a Mode A code that is an address as well; one of a third station, heard once; any bits."""
     place, north, east, both = (2**29, 2**30), 47 * DEGREE, 9 * DEGREE, 0x3C6481
     code = 0o1200 << 12 | 7  # Mode A code 1200, track number 7

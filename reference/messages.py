@@ -1,8 +1,6 @@
-"""The paper, "What the decoder covers" and "ME fields, by bit numbers of ME"; of TYPE 0 the request R-2, of DF 18 with CF 2
-and 5, a ground station's traffic service, the request R-3, of operational status the request R-10, of DF 18 with CF 3, that
-service's coarse messages, the request R-12.
+"""RULES 2: messages and their fields. DF 18 with CF 2, 3 and 5 is a ground station's traffic service, RULES 17.
 
-A message is its fields by name, in the order of their bits; those the paper leaves without a
+A message is its fields by name, in the order of their bits; those that RULES 2 leaves without a
 name are called by their bit numbers. All bits, reserved ones included, are kept.
 """
 

@@ -1,4 +1,4 @@
-"""The paper, "Parity"."""
+"""RULES 4: parity."""
 
 GENERATOR = 1 << 24 | 0xFFF409  # x^24 plus the terms of 0xFFF409
 

@@ -1,6 +1,6 @@
-"""The paper, "Positions". Angles are exact fractions of degrees until they are handed out.
+"""RULES 7: positions. Angles are exact fractions of degrees until they are handed out.
 
-Where the paper says 2^17 the size of a count stands, which is 2^17 unless another is said.
+The size of a count, P in RULES 7.2, is 2^17 unless another is said.
 """
 
 from decimal import Decimal, localcontext
@@ -12,10 +12,10 @@ from refusals import Refused
 EVEN, ODD = 0, 1  # F is 0 for even, 1 for odd; call it i
 AIRBORNE, SURFACE = 360, 90  # an airborne turn is 360 degrees, a surface turn 90
 COUNTS = 2**17  # a zone's, the size that is meant where none is said
-COARSE = 2**12  # request R-12: those of a coarse message, whose counts have 12 bits
+COARSE = 2**12  # RULES 7.2: those of a coarse message, whose counts have 12 bits
 HALF = Fraction(1, 2)
 UNIT = Fraction(360, 2**32)  # places are in 2^-32 of a turn of 360 degrees
-STEP = Fraction(360, 1855979520)  # request R-5: all decoded latitudes are multiples of 1/1,855,979,520 of a turn
+STEP = Fraction(360, 1855979520)  # RULES 7.5: all decoded latitudes are multiples of 1/1,855,979,520 of a turn
 
 # The 58 latitudes in units of 10^-8 degree, for NL 59 down to 2. This table decides.
 FIGURES = [
@@ -60,7 +60,7 @@ def latitude_test(latitude):
 
 
 def count_test(size, *counts):
-    """Pair and single decoding refuse counts above 131,071 with 8; request R-12: coarse ones above 4,095."""
+    """RULES 7.16: pair and single decoding refuse counts above 131,071 with 8, coarse ones above 4,095."""
     if any(not 0 <= count <= size - 1 for count in counts):
         raise Refused(8)
 
@@ -72,7 +72,7 @@ def pole_test(latitude):
 
 
 def hand_out(latitude, longitude):
-    """Exact results round to nearest, half up. Request R-11: no longitude of a zone and a count rounds to 2^32."""
+    """RULES 7.14: exact results round to nearest, half up. RULES 7.15: no longitude of a zone and a count rounds to 2^32."""
     return nearest(latitude / UNIT), nearest(longitude / UNIT)
 
 

@@ -1,7 +1,7 @@
-"""Published vectors, and the paper's own examples, as data.
+"""Published vectors, and the examples of docs/RULES.md, as data.
 
 The coding rows stand in the draft of DO-260B; the messages and positions are the well-known public
-ones. Rows that the paper leaves out (surface pairs) are not here; those of integrity are in integrity.py. Of coarse messages
+ones. Rows that RULES 7 leaves out (surface pairs) are not here; those of integrity are in integrity.py. Of coarse messages
 none is published: the bits of two are set out by the figure of source 002.
 """
 
@@ -67,7 +67,7 @@ GILLHAM_ROWS = [
     ("10000000", "001", 132, 126700),
 ]
 
-# The paper, "Examples and edges"
+# The examples that RULES 1.10 names
 ALTITUDE_EXAMPLES = [(128, -1200), (2050, -700), (16, -1000), (888, 10000), (2688, "unknown")]
 
 # Messages: the remainder and the number that refuses it, 0 where it is taken
@@ -132,7 +132,7 @@ FIELD_ROWS = [
             "difference": 0,
         },
     ),
-    # the paper's listing: 45 N 90 E, 10,000 feet
+    # the listing of RULES 12.9: 45 N 90 E, 10,000 feet
     (
         "8DABCDEF58378200010000300279",
         {"AA": 0xABCDEF, "TYPE": 11, "altitude": 888, "F": 0, "latitude": 65536, "longitude": 65536},
@@ -189,7 +189,7 @@ PAIR_ROWS = [
     ((80536, 9432, 61720, 9192), ODD, 616647107, 8366763),
     ((80534, 9413, 61714, 9144), EVEN, 616644608, 8336356),
     ((80534, 9413, 61714, 9144), ODD, 616643775, 8323072),
-    # the paper: 45 N, 90 E
+    # RULES 8.16: 45 N, 90 E
     ((65536, 65536, 49152, 32768), EVEN, 2**29, 2**30),
     ((65536, 65536, 49152, 32768), ODD, 2**29, 2**30),
 ]
@@ -212,7 +212,7 @@ SINGLE_DEGREES = [
     (SURFACE, EVEN, (115609, 116941), ("51.990", "4.375"), ("52.323040", "4.730473")),
     (SURFACE, ODD, (39199, 110269), ("51.990", "4.375"), ("52.320607", "4.734735")),
     (SURFACE, ODD, (64585, 67947), ("-43.5", "172.5"), ("-43.485644", "172.539417")),
-    # the paper: the site
+    # RULES 8.16: the site
     (SURFACE, EVEN, (0, 0), ("45", "90"), ("45", "90")),
 ]
 
@@ -243,10 +243,10 @@ def printed(text):
 
 
 def public_rows():
-    """The rows of cpr_public.csv that the paper covers.
+    """The rows of cpr_public.csv that RULES 7 covers.
 
     In scope: global_air (airborne pairs), rel_air and rel_sfc (singles). Out of scope: global_sfc,
-    since the paper pairs airborne messages only.
+    since RULES 7.9 pairs airborne messages only.
     """
     with open(Path(__file__).with_name("cpr_public.csv"), newline="") as file:
         for row in csv.DictReader(file):

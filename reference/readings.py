@@ -1,7 +1,6 @@
-"""What codes mean: the paper, "ME fields, by bit numbers of ME" and "Altitude"; of operational status the request R-10, of
-coarse messages the request R-12.
+"""What codes mean: RULES 5 and 6, and of traffic RULES 17.5 and 17.8.
 
-A reading is a number, or a word where the paper has one: unknown, over, stopped, reserved.
+A reading is a number, or a word if RULES 5.1 has one: unknown, over, stopped, reserved.
 A code wider than its bits is refused with 8, before everything else; so is a body with such a field, as a whole.
 """
 
@@ -56,7 +55,7 @@ def altitude(code):
 
 
 def step(code):
-    """R-4 of document 02: how coarse an altitude is, in feet: 25 with Q 1, 100 with Q 0. Unknown has no step, which is unknown too."""
+    """RULES 6.5: how coarse an altitude is, in feet: 25 with Q 1, 100 with Q 0. Unknown has no step, which is unknown too."""
     if altitude(code) == UNKNOWN:
         return UNKNOWN
     q = bits(code, 12)[7]
@@ -202,7 +201,7 @@ def coarse(message):
 def body(fields, message, traffic=False):
     """What the fields of a layout mean, by name, in a message of a ground station's traffic service or another one.
 
-    Of traffic the height difference is unknown unless ME bit 36, where others have the rate source, is set: R-3.
+    Of traffic the height difference is unknown unless ME bit 36, where others have the rate source, is set: RULES 17.5.
     8 for the whole of it where one field is wider than its bits, or TYPE and subtype are not those of the layout. A coarse
     one has none, and every one is legal.
     """

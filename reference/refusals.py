@@ -1,4 +1,4 @@
-"""The paper, "Numbers that come back": a call gives its answer or a number from the table."""
+"""RULES 3: a call gives its answer or a number from the table."""
 
 
 class Refused(Exception):

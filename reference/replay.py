@@ -1,5 +1,5 @@
-"""Document 02, R-8: the track of one key, worked out again from a log. The plain method: the records in order, and no table.
-R-12: a key of kind C is asked for with its flag and its station.
+"""RULES 13: the track of one key, worked out again from a log. The plain method: the records in order, and no table.
+A key of kind C is asked for with its flag and its station.
 """
 
 import tracks

@@ -591,7 +591,7 @@ KINDS = {
 
 
 def header_faults():
-    """The header's numbers that are not the paper's."""
+    """The header's numbers that are not those of RULES 3.2."""
     wrong = [name for number, name in PAPER.items() if AT[f"REFUSED_{name}"] != number]
     wrong += [name for number, name in LETTERS.items() if AT[f"KIND_{name}"] != number]
     sizes = ("BLOCK", BLOCK), ("MESSAGE", 14), ("RECORD", RECORD), ("RECORDS", MOST_LOGGED)
@@ -940,7 +940,7 @@ def tried():
     untried += [steps_missing(asked), shown_missing(asked), me_missing(asked), full_missing(asked), doubled_missing(asked)]
     untried += [replays_missing(asked), status_missing(asked), coarse_missing(asked), listings_missing(asked), merges_missing(asked)]
     if header_faults() or any(untried):
-        sys.exit(f"the header has other numbers than the paper, or these were never tried: {header_faults()} {untried}")
+        sys.exit(f"the header has other numbers than RULES 3.2, or these were never tried: {header_faults()} {untried}")
     return asked
 
 

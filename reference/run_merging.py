@@ -1,4 +1,4 @@
-"""Offers two messages at one time to a table in either order, through C: two antennas, one instant (document 02, R-14).
+"""Offers two messages at one time to a table in either order, through C: two antennas, one instant (RULES 9.12).
 
     python3 reference/run_merging.py
 

@@ -193,7 +193,7 @@ def layout_faults(script):
 
 
 def product_faults(script):
-    """What is wrong with the guard of request R-5."""
+    """What is wrong with the guard of RULES 7.5."""
     if script.wide_product([ZONES, MODULE]):
         yield "a product of 32 bits, or an index times the size of an element, was taken for a wide one"
     for name, wide in product(script.NARROW, WIDE):
@@ -208,7 +208,7 @@ def product_faults(script):
     if refusal(script, script.check_products):
         yield "modules without a wide product were refused"
     keep(script, script.LIBRARY[-1], MODULE + ZONES.replace("mul nuw i64 %b, 8", "mul nuw i64 %b, %b"))
-    if "request R-5" not in refusal(script, script.check_products):
+    if "RULES 7.5" not in refusal(script, script.check_products):
         yield "not refused: a module with a wide product"
 
 

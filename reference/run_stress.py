@@ -18,7 +18,7 @@ from tracks import kind_of
 
 SEED, CALLS, EVERY = 16, 600_000, 100
 MOST_SECONDS = 120  # for so many calls
-NUMBERS = {*map(str, (*range(11), *range(12, 17)))}  # the paper's, and 12 to 16; 11 is answered by no C function, a bad block is counted
+NUMBERS = {*map(str, (*range(11), *range(12, 17)))}  # those of RULES 3.2; 11 is answered by no C function, a bad block is counted
 
 
 def kind(call, outcome):

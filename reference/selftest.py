@@ -1,4 +1,4 @@
-"""Holds the model to the paper's examples, to the published vectors and to the paper's laws.
+"""Holds the model to the examples of docs/RULES.md, to the published vectors and to the laws of docs/RULES.md.
 
     python3 reference/selftest.py
 """
@@ -62,7 +62,7 @@ def refused(number, question, *arguments):
 
 
 def parity_rows():
-    """Published remainders and the paper's examples."""
+    """Published remainders and the examples of RULES 4.7."""
     for text, due, _ in published.PARITY_ROWS:
         equal(f"remainder of {text}", remainder(bytes.fromhex(text)), due)
     for text, _ in published.FIELD_ROWS + published.STATUS_ROWS:
@@ -331,7 +331,7 @@ def of_another_sender(message):
 
 
 def coarse_messages():
-    """R-12: the example field by field; 10,000 random MEs under CF 3, each accepted, and back as the same 14 bytes."""
+    """RULES 2.10: the example field by field; 10,000 random MEs under CF 3, each accepted, and back as the same 14 bytes."""
     for string, bits in zip((traffic.coarse(ONE, i, HERE) for i in (EVEN, ODD)), published.COARSE_BITS):
         equal("the bits of the figure", f"{int.from_bytes(string[:11], 'big'):088b}", bits.replace(" ", ""))
         equal("as it stands there", [*messages.decode(string).values()], [int(field, 2) for field in bits.split()])
@@ -368,7 +368,7 @@ def table():
 
 
 def steps():
-    """Request R-5: latitudes are multiples of STEP, and a table in STEPs, rounded down, has the same NL everywhere."""
+    """RULES 7.5: latitudes are multiples of STEP, and a table in STEPs, rounded down, has the same NL everywhere."""
     counts = [positions.angle_of(1, zones(i), turn) for turn in (AIRBORNE, SURFACE) for i in (EVEN, ODD)]
     equal("STEPs in a count", [count / STEP for count in counts], [236, 240, 59, 60])
     exact = [Fraction(figure, 10**8) / STEP for figure in FIGURES]
@@ -388,7 +388,7 @@ def steps():
 
 
 def position_rows():
-    """Published positions, the public rows and the paper's examples."""
+    """Published positions, the public rows and the examples of RULES 7.21."""
     for counts, later, latitude, longitude in published.PAIR_ROWS:
         equal(f"pair {counts} {later}", positions.pair(later, *counts), (latitude, longitude))
     for counts, later, latitude, longitude in published.PAIR_DEGREES:
@@ -439,7 +439,7 @@ def position_rows():
 
 
 def last_longitudes():
-    """Requests R-11, R-12: every longitude is short of a turn by more than half a unit: every n, zone by zone, the outermost counts."""
+    """RULES 7.15: every longitude is short of a turn by more than half a unit: every n, zone by zone, the outermost counts."""
     figures = (AIRBORNE, COUNTS, 555, 555), (SURFACE, COUNTS, 138, 139), (AIRBORNE, COARSE, 17772, 17772), (SURFACE, COARSE, 4443, 4443)
     for turn, size, shortfall, handed in figures:
         least, last = Fraction(360), 0
@@ -587,7 +587,7 @@ def refusals_of_positions(size):
 
 
 def positions_by_size():
-    """Fine counts, and request R-12's coarse ones."""
+    """Fine counts, and the coarse ones of RULES 7.19."""
     for size in (COUNTS, COARSE):
         position_laws(size)
         position_ties(size)
@@ -623,7 +623,7 @@ def from_air(i, place=HERE, aa=ONE, head=TRANSPONDER):
 
 
 def track_edges():
-    """The paper's edges under "Examples and edges", and each sentence of "Tracks" at its edge."""
+    """Each paragraph of RULES 8 at its edge."""
     first, second = (bytes.fromhex(text) for text, fields in published.FIELD_ROWS if fields.get("AA") == ONE)
     equal("the listing's messages", (first, second), (from_air(EVEN), from_air(ODD)))
     for gap, found in ((0, 1), (400, 1), (10_000, 1), (10_001, 0)):
@@ -690,7 +690,7 @@ FULL = Track(5, *MES, 888, 77, 12, 1, Position(1, *HERE, 3), (Saved(1, 1, 2, 3),
 
 
 def lost_positions():
-    """R-2: what TYPE 0 does to a track that is held, and that it starts none."""
+    """RULES 8.7: what TYPE 0 does to a track that is held, and that it starts none."""
     for head in (TRANSPONDER, traffic.NO_TRANSPONDER, OTHER):
         for code in range(4096):
             lost = traffic.no_position(head, ONE, code, F=code % 2, latitude=code, longitude=65536, T=1)
@@ -722,7 +722,7 @@ def lost_positions():
 
 
 def kinds():
-    """R-3: the kind by DF, CF and flag; of DF 17 neither CA nor a bit of ME decides."""
+    """RULES 2.13: the kind by DF, CF and flag; of DF 17 neither CA nor a bit of ME decides."""
     due = {(18, 0, 0): 1, (18, 0, 1): 1, (18, 1, 0): 2, (18, 1, 1): 2, (18, 2, 0): 3, (18, 2, 1): 4, (18, 5, 0): 5}
     due |= {(17, ca, flag): 1 for ca in range(8) for flag in (0, 1)}
     due |= {(18, cf, flag): "refused 4" for cf in (4, 6, 7) for flag in (0, 1)} | {(18, 5, 1): "refused 5"}
@@ -742,7 +742,7 @@ def kinds():
 
 
 def coarse_keys():
-    """R-12: the key by its parts, and back; their order is the listing's; every number of the range is a key."""
+    """RULES 2.14: the key by its parts, and back; their order is the listing's; every number of the range is a key."""
     parts = [(aa, flag, station) for aa in (0, 1, ONE, 2**24 - 1) for flag in (0, 1) for station in range(16)]
     keys = [tracks.key_for(tracks.C, *one) for one in parts]
     equal("in order of address, flag, station, behind all others", sorted([*keys, tracks.key_for(tracks.N, 2**24 - 1)])[1:], keys)
@@ -758,7 +758,7 @@ def coarse_keys():
 
 
 def begun():
-    """R-3: of T, M and N a position message starts a track, whether or not a position comes out of it; nothing else does."""
+    """RULES 17.3: of T, M and N a position message starts a track, whether or not a position comes out of it; nothing else does."""
     for head in (TRANSPONDER, OTHER, *GROUND):
         for type_code, subtype in table_vectors.EVERY_TYPE:
             string = table_vectors.of_type(head, ONE, type_code, subtype)
@@ -788,7 +788,7 @@ COARSE_KEY = 2**31 + 32 * ONE + 3
 
 
 def coarse_tracks():
-    """R-12: saved and paired as an airborne message, by the same ages; its groups; no site; what else a track holds stays."""
+    """RULES 17.7: saved and paired as an airborne message, by the same ages; its groups; no site; what else a track holds stays."""
     for gap, found in ((0, 1), (10_000, 1), (10_001, 0)):
         for first in (EVEN, ODD):
             made = heard(new_table(1), (from_station(first), 1_000), (from_station(1 - first), 1_000 + gap))
@@ -812,7 +812,7 @@ def coarse_tracks():
 
 
 def two_stations():
-    """R-12: an aircraft of two stations, or of two flags, is two tracks and two lines; none is paired with the other."""
+    """RULES 17.6: an aircraft of two stations, or of two flags, is two tracks and two lines; none is paired with the other."""
     for one, other in ((dict(station=3), dict(station=4)), (dict(flag=0), dict(flag=1)), (dict(aa=ONE), dict(aa=TWO))):
         made = heard(new_table(2), (from_station(EVEN, **one), 1_000), (from_station(ODD, **other), 1_400))
         equal("two tracks, unpaired", [track.position.known for _, track in lent_table.walk(made)], [0, 0])
@@ -823,7 +823,7 @@ def two_stations():
 
 
 def never_paired():
-    """R-12: a partner of the other size changes nothing, whatever its counts and its time are."""
+    """RULES 17.7: a partner of the other size changes nothing, whatever its counts and its time are."""
     chance = Random(123)
     for _ in range(400):
         i, time, place = chance.randrange(2), chance.randrange(20_000), chance.choice((Position(), Position(1, *NEAR, 9_000)))
@@ -844,7 +844,7 @@ def never_paired():
 
 
 def coarse_rows():
-    """R-12: what C is told of kind C: angle, its status and speed by the kind, whatever the first bits are; of others nothing of it."""
+    """RULES 17.8: what C is told of kind C: angle, its status and speed by the kind, whatever the first bits are; of others nothing of it."""
     names = "ANGLE_IS ANGLE ANGLE_STATUS_IS ANGLE_STATUS SPEED_IS SPEED".split()
     of_nineteen = [f"TRACK_{name}" for name in ("EAST_IS", "NORTH_IS", "HEADING_IS", "AIRSPEED_IS", "RATE_IS", "RATE_SOURCE_IS")]
     known, unknown, over = (embedding.AT[name] for name in ("KNOWN", "UNKNOWN", "OVER"))
@@ -861,7 +861,7 @@ def coarse_rows():
 
 
 def differences():
-    """R-3: of a velocity under CF 2 and 5 the height difference is unknown unless ME bit 36 is set; the rest is as it was."""
+    """RULES 17.5: of a velocity under CF 2 and 5 the height difference is unknown unless ME bit 36 is set; the rest is as it was."""
     for subtype in (1, 2, 3, 4):
         fields = messages.layout(19, subtype)
         for source, sign, code in ((source, sign, code) for source in (0, 1) for sign in (0, 1) for code in (0, 1, 23, 127)):
@@ -1047,7 +1047,7 @@ def me_of_status(version, subtype=0, a=0, c=0):
 
 
 def integrity_rows():
-    """R-10: each TYPE by each version and each set of supplements, of both subtypes; what is unknown; T, M and N."""
+    """RULES 16.5 to 16.8: each TYPE by each version and each set of supplements, of both subtypes; what is unknown; T, M and N."""
     for (type_code, (nuc, by_a, by_two)), subtype in product(INTEGRITY.items(), (0, 1)):
         for a, b, c in product((0, 1), repeat=3):
             told = [integrity.integrity(tracks.O, me_of_status(version, subtype, a, c), type_code, b) for version in range(8)]
@@ -1094,7 +1094,7 @@ def published_rows():
 
 
 def versions():
-    """R-10: none heard is version 0, and so is what is no status; T, M, N and C are 1; the supplements that a version has."""
+    """RULES 16.2: none heard is version 0, and so is what is no status; T, M, N and C are 1; the supplements that a version has."""
     for kind, due in zip(tracks.KINDS, (0, 0, 1, 1, 1, 1), strict=True):
         for me in (0, 31 << 51 | 2 << 48 | 7 << 13, 30 << 51 | 2 << 13):
             equal(f"kind {kind}, none heard", integrity.version(kind, me), due)
@@ -1111,7 +1111,7 @@ def versions():
 
 
 def statuses():
-    """R-10: a status starts a track of I and O, replaces its group whole, and leaves all else; 5 for the others."""
+    """RULES 16.1: a status starts a track of I and O, replaces its group whole, and leaves all else; 5 for the others."""
     for head, kind in ((TRANSPONDER, tracks.I), (traffic.NO_TRANSPONDER, tracks.I), (OTHER, tracks.O)):
         for version, subtype, bit in product(range(8), (0, 1), (0, 1)):
             told = traffic.status(head, ONE, version, subtype, bit, bit)
@@ -1128,7 +1128,7 @@ def statuses():
 
 
 def latest_positions():
-    """R-10: TYPE and ME bit 8 are the latest position message's, which a surface one does not have; TYPE 0 leaves both."""
+    """RULES 16.4: TYPE and ME bit 8 are the latest position message's, which a surface one does not have; TYPE 0 leaves both."""
     for head, type_code, bit in product((TRANSPONDER, OTHER), INTEGRITY, (0, 1)):
         string = message_vectors.of_head(head, ONE, type_code, bit << 48 | 12345)
         after = tracks.step(Track(typecode=30, bit8=1, status=7), string, None, 9)
@@ -1151,7 +1151,7 @@ def latest_positions():
 
 
 def rows_of_tracks():
-    """R-10, R-12: what C is told of a track: 72 entries, the new ones where they stand; of an ME by itself, version, A and C."""
+    """RULES 20.5: what C is told of a track: 72 entries, the new ones where they stand; of an ME by itself, version, A and C."""
     entries = embedding.AT["TRACK"]
     equal("entries", entries, 72)
     names = "STATUS POSITION_TYPE POSITION_BIT8 ANGLE_IS SPEED VERSION SUPPLEMENT_A SUPPLEMENT_B SUPPLEMENT_C INTEGRITY_IS INTEGRITY".split()
@@ -1179,9 +1179,9 @@ LISTED = "clock 1400 tracks 1 bad-blocks 0\nI ABCDEF 1400 536870912 1073741824 1
 
 
 def listings():
-    """The paper's listing; order, unknown values, bad blocks, refused records."""
+    """The listing of RULES 12.9; order, unknown values, bad blocks, refused records."""
     for every in (False, True):
-        equal("the paper's listing", captures.listing(make_samples.example(), every), LISTED)
+        equal("the listing of RULES 12.9", captures.listing(make_samples.example(), every), LISTED)
         equal("an empty capture", captures.listing(b"", every), "clock 0 tracks 0 bad-blocks 0\n")
         equal("zeros", captures.listing(bytes(512), every), "clock 0 tracks 0 bad-blocks 1\n")
         part = captures.listing(make_samples.example() + bytes(3), every)
@@ -1208,7 +1208,7 @@ def listings():
 
 
 def positioned():
-    """R-1: what has a position is shown, whatever its age, until the track is dropped, at 125,000 since last heard."""
+    """RULES 12.2: what has a position is shown, whatever its age, until the track is dropped, at 125,000 since last heard."""
     pair = [(1_000, from_air(EVEN)), (1_400, from_air(ODD))]
     stranger = 1_400, traffic.identification(TRANSPONDER, 7, "ADDER7")
     for age in (120_000, 120_001, 10**6):
@@ -1229,7 +1229,7 @@ def listings_lent():
     """The listing as C has it: the text, its length, and zeros behind it; a key of two places once, by the lowest. 7 precedes 8."""
     made, bad = captures.fold(make_samples.example())
     for every in (0, 1):
-        equal("the paper's listing, lent", embedding.listing(made, bad, every), (LISTED.encode("ascii").ljust(128 * 257, b"\0"), [len(LISTED)]))
+        equal("the listing of RULES 12.9, lent", embedding.listing(made, bad, every), (LISTED.encode("ascii").ljust(128 * 257, b"\0"), [len(LISTED)]))
     doubled = bytearray(lent_table.length_of(3))
     lent_table.put(doubled, 0, 8, 9)
     for place, (key, heard) in enumerate(((2**25 + 7, 5), (2**24 + 7, 6), (2**25 + 7, 8))):
@@ -1327,7 +1327,7 @@ def receiver_lines():
     equal("no times", made_capture(plain), ([(0, one), (1, other), (2, one)], "3 taken, 0 short, 0 other lines"))
     timed = [(1_000, one), (1_400, other), (1_800, one)]
     equal("start and step", made_capture(plain, "--start", "1000", "--step", "400")[0], timed)
-    equal("the paper's listing", captures.listing(captures.capture(timed[:2]), False), LISTED)
+    equal("the listing of RULES 12.9", captures.listing(captures.capture(timed[:2]), False), LISTED)
     stamps = {0: 0, 12_000 * 1_400 - 1: 1_399, 12_000 * 1_400: 1_400, 2**48 - 1: (2**48 - 1) // 12_000}
     counted = "".join(f"@{stamp:012X}{second};\n" for stamp in stamps)
     equal("a counter", made_capture(counted)[0], [(time, other) for time in stamps.values()])
@@ -1353,7 +1353,7 @@ def receiver_lines():
 
 
 def stamp_edges():
-    """R-6: taken as it is at first; then a distance below 2^31, around the circle; 2, or 13."""
+    """RULES 10.2 to 10.4: taken as it is at first; then a distance below 2^31, around the circle; 2, or 13."""
     fresh, last = short_clock.Stamps(), 2**64 - 1
     equal("the first as it is", short_clock.extend(fresh, 0, 2**32 - 1), 2**32 - 1)
     refused(2, short_clock.extend, fresh, 8, 7)
@@ -1369,7 +1369,7 @@ def stamp_edges():
 
 
 def true_times():
-    """R-6: the times are right, whatever the messages are, if the first stamp is the true time, and no step is back or of 2^31."""
+    """RULES 10.7: the times are right, whatever the messages are, if the first stamp is the true time, and no step is back or of 2^31."""
     chance = Random(61)
     for _ in range(20):
         table, state, time = bytearray(lent_table.length_of(2)), short_clock.Stamps(), chance.randrange(2**32)
@@ -1387,7 +1387,7 @@ def true_times():
 
 
 def replay_edges():
-    """R-8: 14, then 8; a track goes at 125,000, by any record in time; a late one changes nothing. R-12: flag and station."""
+    """RULES 13: 14, then 8; a track goes at 125,000, by any record in time; a late one changes nothing; flag and station."""
     mine, other = traffic.velocity(TRANSPONDER, 5, 1, 2), traffic.velocity(OTHER, 5, 3, 4)
     log = replays.log_of([(1_000, mine), (1_400, other)])
     equal("an empty log", plain_method.replay(b"", tracks.I, 5), None)
@@ -1412,7 +1412,7 @@ def replay_edges():
 
 
 def replay_is_the_table():
-    """R-8: what the plain method gives is what the table has, for each key to which 6 was not answered; for others it may not be."""
+    """RULES 13.3: what the plain method gives is what the table has, for each key to which 6 was not answered; for others it may not be."""
     chance, differ = Random(88), 0
     for _ in range(120):
         table, site, records, full = bytearray(lent_table.length_of(chance.choice((1, 3, 12)))), chance.choice((None, (2**29, 7))), [], set()
@@ -1438,7 +1438,7 @@ def replay_is_the_table():
 
 
 def degree_edges():
-    """R-9: the ends of both ranges, zero, and the doubles that are no place's."""
+    """RULES 15.1 and 15.3: the ends of both ranges, zero, and the doubles that are no place's."""
     known = {(0, 0): (0.0, 0.0), (2**30, 2**31): (90.0, -180.0), (-(2**30), 2**30): (-90.0, 90.0), (2**29, 3 * 2**30): (45.0, -90.0)}
     for place, due in known.items():
         equal(f"{place} in degrees", degrees.to_degrees(*place), tuple(map(figures.bits, due)))
@@ -1455,7 +1455,7 @@ def degree_edges():
 
 
 def degree_laws():
-    """R-9: there and back, different doubles for neighbours, and none between two of them."""
+    """RULES 15.2 and 15.3: there and back, different doubles for neighbours, and none between two of them."""
     chance = Random(91)
     for _ in range(500):
         place = chance.randint(-(2**30), 2**30), chance.getrandbits(32)

@@ -1,4 +1,4 @@
-"""Document 02, R-6: a millisecond counter of 32 bits that starts again from 0, extended to 64-bit times."""
+"""RULES 10: a millisecond counter of 32 bits that starts again from 0, extended to 64-bit times."""
 
 from typing import NamedTuple
 

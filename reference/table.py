@@ -1,4 +1,4 @@
-"""The lent table as bytes: the paper, "Tracks", in the layout of docs/TABLE.md.
+"""The lent table as bytes: RULES 9, in the layout of docs/TABLE.md.
 
 A table of n places has 16 + 86 n bytes: the clock, the site, a column of n keys, n bodies of 82 bytes.
 Numbers are low byte first. A call changes the table in place, or raises Refused.

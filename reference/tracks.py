@@ -1,5 +1,4 @@
-"""The paper, "Tracks": one track, and its step by one message; of TYPE 0 the request R-2, of kinds T, M and N the request R-3,
-of status the request R-10, of kind C the request R-12.
+"""RULES 8: one track, and its step by one message; of keys RULES 2.14, of status RULES 16.1, of kinds T, M, N and C RULES 17.
 
 Times are whole milliseconds.
 """

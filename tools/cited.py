@@ -10,7 +10,7 @@ def prose(text):
     """The paragraphs of a paper, each in one line, without its blocks of code, and the heading that each stands under."""
     heading = ''
     for block in re.split(r'\n\s*\n', re.sub(r'```.*?```', '', text, flags=re.S)):
-        lines = block.split('\n') if not block.startswith('    ') else []
+        lines = [line.removeprefix('> ') for line in block.split('\n')] if not block.startswith('    ') else []
         for line in lines:
             heading = line.lstrip('# ') if line.startswith('#') else heading
         yield heading, re.sub(r'\]\([^)]*\)', ']', ' '.join(' '.join(lines).split()))

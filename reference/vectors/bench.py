@@ -45,7 +45,7 @@ def filling(length, seed):
 
 
 def track_text(track):
-    """Every value of a track; those of R-10 and R-12 stand behind the others."""
+    """Every value of a track; those of status and of coarse messages stand behind the others."""
     groups = track.heard, track.identification, track.velocity, track.surface, track.pressure, track.height
     status = track.status, track.typecode, track.bit8, track.coarse
     return " ".join(str(value) for value in (*groups, *track.position, *track.saved[0], *track.saved[1], *status))

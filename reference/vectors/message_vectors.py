@@ -291,7 +291,7 @@ def strings():
     """The byte strings decoded."""
     chance = Random(3)
     yield from published.messages()
-    yield bytes(14)  # the paper's examples
+    yield bytes(14)  # the examples of RULES 3.11
     yield (1 << 112 - 88).to_bytes(14, "big")
     yield from every_number(chance)
     yield from every_bit()

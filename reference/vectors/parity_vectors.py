@@ -16,7 +16,7 @@ def strings():
     yield b""
     yield from (bytes([byte]) for byte in range(256))
     yield from published.messages()
-    yield bytes(14)  # the paper's examples: 14 zero bytes; only bit 88 set
+    yield bytes(14)  # the examples of RULES 4.7: 14 zero bytes; only bit 88 set
     yield from ((1 << 112 - bit).to_bytes(14, "big") for bit in (88,))
     yield from ((1 << 112 - bit).to_bytes(14, "big") for bit in range(1, 113))
     for length in range(41):

@@ -90,7 +90,7 @@ def amid(chance, nl):
 
 
 def published_cases():
-    """The public rows of the paper's scope, the published positions and the paper's examples."""
+    """The public rows that RULES 7 covers, the published positions and the examples of RULES 7.21."""
     for row in published.public_rows():
         i = ODD if row["latest"] == "odd" else EVEN
         if row["kind"] == "global_air":
@@ -339,7 +339,7 @@ def random_cases(chance, size=COUNTS, many=100):
 
 
 def other_roundings(chance):
-    """Request R-5: the latitudes for which a table in STEPs would answer otherwise if it were not rounded down.
+    """RULES 7.5: the latitudes for which a table in STEPs would answer otherwise if it were not rounded down.
 
     Such a latitude is the first multiple of STEP above an entry: rounded up the entry would reach it, and to nearest
     if it lies nearer than the multiple below. An entry that is a multiple itself, 87 degrees, must be reached. Each
@@ -374,7 +374,7 @@ def either_side(chance, turn, i, whole):
 
 
 def last_longitudes(size=COUNTS):
-    """Request R-11: the longitudes nearest below a turn, of every n: the last counts of the last zone, paired, and read from either side of 0."""
+    """RULES 7.15: the longitudes nearest below a turn, of every n: the last counts of the last zone, paired, and read from either side of 0."""
     for nl in range(1, 60):
         latitude = band(nl)
         even, _, odd, _ = both_ways(latitude, 0, size)
@@ -401,7 +401,7 @@ EDGES = [
 
 
 def coarse_cases():
-    """Request R-12: the same of coarse counts, and more at random; 45 degrees north and 90 east first."""
+    """RULES 7.19: the same of coarse counts, and more at random; 45 degrees north and 90 east first."""
     chance = Random(12)
     for i in BOTH:
         yield asks_encode(AIRBORNE, i, 2**29, 2**30, COARSE)
@@ -443,7 +443,7 @@ def answered(question, i_and_size, first, second, third, fourth):
 
 
 def noted(records):
-    """Of these records: how many ask for a coarse pair, or for a coarse message read singly from the air. Request R-12 wants 20,000."""
+    """Of these records: how many ask for a coarse pair, or for a coarse message read singly from the air. There are to be 20,000."""
     coarse = sum(record[0] in (PAIR, SINGLE[AIRBORNE]) and record[1] >= MARK[COARSE] for record in records)
     assert coarse >= 20_000
     return f"{coarse} of them coarse pairs and singles"

@@ -168,7 +168,7 @@ def every_sender(bench, length, *sites, addresses=(ONE,)):
 
 
 def coarse_in_logs(bench):
-    """R-12: stations and flags apart, and from the other kinds; ages; 14, then 8 for a flag above 1 or a station above 15; then runs."""
+    """RULES 13.5: stations and flags apart, and from the other kinds; ages; 14, then 8 for a flag above 1 or a station above 15; then runs."""
     first, second = coarse(ONE, EVEN, HERE), coarse(ONE, ODD, HERE)
     for gap in (0, 400, 10_000, 10_001, 124_999, 125_000):
         length = lend(bench, [(1_000, first), (1_000 + gap, second), (1_000 + gap, coarse(ONE, ODD, HERE, 4)), (1_001 + gap, coarse(ONE, EVEN, HERE, 3, 1))])

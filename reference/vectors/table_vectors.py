@@ -90,7 +90,7 @@ def damaged(string):
 
 
 def listing_example(bench):
-    """The paper's listing: I ABCDEF, even at 1,000, odd at 1,400."""
+    """The listing of RULES 12.9: I ABCDEF, even at 1,000, odd at 1,400."""
     bench.set_up(256)
     both(bench, ONE, HERE, 1_000)
     bench.look_up(I | ONE, O | ONE, ONE)

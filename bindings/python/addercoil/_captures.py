@@ -112,7 +112,7 @@ class Positions:
         return track if track is not None and track.position_time == time else None
 
 
-# R-8 and R-13
+# RULES 13 and 14
 
 
 def log_of(log: bytes | Iterable[tuple[int, Any]]) -> bytes | Refusal:
@@ -143,7 +143,7 @@ def replay(
     station: int = 0,
     site: tuple[float, float] | None = None,
 ) -> Track | Refusal | None:
-    """The track of one aircraft, worked out again from a log of at most 2,900 records; None if it is not held. R-8.
+    """The track of one aircraft, worked out again from a log of at most 2,900 records; None if it is not held. RULES 13.
 
     A log is what a table received since its set-up: bytes, 22 for each record, or records. Kind C has no use for a site.
     """
@@ -173,7 +173,7 @@ def contents(source: File | bytes) -> bytes:
 
 
 def check(capture: File | bytes, listing: File | bytes) -> Checked:
-    """Another decoder's listing of a capture, checked against ours: R-13. Each is the path of a file, or bytes."""
+    """Another decoder's listing of a capture, checked against ours: RULES 14. Each is the path of a file, or bytes."""
     out = calls.words(1)
     number = calls.check(contents(capture), contents(listing), out)
     if number:

@@ -1,4 +1,4 @@
--- A capture's blocks for another language, and what a call leaves that is lent a table and an array.
+-- RULES 20.6: a capture's blocks for another language, and what a call leaves that is lent a table and an array.
 use mathlib.Core.List.{List, [], _∷_}
 use Prim.Native.Nat.{ℕ}
 use Rattle.refusals.specs.Numbers.{numberOf}

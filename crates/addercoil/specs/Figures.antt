@@ -1,4 +1,4 @@
--- Degrees for another language: two doubles into an array of doubles, or two doubles taken.
+-- RULES 20.6: degrees for another language: two doubles into an array of doubles, or two doubles taken.
 use Prim.Native.Nat.{ℕ}
 use mathlib.Core.Bool.{cond, not}
 use mathlib.Core.List.{List, [], _∷_}

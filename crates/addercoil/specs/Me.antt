@@ -1,4 +1,4 @@
--- An ME by itself, of a key: its fields and readings, in the row of the crate `rows`. What it does not say of a message, DF, CA or CF, AA and the key, is 0.
+-- RULES 5.12: an ME by itself, of a key: its fields and readings, in the row of the crate `rows`. What it does not say of a message, DF, CA or CF, AA and the key, is 0.
 use Prim.Native.Nat.{ℕ}
 use mathlib.Core.Bool.{cond, not, _||_}
 use mathlib.Core.List.{List}

@@ -1,4 +1,4 @@
--- A message for another language, as the row of numbers of the crate `rows`.
+-- RULES 20.3 and 20.4: a message for another language, as the row of numbers of the crate `rows`.
 use Prim.Native.Nat.{ℕ}
 use mathlib.Core.Bool.{cond, not, _||_}
 use mathlib.Core.List.{List}

@@ -1,4 +1,4 @@
--- Positions for another language: a spot as latitude and longitude, a turn and a format as 0 or 1; of fine counts or of coarse ones.
+-- RULES 20.6: positions for another language: a spot as latitude and longitude, a turn and a format as 0 or 1; of fine counts or of coarse ones.
 use Prim.Native.Nat.{ℕ}
 use mathlib.Core.Bool.{cond, _||_}
 use mathlib.Core.List.{List, [], _∷_}

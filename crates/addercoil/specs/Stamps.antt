@@ -1,4 +1,4 @@
--- A message received with a stamp, for another language: the state is an array of two entries, whether a stamp has been accepted and the last one that was.
+-- RULES 10.5 and 20.1: a message received with a stamp, for another language: the state is an array of two entries, whether a stamp has been accepted and the last one that was.
 use Prim.Native.Nat.{ℕ, _^_}
 use mathlib.Core.Bool.{Bool, cond, not, _||_}
 use mathlib.Core.List.{List, [], _∷_}

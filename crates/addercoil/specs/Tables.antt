@@ -1,4 +1,4 @@
--- The lent table for another language: each answer as a number of document 01's table, or as values.
+-- RULES 20.6 and 20.8: the lent table for another language: each answer as a number of RULES 3.2, or as values.
 use Prim.Native.Nat.{ℕ}
 use mathlib.Core.Bool.{cond, _&&_}
 use mathlib.Core.List.{List, [], _∷_}

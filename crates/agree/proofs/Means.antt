@@ -1,4 +1,4 @@
--- A line agrees exactly if it has our key and other columns, and figures within one unit: the nine texts are the relation in the request's words. And our own line agrees.
+-- A line agrees exactly if it has our key and other columns, and figures within one unit: the nine texts are the relation of RULES 14.4. And our own line agrees.
 -- Assumes nothing.
 use Prim.Native.Nat.{ℕ, suc, _+_, _-_, _%_, _^_, _<_}
 use mathlib.Core.Path.{_≡_, refl, sym, ap, subst, _∙_}

@@ -1,4 +1,4 @@
--- When a line of another listing agrees with a row of ours: it is the row's line with a latitude and a longitude within one unit, around the circle for longitude; "-" only with "-"; every other column is equal.
+-- RULES 14.4 and 14.5: when a line of another listing agrees with a row of ours: it is the row's line with a latitude and a longitude within one unit, around the circle for longitude; "-" only with "-"; every other column is equal.
 use Prim.Native.Nat.{ℕ, _+_, _%_, _<_}
 use mathlib.Core.Path.{_≡_}
 use mathlib.Core.Logic.{_⊎_}
@@ -18,7 +18,7 @@ use Rattle.agree.specs.declared.Way.the-variants.{North, South, East, We
 abbrev pub placed : Row → Figure → Figure → Row
 placed r y x = record { key = r .key; heard = r .heard; latitude = y; longitude = x; altitude = r .altitude; step = r .step }
 
--- ---- in the request's words
+-- ---- in the words of RULES 14.4
 
 -- equal, or one unit apart
 abbrev pub UnitApart : ℤ → ℤ → Type 0

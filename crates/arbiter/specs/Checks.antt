@@ -1,4 +1,4 @@
--- A check for another language: 0 for yes, else the line at fault, or a number.
+-- RULES 14.8: a check for another language: 0 for yes, else the line at fault, or a number.
 use Prim.Native.Nat.{ℕ}
 use mathlib.Core.List.{List, [], _∷_}
 use Rattle.refusals.specs.Numbers.{numberOf}

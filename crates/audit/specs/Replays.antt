@@ -1,4 +1,4 @@
--- A track worked out again from a log, for another language: the kind is a number, as it stands above the address in a key, or C, with a flag and a station.
+-- RULES 13.4: a track worked out again from a log, for another language: the kind is a number, as it stands above the address in a key, or C, with a flag and a station.
 use Prim.Native.Nat.{ℕ}
 use mathlib.Core.Bool.{Bool, cond, not}
 use mathlib.Core.List.{List}

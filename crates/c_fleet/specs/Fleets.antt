@@ -1,4 +1,4 @@
--- A fleet of tables as C sees it: keys go to tables by any function, one stream is dealt out to them, and each aircraft is told and shown what one table would tell and show.
+-- RULES 18.4: a fleet of tables as C sees it: keys go to tables by any function, one stream is dealt out to them, and each aircraft is told and shown what one table would tell and show.
 use Prim.Native.Nat.{ℕ}
 use mathlib.Core.Option.{Option}
 use mathlib.Core.Path.{_≡_}

@@ -1,4 +1,4 @@
--- The key of a message, as C asks for it: by it messages are dealt out to tables.
+-- RULES 18.1: the key of a message, as C asks for it: by it messages are dealt out to tables.
 use Prim.Native.Nat.{ℕ}
 use mathlib.Core.Bool.{true}
 use mathlib.Core.Option.{Option}

@@ -1,4 +1,4 @@
--- What C prints of the tables of a fleet: together it is the listing of a single table with a place for every key.
+-- RULES 18.6: what C prints of the tables of a fleet: together it is the listing of a single table with a place for every key.
 use Prim.Native.Nat.{ℕ, _<_}
 use mathlib.Core.Bool.{Bool, cond}
 use mathlib.Core.Option.{Option}

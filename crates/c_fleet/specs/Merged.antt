@@ -1,4 +1,4 @@
--- The listings of a fleet, merged by C one after the other: byte for byte the listing of a single table with a place for every key.
+-- RULES 18.8: the listings of a fleet, merged by C one after the other: byte for byte the listing of a single table with a place for every key.
 use Prim.Native.Nat.{ℕ, suc, _+_, _^_, _<_}
 use mathlib.Core.Option.{Option}
 use mathlib.Core.Path.{_≡_}

@@ -1,4 +1,4 @@
--- A table of a fleet as C sees it, with a place for every key that goes to it. It is held to one table with a place for every key, however many they are, and no word is said about 6.
+-- RULES 18.5: a table of a fleet as C sees it, with a place for every key that goes to it. It is held to one table with a place for every key, however many they are, and no word is said about 6.
 use Prim.Native.Nat.{ℕ, _≤_}
 use mathlib.Core.Option.{Option}
 use mathlib.Core.Path.{_≡_}

@@ -1,4 +1,4 @@
--- Two runs of calls from C that an aircraft can't tell apart at their end: its own calls that are not late are the same, and so is the latest time. Calls of others may be left out.
+-- RULES 18.4: two runs of calls from C that an aircraft can't tell apart at their end: its own calls that are not late are the same, and so is the latest time. Calls of others may be left out.
 use Prim.Native.Nat.{ℕ}
 use mathlib.Core.Bool.{cond}
 use mathlib.Core.Option.{Option}

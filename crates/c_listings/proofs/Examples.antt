@@ -35,7 +35,7 @@ use Rattle.c_listings.proofs.Checked.{own-yes, fourteen-sixteen}
 use Rattle.c_listings.proofs.Ordered.{either-order}
 use Rattle.c_listings.proofs.Every.{check-met, our-listing}
 
--- ---- R-13
+-- ---- RULES 14: a check
 
 -- the empty capture has a listing of our own, and it gets yes
 pub empty-yes : (text : List ℕ) × (OurListing [] text × ((back : Sent) → Check [] text (7 ∷ []) back → back ≡ sent 0 (0 ∷ [])))
@@ -112,7 +112,7 @@ bound-needed =
     let p = sealed-records full (full-block .0) (full-block .1 .0) (full-block .1 .1) in
     blocks-fail (full ++ bytesOf 3 (seal full)) (p .0) (p .1)
 
--- ---- R-14
+-- ---- RULES 9.12: two antennas
 
 abbrev took : List ℕ → List ℕ → ℕ → Sent
 took table message time = receivedSent (received table message time)

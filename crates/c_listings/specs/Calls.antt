@@ -1,4 +1,4 @@
--- Calls from C that met their contracts, of the functions that print a table, feed it with a capture and check a listing: what was lent and given, the number that came back, and what the lent array holds afterwards.
+-- RULES 20.1: calls from C that met their contracts, of the functions that print a table, feed it with a capture and check a listing: what was lent and given, the number that came back, and what the lent array holds afterwards.
 use Prim.Native.Nat.{ℕ}
 use mathlib.Core.Path.{_≡_}
 use mathlib.Core.List.{List}

@@ -1,4 +1,4 @@
--- R-13 of document 02 as C sees it: "say yes or name the first line at fault. Ours is what the program "listing" prints with all tracks asked for. .. Our own listing always gets yes."
+-- RULES 14: a check as C sees it. It says yes or names the first line at fault. Ours is what the program "listing" prints with all tracks asked for. Our own listing always gets yes.
 use Prim.Native.Nat.{ℕ, suc, _^_, _≤_, _<_}
 use mathlib.Core.Bool.{true, false}
 use mathlib.Core.Path.{_≡_}
@@ -41,7 +41,7 @@ OwnYes =
     (capture text : List ℕ) → length capture < 2 ^ 64 → recordsOf capture ≤ mostRecords → OurListing capture text
     → (out : List ℕ) (back : Sent) → length out ≡ 1 → Check capture text out back → back ≡ sent 0 (0 ∷ [])
 
--- yes exactly when the request says so
+-- yes exactly when RULES 14.4 says so
 abbrev pub YesExactly : Type 0
 YesExactly = (capture text out : List ℕ) (back : Sent) → length out ≡ 1 → Check capture text out back → back ≡ sent 0 (0 ∷ []) ↔ compare.Right capture text
 

@@ -1,4 +1,4 @@
--- What C prints of a table: the text of addercoil_listing; or that of addercoil_header, and then that of addercoil_line for each key that addercoil_next gives.
+-- RULES 12.1: what C prints of a table: the text of addercoil_listing; or that of addercoil_header, and then that of addercoil_line for each key that addercoil_next gives.
 use Prim.Native.Nat.{ℕ, zero, suc}
 use mathlib.Core.Path.{_≡_}
 use mathlib.Core.List.{List, [], _∷_, _++_}

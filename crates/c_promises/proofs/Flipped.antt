@@ -1,4 +1,4 @@
--- One wrong bit, of the calls from C: the number that comes back is what the paper's table says, and for a damaged message that is 7, then 2, then 3.
+-- One wrong bit, of the calls from C: the number that comes back is what RULES 3.2 says, and for a damaged message that is 7, then 2, then 3.
 -- Assumes nothing.
 use Prim.Native.Nat.{ℕ}
 use mathlib.Core.Bool.{Bool, true, false, cond, not}

@@ -1,4 +1,4 @@
--- What the calls of a run give back, by the definitions that their contracts cite: so that examples can be computed.
+-- RULES 20.1: what the calls of a run give back, by the definitions that their contracts cite: so that examples can be computed.
 use Prim.Native.Nat.{ℕ}
 use mathlib.Core.List.{List, [], _∷_}
 use Rattle.entries.specs.Sent.{Sent}

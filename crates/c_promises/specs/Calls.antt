@@ -1,4 +1,4 @@
--- Calls from C that met their contracts: what was lent and given, the number that came back, and what the lent array holds afterwards (`Sent`). If a call changes a table, that array is the table.
+-- RULES 20.1: calls from C that met their contracts: what was lent and given, the number that came back, and what the lent array holds afterwards (`Sent`). If a call changes a table, that array is the table.
 use Prim.Native.Nat.{ℕ}
 use mathlib.Core.Path.{_≡_}
 use mathlib.Core.List.{List}

@@ -1,5 +1,5 @@
--- R-9 of document 02 as C sees it: "Hand out the two figures together as one place in degrees. Each is exactly that whole number times 360 over 4,294,967,296, with no rounding anywhere; longitude is first taken into -2^31
--- up to 2^31-1. Add the way back for a double that is such a multiple within range. Different places give different doubles. Zero is positive zero."
+-- RULES 15.1 to 15.3: degrees as C sees them. The two figures are handed out together as one place in degrees. Each is exactly that whole number times 360 over 4,294,967,296, with no rounding anywhere. Longitude is first taken into -2^31
+-- up to 2^31-1. The way back is for a double that is such a multiple within range. Different places give different doubles. Zero is positive zero.
 use Prim.Native.Nat.{ℕ, _^_, _<_}
 use mathlib.Core.Bool.{Bool, true, false}
 use mathlib.Core.Path.{_≡_}

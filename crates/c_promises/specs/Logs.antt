@@ -1,4 +1,4 @@
--- R-8 of document 02 as C sees it: "Its track must equal the table's track after the same records from a set-up with the same site, held or absent, provided the table never answered 6 for that key."
+-- RULES 13.3 and 13.5: a replay as C sees it. Its track equals the table's track after the same records from a set-up with the same site, held or absent, if the table never answered 6 for that key.
 use Prim.Native.Nat.{ℕ, _+_, _*_, _≤_, _<_}
 use mathlib.Core.Option.{Option, some, none}
 use mathlib.Core.Path.{_≡_}

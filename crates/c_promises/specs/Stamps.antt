@@ -1,4 +1,4 @@
--- Demand 3 as C sees it if messages come with stamps: "Demand 3 then speaks of equal stamps." What a call has for a time is its stamp.
+-- RULES 1.5: demand 3 as C sees it if messages come with stamps. It then speaks of equal stamps: what a call has for a time is its stamp.
 use Prim.Native.Nat.{ℕ, _^_, _<_}
 use mathlib.Core.Option.{Option}
 use mathlib.Core.Path.{_≡_}

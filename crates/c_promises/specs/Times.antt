@@ -1,4 +1,4 @@
--- R-6 of document 02 as C sees it: "The times are right if the first accepted stamp is the true time, true times never go back and none is 2^31 milliseconds or more past the last accepted one."
+-- RULES 10.7: the times of stamps as C sees them. They are right if the first accepted stamp is the true time, true times never go back and none is 2^31 milliseconds or more past the last accepted one.
 use Prim.Native.Nat.{ℕ}
 use mathlib.Core.Bool.{Bool, true, cond, not}
 use mathlib.Core.Option.{Option, some, none}

@@ -1,4 +1,4 @@
--- What the contracts promise in document 01's terms: whatever meets the contract of `block_of` says the count or 11, and whatever meets that of `record_of`, of `nth` or
+-- What the contracts promise in the rules' terms: whatever meets the contract of `block_of` says the count or 11, and whatever meets that of `record_of`, of `nth` or
 -- of `advance` says a time and a message, or that the records have ended; a reader from `reader_of` stands at the first. The definitions of specs/Said carry each case of the answer over.
 -- Assumes nothing.
 use Prim.Native.Nat.{ℕ, _+_}

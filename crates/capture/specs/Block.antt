@@ -1,4 +1,4 @@
--- A capture's block of 512 bytes: byte 0 is the count, bytes 1 and 2 are the serial, which isn't tested, bytes 3 to 508 are 23 records of 22 bytes,
+-- RULES 11.1 and 11.2: a capture's block of 512 bytes: byte 0 is the count, bytes 1 and 2 are the serial, which isn't tested, bytes 3 to 508 are 23 records of 22 bytes,
 -- and bytes 509 to 511 are the three that make the parity remainder 0. Records are counted from 0.
 use Prim.Native.Nat.{ℕ, _+_, _-_, _*_, _≤_}
 use mathlib.Core.Bool.{Bool, true, cond, _&&_}

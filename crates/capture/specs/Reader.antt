@@ -1,4 +1,4 @@
--- A reader: it gives one record at a time from the block it was lent, then says it has ended.
+-- RULES 11.5: a reader: it gives one record at a time from the block it was lent, then says it has ended.
 use Prim.Native.Nat.{ℕ, zero, suc, _+_}
 use mathlib.Core.Bool.{cond}
 use mathlib.Core.List.{List}

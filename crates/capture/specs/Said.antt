@@ -1,4 +1,4 @@
--- What the answers say in document 01's terms: a number of its table, or a block's count; a record's time and message, or that the records have ended.
+-- RULES 11.5 and 19.3: what the answers say in the rules' terms: a number, or a block's count; a record's time and message, or that the records have ended.
 use Prim.Native.Nat.{ℕ, _+_}
 use mathlib.Core.Bool.{cond}
 use mathlib.Core.List.{List}

@@ -1,4 +1,4 @@
--- What the contracts promise in document 01's terms: whatever meets one says 8 where the code is wider than its bits, and else what the paper gives. The definitions of
+-- What the contracts promise in the rules' terms: whatever meets one says 8 where the code is wider than its bits, and else what RULES 5.3 gives. The definitions of
 -- specs/Said carry each case of the answer over; eight bytes that were put together come apart again.
 -- Assumes nothing.
 use Prim.Native.Nat.{ℕ, _<_}

@@ -1,4 +1,4 @@
--- What the answers say in document 01's terms: a number of its table, or the category set, or the characters in ASCII.
+-- RULES 5.3 and 19.3: what the answers say in the rules' terms: a number, or the category set, or the characters in ASCII.
 use Prim.Native.Nat.{ℕ}
 use mathlib.Core.List.{List}
 use Rattle.refusals.specs.Numbers.{numberOf}

@@ -1,4 +1,4 @@
--- The category set of a TYPE, the character of a code, and the text of eight characters.
+-- RULES 5.3: the category set of a TYPE, the character of a code, and the text of eight characters.
 use Prim.Native.Nat.{ℕ, _+_, _-_}
 use mathlib.Core.Bool.{cond, _&&_}
 use mathlib.Core.List.{List, [], _∷_}

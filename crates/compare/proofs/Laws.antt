@@ -1,4 +1,4 @@
--- What a check says, for every capture and every text: yes exactly where the request says so, else the first line at fault, or 14, or 16; and our own listing gets yes. By the tests, and the laws of the comparison.
+-- What a check says, for every capture and every text: yes exactly where RULES 14.4 says so, else the first line at fault, or 14, or 16; and our own listing gets yes. By the tests, and the laws of the comparison.
 -- Assumes nothing.
 use Prim.Native.Nat.{ℕ, zero, suc, _+_, _^_, _≤_, _<_}
 use native.Mathlib.Omega.{arith}

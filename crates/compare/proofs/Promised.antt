@@ -1,4 +1,4 @@
--- What the contract promises in document 02's terms: whatever meets the contract of `check` says 14, then 16, or what the comparison gives, 0 or a line. The definition of specs/Said carries each case of the answer over.
+-- What the contract promises in the rules' terms: whatever meets the contract of `check` says 14, then 16, or what the comparison gives, 0 or a line. The definition of specs/Said carries each case of the answer over.
 -- Assumes nothing.
 use Prim.Native.Nat.{ℕ}
 use mathlib.Core.Path.{_≡_, refl, ap, _∙_}

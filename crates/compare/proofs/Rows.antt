@@ -1,4 +1,4 @@
--- The rows of a table of bytes: their figures have at most 20 digits and stand on the globe. So our own listing is in the form, and agreement with a row is what the request says. By what fits a place, and the bounds of an altitude.
+-- The rows of a table of bytes: their figures have at most 20 digits and stand on the globe. So our own listing is in the form, and agreement with a row is what RULES 14.4 says. By what fits a place, and the bounds of an altitude.
 -- Assumes nothing.
 use Prim.Native.Nat.{ℕ, zero, suc, _+_, _-_, _*_, _%_, _^_, _≤_, _<_}
 use native.Mathlib.Omega.{arith}

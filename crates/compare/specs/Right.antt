@@ -1,5 +1,5 @@
--- When the answer is yes, and which line is at fault, in the request's words. "Yes exactly when the first line is right, the lines are our keys in our order each once, every latitude and longitude is within one unit of
--- ours, around the circle for longitude, or "-" in both, and every other column is equal."
+-- RULES 14.4 and 14.6: when the answer is yes, and which line is at fault. It is yes exactly when the first line is right, the lines are our keys in our order each once, every latitude and longitude is within one unit of
+-- ours, around the circle for longitude, or "-" in both, and every other column is equal.
 use Prim.Native.Nat.{ℕ, _+_, _≤_}
 use mathlib.Core.Path.{_≡_}
 use mathlib.Core.Bool.{true}

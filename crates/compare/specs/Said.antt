@@ -1,4 +1,4 @@
--- What the answer says in document 02's terms: a number, or 0 for yes and else the line at fault.
+-- RULES 14.8 and 19.3: what the answer says in the rules' terms: a number, or 0 for yes and else the line at fault.
 use Prim.Native.Nat.{ℕ}
 use Rattle.refusals.specs.Numbers.{numberOf}
 use Rattle.refusals.specs.Said.{Said, number, gives}

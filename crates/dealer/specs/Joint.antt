@@ -1,4 +1,4 @@
--- Two listings as one for another language: a number, and the two arrays that the call was lent, as it leaves them.
+-- RULES 18.8 and 18.9: two listings as one for another language: a number, and the two arrays that the call was lent, as it leaves them.
 use Prim.Native.Nat.{ℕ, _+_}
 use mathlib.Core.Bool.{cond, not, _&&_}
 use mathlib.Core.List.{List, [], _∷_}

@@ -1,4 +1,4 @@
--- The key of a message for another language: that of the track that the message belongs to, or why it is refused.
+-- RULES 18.1: the key of a message for another language: that of the track that the message belongs to, or why it is refused.
 use Prim.Native.Nat.{ℕ}
 use mathlib.Core.List.{List, [], _∷_}
 use Rattle.refusals.specs.Numbers.{numberOf}

@@ -67,7 +67,7 @@ apart s t d h k e f = same-place s t d (exact s d h e) (exact t d k f)
 
 -- ---- each way undoes the other
 
--- what the way back says in document 02's terms has one answer
+-- what the way back says in the rules' terms has one answer
 pub back-unique : (d : Degrees) (a b : Said Spot) → BackIs d a → BackIs d b → a ≡ b
 back-unique d (gives s) (gives t) p q = ap gives (same-place s t d p q)
 back-unique d (gives s) (number n) p q = absurd (q .1 s p)

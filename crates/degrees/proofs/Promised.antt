@@ -1,4 +1,4 @@
--- What the contracts promise in document 02's terms: whatever meets that of `to_degrees` gives the doubles that are exactly the place, or 8; whatever meets that of
+-- What the contracts promise in the rules' terms: whatever meets that of `to_degrees` gives the doubles that are exactly the place, or 8; whatever meets that of
 -- `from_degrees` gives the place that the doubles exactly are, or 15. A longitude of 32 bits is below 2^32.
 -- Assumes nothing.
 use mathlib.Core.Path.{sym, subst}

@@ -1,4 +1,4 @@
--- What the answers say in document 02's terms, with no rounding in the words: the doubles that are exactly the place, the place that the doubles exactly are,
+-- RULES 15.1 to 15.3: what the answers say in the rules' terms, with no rounding in the words: the doubles that are exactly the place, the place that the doubles exactly are,
 -- or a number and why.
 use Prim.Native.Nat.{_≤_, _<_, _^_}
 use mathlib.Core.Path.{_≡_}

@@ -1,4 +1,4 @@
--- One figure in degrees, over whole numbers: n units of 2^-32 of a turn are n * 360 / 2^32 degrees; and back, of a double the n of which it is that.
+-- RULES 15.1 to 15.3: one figure in degrees, over whole numbers: n units of 2^-32 of a turn are n * 360 / 2^32 degrees; and back, of a double the n of which it is that.
 use Prim.Native.Nat.{ℕ, zero, suc, _*_, _/_, _%_}
 use mathlib.Core.Bool.{Bool, true, false, cond}
 use mathlib.Core.Option.{Option, some, none}

@@ -1,4 +1,4 @@
--- A place in degrees, and the way back.
+-- RULES 15.1 to 15.3: a place in degrees, and the way back.
 use Prim.Native.Nat.{ℕ}
 use mathlib.Core.Bool.{Bool, cond, _&&_}
 use mathlib.Core.Option.{Option, some, none}

@@ -1,4 +1,4 @@
--- The whole listing for another language: a number, and the three arrays that the call was lent, as it leaves them.
+-- RULES 12.8 and 20.7: the whole listing for another language: a number, and the three arrays that the call was lent, as it leaves them.
 use Prim.Native.Nat.{ℕ}
 use mathlib.Core.Bool.{cond, not, _&&_}
 use mathlib.Core.List.{List, [], _∷_}

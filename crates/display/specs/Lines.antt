@@ -1,4 +1,4 @@
--- The listing's lines for another language: a buffer holds the text, then zeros.
+-- RULES 12.8 and 20.6: the listing's lines for another language: a buffer holds the text, then zeros.
 use Prim.Native.Nat.{ℕ, _+_}
 use mathlib.Core.Bool.{Bool, cond, not}
 use mathlib.Core.List.{List}

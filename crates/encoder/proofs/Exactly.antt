@@ -1,4 +1,4 @@
--- The encoder's answer in document 01's terms: 1, then 8, else the 14 bytes; what it takes is just what the decoder can answer; a refusal changes nothing.
+-- The encoder's answer in the rules' terms: 1, then 8, else the 14 bytes; what it takes is just what the decoder can answer; a refusal changes nothing.
 -- By the cases of its two tests, and by the two round trips.
 -- Assumes nothing.
 use Prim.Native.Nat.{ℕ}

@@ -1,4 +1,4 @@
--- What the contract of `encode` promises in document 01's terms: whatever meets it says 1, then 8, or the message's bytes.
+-- What the contract of `encode` promises in the rules' terms: whatever meets it says 1, then 8, or the message's bytes.
 -- Assumes nothing.
 use mathlib.Core.Path.{_≡_, ap₂, _∙_}
 use mathlib.Core.Bool.{cond, not}

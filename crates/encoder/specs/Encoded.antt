@@ -1,4 +1,4 @@
--- What the encoder answers, and what the buffer holds afterwards.
+-- RULES 2.16: what the encoder answers, and what the buffer holds afterwards.
 use Prim.Native.Nat.{ℕ}
 use mathlib.Core.List.{List}
 use mathlib.Core.Bool.{cond, not, _&&_}
@@ -23,7 +23,7 @@ encoded m out =
 abbrev pub encodedBytes : Message → List ℕ → List ℕ
 encodedBytes m out = cond (eqb (length out) 14 && messageFits m) (messageBytes m) out
 
--- what that says in document 01's terms
+-- what that says in the rules' terms
 abbrev pub wrote : Encoded → List ℕ → Said (List ℕ)
 wrote encode.Written out = gives out
 wrote (encode.Refused r) out = number (numberOf r)

@@ -1,4 +1,4 @@
--- What a lent array holds afterwards.
+-- RULES 20.1: what a lent array holds afterwards.
 use Prim.Native.Nat.{ℕ, zero, suc}
 use mathlib.Core.List.{List, [], _∷_}
 

@@ -1,4 +1,4 @@
--- A reading as two numbers: what it is, 0 unknown, 1 known, 2 over, 3 reserved, 4 stopped, 5 refused; and its value, in two's complement where it has a sign.
+-- RULES 20.2: a reading as two numbers: what it is, 0 unknown, 1 known, 2 over, 3 reserved, 4 stopped, 5 refused; and its value, in two's complement where it has a sign.
 use Prim.Native.Nat.{ℕ}
 use mathlib.Core.Bool.{Bool, cond}
 use Rattle.entries.specs.Twos.{twos}

@@ -1,4 +1,4 @@
--- What a call hands to another language: its number, and the array that it was lent, as the call leaves it.
+-- RULES 3.10 and 20.1: what a call hands to another language: its number, and the array that it was lent, as the call leaves it.
 use Prim.Native.Nat.{ℕ}
 use mathlib.Core.Bool.{cond, not}
 use mathlib.Core.List.{List}

@@ -1,4 +1,4 @@
--- A signed number in 64 bits without a sign.
+-- RULES 20.2: a signed number in 64 bits without a sign.
 use Prim.Native.Nat.{ℕ, suc, _-_, _^_}
 use lib.IntN.{ℤ, pos, negsuc}
 

@@ -1,4 +1,4 @@
--- What the contracts promise in document 01's terms: whatever meets the contract of `feed` or of `feed_block` says how many blocks are bad, or 7. The definition of specs/Said
+-- What the contracts promise in the rules' terms: whatever meets the contract of `feed` or of `feed_block` says how many blocks are bad, or 7. The definition of specs/Said
 -- carries each case of the answer over.
 -- Assumes nothing.
 use Prim.Native.Nat.{ℕ}

@@ -1,4 +1,4 @@
--- A capture into a lent table: what its records do to the table, and how many of its blocks are bad.
+-- RULES 11.3, 11.4 and 14.8: a capture into a lent table: what its records do to the table, and how many of its blocks are bad.
 use Prim.Native.Nat.{ℕ, zero, suc, _+_, _-_, _*_, _/_, _^_, min}
 use mathlib.Core.Bool.{Bool, cond, not}
 use mathlib.Core.List.{List}

@@ -1,4 +1,4 @@
--- What the answer says in document 01's terms: a number of its table, or how many blocks are bad.
+-- RULES 11.4 and 19.3: what the answer says in the rules' terms: a number, or how many blocks are bad.
 use Prim.Native.Nat.{ℕ}
 use Rattle.refusals.specs.Numbers.{numberOf}
 use Rattle.refusals.specs.Said.{Said, number, gives}

@@ -16,7 +16,7 @@ pub enum Fed {
     Refused(Refusal),
 }
 
-// The record i of a block, received. What the table answers to it is dropped: a refused record leaves what document 01's table of numbers says.
+// The record i of a block, received. What the table answers to it is dropped: a refused record leaves what RULES 3.2 says.
 fn take_record(table: &mut [u8], block: &[u8], i: usize)
     ensures { λ _. ⌜ now (table .exit) ≡ received (now (table .entry)) (messageOf (now (block .entry)) i) (timeOf (now (block .entry)) i) .table ⌝ }
 {

@@ -1,4 +1,4 @@
--- Bytes as one number, and a number as bytes: layouts whose widths are all 8.
+-- RULES 2.1: bytes as one number, and a number as bytes: layouts whose widths are all 8.
 use Prim.Native.Nat.{ℕ, _<_}
 use mathlib.Core.List.{List}
 use lib.ListN.{length, replicate, getD}

@@ -1,4 +1,4 @@
--- Bit fields of a number, and layouts: lists of widths in bits, the highest field first.
+-- RULES 2.1 and 5.2: bit fields of a number, and layouts: lists of widths in bits, the highest field first.
 use Prim.Native.Nat.{ℕ, _+_, _-_, _*_, _/_, _%_, _^_, _<_}
 use mathlib.Core.List.{List, [], _∷_}
 use mathlib.Core.Bool.{Bool, true, false, _&&_}

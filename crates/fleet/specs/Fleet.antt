@@ -1,4 +1,4 @@
--- A fleet of tables: keys go to tables by any function, and one stream is dealt out to them by the stream's clock, which is its latest time.
+-- RULES 18.1 to 18.3: a fleet of tables: keys go to tables by any function, and one stream is dealt out to them by the stream's clock, which is its latest time.
 use Prim.Native.Nat.{ℕ, _≤_}
 use mathlib.Core.Bool.{Bool, false, cond, not, _&&_}
 use mathlib.Core.Path.{_≡_}

@@ -1,4 +1,4 @@
--- Tables side by side: whatever one table would answer and hold for an aircraft, a table that is handed its messages alone, and a tick before it is read, answers and holds too, unless either answered 6 to it.
+-- RULES 18.2 and 18.4: tables side by side: whatever one table would answer and hold for an aircraft, a table that is handed its messages alone, and a tick before it is read, answers and holds too, unless either answered 6 to it.
 use Prim.Native.Nat.{ℕ, _≤_}
 use mathlib.Core.Bool.{Bool, false, cond, not, _&&_}
 use mathlib.Core.Path.{_≡_}

@@ -1,4 +1,4 @@
--- The listings of several tables as one: the rows of all in the order of their keys, and the number of them. It is held to what one table would list, in any form.
+-- RULES 18.6: the listings of several tables as one: the rows of all in the order of their keys, and the number of them. It is held to what one table would list, in any form.
 use Prim.Native.Nat.{ℕ, zero, suc, _+_, _<_}
 use mathlib.Core.Bool.{Bool, cond}
 use mathlib.Core.Option.{Option}

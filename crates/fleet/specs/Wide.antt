@@ -1,4 +1,4 @@
--- A single table with a place for every key: a form of any number of places, which nobody has to lend. It is what a fleet is held to.
+-- RULES 18.5: a single table with a place for every key: a form of any number of places, which nobody has to lend. It is what a fleet is held to.
 use Prim.Native.Nat.{ℕ, _≤_, _<_}
 use mathlib.Core.Bool.{Bool, true, false, cond}
 use mathlib.Core.Path.{_≡_}

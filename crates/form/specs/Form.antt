@@ -1,5 +1,5 @@
--- The form of a listing, over the bytes of a text, whoever made it. "Newline after each line, single spaces, the header's words, then kind, six upper-case hex digits and the columns, each "-" or a decimal of at most
--- 20 digits without leading zeros, minus only before a nonzero one."
+-- RULES 14.2 and 14.3: the form of a listing, over the bytes of a text, whoever made it. A newline after each line, single spaces, the header's words, then kind, six upper-case hex digits and the columns, each "-" or a decimal of at most
+-- 20 digits without leading zeros, minus only before a nonzero one.
 use Prim.Native.Nat.{ℕ}
 use mathlib.Core.Bool.{Bool, true, false, cond, not, _&&_, _||_}
 use mathlib.Core.List.{List, [], _∷_}

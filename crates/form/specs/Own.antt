@@ -1,4 +1,4 @@
--- The rows whose numbers have at most 20 digits, as every row in the code does: 64 bits hold no longer one.
+-- RULES 14.7: the rows whose numbers have at most 20 digits, as every row in the code does: 64 bits hold no longer one.
 use Prim.Native.Nat.{_^_, _<_, ℕ}
 use lib.IntN.{natAbs}
 use Rattle.text.specs.declared.Figure.{Figure}

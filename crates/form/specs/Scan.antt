@@ -1,4 +1,4 @@
--- How the code walks a text: by the places where its pieces start, and sorts of words as letters.
+-- RULES 14.2: how the code walks a text: by the places where its pieces start, and sorts of words as letters.
 use Prim.Native.Nat.{ℕ, _+_, _-_, _≤_, _<_}
 use mathlib.Core.Path.{_≡_}
 use mathlib.Core.Bool.{cond}

@@ -1,4 +1,4 @@
--- What the contracts promise in document 01's terms: whatever meets one says 8 where an ME or a TYPE is wider than its bits, and else what the published tables give. The definitions of specs/Said carry each case over.
+-- What the contracts promise in the rules' terms: whatever meets one says 8 where an ME or a TYPE is wider than its bits, and else what the published tables give. The definitions of specs/Said carry each case over.
 -- Assumes nothing.
 use Prim.Native.Nat.{ℕ}
 use mathlib.Core.Path.{_≡_, refl, ap, _∙_}

@@ -1,4 +1,4 @@
--- The rules of R-10 of document 02, each by its definition or computed from the published rows.
+-- The rules of RULES 16, each by its definition or computed from the published rows.
 -- Assumes nothing.
 use Prim.Native.Nat.{ℕ, _<_, _≤_}
 use mathlib.Core.Path.{_≡_, refl, ap, _∙_}

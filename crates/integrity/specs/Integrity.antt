@@ -1,4 +1,4 @@
--- The integrity of the latest position message: by its TYPE, with the version and the supplements that are held now.
+-- RULES 16.5 and 16.6: the integrity of the latest position message: by its TYPE, with the version and the supplements that are held now.
 use Prim.Native.Nat.{ℕ}
 use mathlib.Core.Bool.{Bool, cond, _||_}
 use lib.Dec.{eqb}

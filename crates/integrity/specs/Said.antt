@@ -1,4 +1,4 @@
--- What each answer says in document 01's terms: a number of its table, or the version, the supplements or the integrity.
+-- RULES 16.5 and 19.3: what each answer says in the rules' terms: a number, or the version, the supplements or the integrity.
 use Prim.Native.Nat.{ℕ}
 use mathlib.Core.Bool.{Bool, true, false}
 use Rattle.refusals.specs.Numbers.{numberOf}

@@ -1,4 +1,4 @@
--- The version of the standard that an aircraft's messages are of, and its supplements: by its kind, the ME of the status that was last heard, and bit 8 of ME of the latest position message, which is 0 of one from the surface.
+-- RULES 16.2 to 16.4: the version of the standard that an aircraft's messages are of, and its supplements: by its kind, the ME of the status that was last heard, and bit 8 of ME of the latest position message, which is 0 of one from the surface.
 use Prim.Native.Nat.{ℕ}
 use mathlib.Core.Bool.{Bool, true, false, cond, _&&_}
 use lib.Dec.{eqb}

@@ -1,5 +1,5 @@
--- The published tables, row by row but for TYPE 0: a TYPE, the supplements that the row names, each 0 or 1, and its number. Rows of TYPEs 8 and 13 that have one number differ in the radius, which is not handed out.
--- The rows of TYPE 0 are left out: such a message replaces the altitude and "nothing else" (R-2), so that the track keeps the TYPE of the position message before it, and 0 says that none was heard.
+-- RULES 16.7 and 16.8: the published tables, row by row but for TYPE 0: a TYPE, the supplements that the row names, each 0 or 1, and its number. Rows of TYPEs 8 and 13 that have one number differ in the radius, which is not handed out.
+-- The rows of TYPE 0 are left out: such a message replaces the altitude and nothing else (RULES 8.7), so that the track keeps the TYPE of the position message before it, and 0 says that none was heard.
 use Prim.Native.Nat.{ℕ}
 use mathlib.Core.Bool.{Bool, true, false, cond, _&&_}
 use mathlib.Core.List.{List, [], _∷_, _++_}

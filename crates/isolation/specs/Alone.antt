@@ -1,4 +1,4 @@
--- What an aircraft would see of a run if it were alone: what it hears of each call is all that is asked for.
+-- RULES 1.4: what an aircraft would see of a run if it were alone: what it hears of each call is all that is asked for.
 use Prim.Native.Nat.{ℕ}
 use mathlib.Core.Bool.{Bool, cond}
 use mathlib.Core.Option.{Option, some, none}

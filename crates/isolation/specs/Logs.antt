@@ -1,4 +1,4 @@
--- A run and the log of what it received; and the log in a capture: the records of its good blocks, set end to end.
+-- RULES 13.3: a run and the log of what it received; and the log in a capture: the records of its good blocks, set end to end.
 use Prim.Native.Nat.{ℕ, zero, suc, _*_, _≤_, _<_}
 use mathlib.Core.Bool.{false, cond}
 use mathlib.Core.Path.{_≡_}
@@ -33,7 +33,7 @@ abbrev pub left : {S : Type 0} → Rule S → S → List Call → S
 left rule s [] = s
 left rule s (c ∷ cs) = left rule (call rule s c .table) cs
 
--- "Its track must equal the table's track after the same records from a set-up with the same site, held or absent, provided the table never answered 6 for that key."
+-- RULES 13.3: its track equals the table's track after the same records from a set-up with the same site, held or absent, if the table never answered 6 for that key
 -- Of any form, whatever the table held before; of an address of 24 bits, a kind whose flag and station fit their bits and at most 2,900 records, since others earn 8 or 14
 abbrev pub Replays : {S : Type 0} → Form S → Type 0
 Replays {S} F =

@@ -1,4 +1,4 @@
--- A run as what its calls answered and left, whoever made them.
+-- RULES 1.4: a run as what its calls answered and left, whoever made them.
 use Prim.Native.Nat.{ℕ}
 use mathlib.Core.Bool.{true}
 use mathlib.Core.Path.{_≡_}

@@ -1,4 +1,4 @@
--- Demand 3 where messages come with stamps: "Demand 3 then speaks of equal stamps." It is the statement of Runs, read so: what a call has for a time is its stamp, a table goes with the state that its caller keeps
+-- RULES 1.5: demand 3 if messages come with stamps, of equal stamps. It is the statement of Runs, read so: what a call has for a time is its stamp, a table goes with the state that its caller keeps
 -- beside it, and a set-up with a fresh one.
 use Prim.Native.Nat.{ℕ}
 use Rattle.messages.specs.declared.Decoded.{Decoded}

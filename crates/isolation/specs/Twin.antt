@@ -1,4 +1,4 @@
--- A table in bytes beside one as a slice: of as many places, and set up alike.
+-- RULES 19.2: a table in bytes beside one as a slice: of as many places, and set up alike.
 use Prim.Native.Nat.{ℕ}
 use mathlib.Core.Bool.{cond}
 use mathlib.Core.List.{List}

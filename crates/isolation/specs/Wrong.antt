@@ -1,4 +1,4 @@
--- Three wrong rules for a call, in any form. Each lets a stranger's message touch an aircraft's track.
+-- RULES 1.4: three wrong rules for a call, in any form. Each lets a stranger's message touch an aircraft's track.
 use Prim.Native.Nat.{ℕ, zero, suc, _-_}
 use mathlib.Core.Bool.{cond}
 use lib.Dec.{eqb}

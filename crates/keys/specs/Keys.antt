@@ -1,4 +1,4 @@
--- A track's key, as document 01 has it: AA with its kind, I or O, in 02's R-3 also T, M or N, and in its R-12 C with a flag and a station.
+-- RULES 2.13 to 2.15: a track's key: AA with its kind, I, O, T, M or N, or C with a flag and a station.
 -- In one number the kind stands above the 24 bits of the address, and of C, whose keys are above all others, the flag and the station below them.
 use Prim.Native.Nat.{ℕ, _+_, _-_, _*_, _/_, _%_, _^_}
 use mathlib.Core.Bool.{Bool, true, false, cond, _&&_, _||_}

@@ -1,4 +1,4 @@
--- What the contracts of `body_by` and `me_of` promise in document 01's terms: whatever meets the one says 5, or the layout and the values of all fields, and whatever meets the other 8, or the 56 bits.
+-- What the contracts of `body_by` and `me_of` promise in the rules' terms: whatever meets the one says 5, or the layout and the values of all fields, and whatever meets the other 8, or the 56 bits.
 -- By the layouts, and by the test.
 -- Assumes nothing.
 use Prim.Native.Nat.{ℕ}

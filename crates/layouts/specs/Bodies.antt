@@ -1,4 +1,4 @@
--- ME as a whole: its layout, by TYPE and subtype or that of a coarse message, or the refusal.
+-- RULES 2.4, 2.11 and 2.12: ME as a whole: its layout, by TYPE and subtype or that of a coarse message, or the refusal.
 use Prim.Native.Nat.{ℕ}
 use mathlib.Core.List.{List, []}
 use mathlib.Core.Bool.{Bool, true, false, cond, _&&_}
@@ -17,7 +17,7 @@ use Rattle.layouts.specs.Layouts.{isIdentification, isSurface, isAirborn
 use Rattle.layouts.specs.Status.{isStatus, statusOf, statusFields, statusWidths}
 use Rattle.layouts.specs.Velocity.{isGround, isAir, groundOf, airOf, groundFields, airFields, velocityWidths}
 
--- by TYPE and subtype; any other is not taken
+-- RULES 2.4 and 17.2: by TYPE and subtype; any other is not taken
 abbrev pub layoutAt : ℕ → ℕ → Layout
 layoutAt type subtype =
     cond (isIdentification type) layout.Identification
@@ -35,7 +35,7 @@ typeIn n = me 1 5 n
 abbrev pub layoutOf : ℕ → Layout
 layoutOf n = layoutAt (typeIn n) (me 6 8 n)
 
--- that of a coarse message, whatever its bits; of any other by TYPE and subtype
+-- RULES 2.4: that of a coarse message, whatever its bits; of any other by TYPE and subtype
 abbrev pub layoutBy : Bool → ℕ → Layout
 layoutBy coarse n = cond coarse layout.Coarse (layoutOf n)
 
@@ -67,7 +67,7 @@ takenAs layout.NotTaken n = read.Refused TypeCode
 abbrev pub takenBy : Bool → ℕ → Taken
 takenBy coarse n = takenAs (layoutBy coarse n) n
 
--- the flag that tells the address of a traffic service's message, as source 002 has it: a bit of its own of a coarse message, on the surface, in the air and of a velocity. Identification and status have none, which counts as 0
+-- RULES 2.12 and 17.4: the flag that tells the address of a traffic service's message, as source 002 has it: a bit of its own of a coarse message, on the surface, in the air and of a velocity. Identification and status have none, which counts as 0
 abbrev pub flagBy : Layout → ℕ → ℕ → ℕ → ℕ → ℕ
 flagBy layout.Identification coarse surface air velocity = 0
 flagBy layout.Surface coarse surface air velocity = surface
@@ -78,7 +78,7 @@ flagBy layout.Status coarse surface air velocity = 0
 flagBy layout.Coarse coarse surface air velocity = coarse
 flagBy layout.NotTaken coarse surface air velocity = 0
 
--- bit 1 of a coarse message, 21 on the surface, 8 in the air, 9 of a velocity
+-- RULES 2.12: bit 1 of a coarse message, 21 on the surface, 8 in the air, 9 of a velocity
 abbrev pub flagIn : Bool → ℕ → ℕ
 flagIn coarse n = flagBy (layoutBy coarse n) (me 1 1 n) (me 21 21 n) (me 8 8 n) (me 9 9 n)
 
@@ -125,7 +125,7 @@ bodyType (body.Air b) = b .typecode
 bodyType (body.Status b) = b .typecode
 bodyType (body.Coarse b) = 0
 
--- the flag by the names of its fields
+-- RULES 2.12: the flag by the names of its fields
 abbrev pub flagOf : Body → ℕ
 flagOf (body.Identification b) = 0
 flagOf (body.Surface b) = b .t
@@ -165,11 +165,11 @@ typeAgrees (body.Air b) = isAir (b .typecode) (b .subtype)
 typeAgrees (body.Status b) = isStatus (b .typecode) (b .subtype)
 typeAgrees (body.Coarse b) = true
 
--- the 56 bits that hold the fields
+-- RULES 2.11: the 56 bits that hold the fields
 abbrev pub bodyMe : Body → ℕ
 bodyMe b = pack (bodyWidths b) (bodyFields b)
 
--- whether each field fits its bits, in a message that would be taken as this layout
+-- RULES 2.16: whether each field fits its bits, in a message that would be taken as this layout
 abbrev pub bodyFits : Body → Bool
 bodyFits b = fits (bodyWidths b) (bodyFields b) && typeAgrees b
 

@@ -1,4 +1,4 @@
--- The layout of a coarse traffic message, DF 18 with CF 3, by source 002's bit numbers of ME; bit 1 is the highest of the 56. It has no TYPE, and every ME is one.
+-- RULES 2.10: the layout of a coarse traffic message, DF 18 with CF 3, by source 002's bit numbers of ME; bit 1 is the highest of the 56. It has no TYPE, and every ME is one.
 use Prim.Native.Nat.{ℕ}
 use mathlib.Core.List.{List, [], _∷_}
 use Rattle.fields.specs.Packing.{me}

@@ -1,4 +1,4 @@
--- The layouts of ME but for those of velocity, status and coarse messages, by document 01's bit numbers; bit 1 is the highest of the 56.
+-- RULES 2.6 and 2.7: the layouts of ME but for those of velocity, status and coarse messages, by bit numbers of ME; bit 1 is the highest of the 56.
 use Prim.Native.Nat.{ℕ}
 use mathlib.Core.List.{List, [], _∷_}
 use mathlib.Core.Bool.{Bool, _&&_, _||_}

@@ -1,4 +1,4 @@
--- What the answers say in document 01's terms: a number of its table, or values. Those of ME are its layout with the values of all fields in the order of their bits; Ground and Air have fields of the same widths,
+-- RULES 19.3: what the answers say in the rules' terms: a number, or values. Those of ME are its layout with the values of all fields in the order of their bits; Ground and Air have fields of the same widths,
 -- and only the layout tells them apart.
 use Prim.Native.Nat.{ℕ}
 use mathlib.Core.List.{List}

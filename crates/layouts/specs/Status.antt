@@ -1,4 +1,4 @@
--- The layout of operational status, TYPE 31, by source 000's bit numbers of ME; bit 1 is the highest of the 56.
+-- RULES 2.9 and 16.1: the layout of operational status, TYPE 31, by source 000's bit numbers of ME; bit 1 is the highest of the 56.
 use Prim.Native.Nat.{ℕ}
 use mathlib.Core.List.{List, [], _∷_}
 use mathlib.Core.Bool.{Bool, _&&_}

@@ -1,4 +1,4 @@
--- The layouts of velocity, TYPE 19, by document 01's bit numbers of ME; bit 1 is the highest of the 56.
+-- RULES 2.8: the layouts of velocity, TYPE 19, by bit numbers of ME; bit 1 is the highest of the 56.
 use Prim.Native.Nat.{ℕ}
 use mathlib.Core.List.{List, [], _∷_}
 use mathlib.Core.Bool.{Bool, _&&_}

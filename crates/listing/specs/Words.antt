@@ -1,4 +1,4 @@
--- What the words ask for that a program is started with, as document 02 has it in R-1: the tracks with a position unless all are asked for.
+-- RULES 12.7: what the words ask for that a program is started with: the tracks with a position unless all are asked for.
 use Prim.Native.Nat.{ℕ}
 use mathlib.Core.Bool.{Bool, cond, _&&_}
 use mathlib.Core.List.{List}

@@ -1,4 +1,4 @@
--- Numbers as bytes of a table, the lowest byte first, so that a key compares as it lies in memory.
+-- RULES 9.14: numbers as bytes of a table, the lowest byte first, so that a key compares as it lies in memory.
 use Prim.Native.Nat.{ℕ, zero, suc, _+_, _*_, _/_, _%_}
 use mathlib.Core.List.{List, [], _∷_}
 use lib.ListN.{getD}

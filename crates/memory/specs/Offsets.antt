@@ -1,4 +1,4 @@
--- The memory map of a lent table: a head, a column of keys, then a body for each place. Each offset is that of the thing before it and its width.
+-- RULES 9.1, 9.14 and 9.15: the memory map of a lent table: a head, a column of keys, then a body for each place. Each offset is that of the thing before it and its width.
 use Prim.Native.Nat.{ℕ, _+_, _*_, _-_, _/_, _%_, _≤_}
 use mathlib.Core.Bool.{Bool, _&&_}
 use mathlib.Core.List.{List}

@@ -1,4 +1,4 @@
--- When a place of the lent table is held: its key and the body's latitude in their ranges, and its track in date.
+-- RULES 9.4, 9.9 and 9.10: when a place of the lent table is held: its key and the body's latitude in their ranges, and its track in date.
 use Prim.Native.Nat.{ℕ}
 use mathlib.Core.Bool.{Bool, _&&_}
 use mathlib.Core.List.{List}

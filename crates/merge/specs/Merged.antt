@@ -1,4 +1,4 @@
--- Two listings as one. The header has the same clock and the sums of the counts; then come the lines of both, in the order of their keys. If they cannot be one, it is 16.
+-- RULES 18.8 and 18.9: two listings as one. The header has the same clock and the sums of the counts; then come the lines of both, in the order of their keys. If they cannot be one, it is 16.
 use Prim.Native.Nat.{ℕ, _+_, _-_, _*_, _^_}
 use mathlib.Core.Bool.{Bool, true, cond, not, _&&_, _||_}
 use mathlib.Core.List.{List, [], _∷_, _++_}

@@ -1,4 +1,4 @@
--- The slice's values as its types have them: a place has numbers of 64 and of 32 bits.
+-- RULES 9.12: the slice's values as its types have them: a place has numbers of 64 and of 32 bits.
 use Prim.Native.Nat.{ℕ, _^_, _<_}
 use lib.ListN.{length, getD}
 use Rattle.track.specs.Track.{noSaved}

@@ -131,7 +131,7 @@ frame-opens f a =
         → (bodyFits b ≡ true) × (bodyMe b ≡ g .me) → g ≡ f → Opens f
     of-frame g h n b r good q = subst Opens q (record { body = b; reads = r; message = opened-as g b h n r; fits = good .0; same = good .1 })
 
--- ---- document 01's table
+-- ---- the table of RULES 3.2
 
 says : (t : Bool) (x y : Accepted) → acceptedSaid (cond t x y) ≡ cond t (acceptedSaid x) (acceptedSaid y)
 says true x y = refl

@@ -1,4 +1,4 @@
--- The decoder's answer is document 01's table: each number exactly when it is earned and none before it is, else the layout and its fields by the layout's widths.
+-- The decoder's answer is the table of RULES 3.2: each number exactly when it is earned and none before it is, else the layout and its fields by the layout's widths.
 -- The definition's tests are the table's, one by one; a field of a part of the bits is a field of the whole.
 -- Assumes nothing.
 use Prim.Native.Nat.{ℕ, _+_, _*_, _/_, _%_, _^_}

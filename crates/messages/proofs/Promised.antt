@@ -1,4 +1,4 @@
--- What the contracts of `decode` and `accept` promise in document 01's terms: whatever meets one says the table's number or values. The definitions of specs/Said
+-- What the contracts of `decode` and `accept` promise in the rules' terms: whatever meets one says the table's number or values. The definitions of specs/Said
 -- carry each case of the answer over.
 -- Assumes nothing.
 use mathlib.Core.Path.{_≡_, ap, _∙_}

@@ -1,4 +1,4 @@
--- Acceptable messages: those that earn none of 1, 3, 4 and 5, which doesn't depend on the table. Nothing is unpacked of ME.
+-- RULES 2.17: acceptable messages: those that earn none of 1, 3, 4 and 5, which doesn't depend on the table. Nothing is unpacked of ME.
 use Prim.Native.Nat.{ℕ}
 use mathlib.Core.List.{List}
 use mathlib.Core.Path.{_≡_}

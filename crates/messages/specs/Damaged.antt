@@ -1,4 +1,4 @@
--- A damaged message: an acceptable one, of whose 112 bits one is flipped.
+-- RULES 4.6: a damaged message: an acceptable one, of whose 112 bits one is flipped.
 use Prim.Native.Nat.{ℕ, _≤_}
 use mathlib.Core.List.{List}
 use mathlib.Core.Path.{_≡_}

@@ -1,4 +1,4 @@
--- What an answer says in document 01's terms: a number of its table, or the layout of ME with the values of all fields in the order of their bits.
+-- RULES 2.3 to 2.5, 3.2 and 19.3: what an answer says in the rules' terms: a number, or the layout of ME with the values of all fields in the order of their bits.
 use Prim.Native.Nat.{ℕ}
 use mathlib.Core.List.{List, [], _∷_, _++_}
 use mathlib.Core.Bool.{Bool, cond, not, _||_}
@@ -32,15 +32,15 @@ acceptedSaid (accept.Refused r) = number (numberOf r)
 
 -- ---- the table's "When, exactly", for the bytes of a message
 
--- 1: message not of 14 bytes
+-- RULES 3.2: 1: message not of 14 bytes
 abbrev pub earns1 : List ℕ → Bool
 earns1 s = not (eqb (length s) 14)
 
--- 3: parity remainder not 0
+-- RULES 4.2: 3: parity remainder not 0
 abbrev pub earns3 : List ℕ → Bool
 earns3 s = not (eqb (remainder s) 0)
 
--- 4: DF or CF not taken
+-- RULES 2.3: 4: DF or CF not taken
 abbrev pub earns4 : List ℕ → Bool
 earns4 s = not (formatTaken (bits 1 5 s) (bits 6 8 s))
 
@@ -48,7 +48,7 @@ earns4 s = not (formatTaken (bits 1 5 s) (bits 6 8 s))
 abbrev pub coarseAt : List ℕ → Bool
 coarseAt s = coarseBy (bits 1 5 s) (bits 6 8 s)
 
--- the layout of ME: that of a coarse message; of others TYPE is bits 33-37 of the message, the subtype bits 38-40
+-- RULES 2.4: the layout of ME: that of a coarse message; of others TYPE is bits 33-37 of the message, the subtype bits 38-40
 abbrev pub layoutIn : List ℕ → Layout
 layoutIn s = cond (coarseAt s) layout.Coarse (layoutAt (bits 33 37 s) (bits 38 40 s))
 
@@ -56,15 +56,15 @@ layoutIn s = cond (coarseAt s) layout.Coarse (layoutAt (bits 33 37 s) (bits 38 4
 abbrev pub typeAt : List ℕ → ℕ
 typeAt s = cond (coarseAt s) 0 (bits 33 37 s)
 
--- the flag: bit 33 of a coarse message, 53 on the surface, 40 in the air, 41 of a velocity
+-- RULES 2.12: the flag: bit 33 of a coarse message, 53 on the surface, 40 in the air, 41 of a velocity
 abbrev pub flagAt : List ℕ → ℕ
 flagAt s = flagBy (layoutIn s) (bits 33 33 s) (bits 53 53 s) (bits 40 40 s) (bits 41 41 s)
 
--- the station: bits 36-39 of a coarse message
+-- RULES 2.14: the station: bits 36-39 of a coarse message
 abbrev pub stationAt : List ℕ → ℕ
 stationAt s = cond (coarseAt s) (bits 36 39 s) 0
 
--- 5: TYPE or subtype not taken, or CF 5 with the flag set, or TYPE 31 under CF 2 or 5; never CF 3
+-- RULES 2.5 and 17.2: 5: TYPE or subtype not taken, or CF 5 with the flag set, or TYPE 31 under CF 2 or 5; never CF 3
 abbrev pub earns5 : List ℕ → Bool
 earns5 s = not (isTaken (layoutIn s)) || isReserved (bits 1 5 s) (bits 6 8 s) (typeAt s) (flagAt s)
 
@@ -83,7 +83,7 @@ startsIn s = startsBy (coarseAt s) (isTraffic (kindAt s)) (typeAt s)
 abbrev pub valuesIn : List ℕ → Values
 valuesIn s = values (layoutIn s) (unpack (headWidths ++ layoutWidths (layoutIn s)) (bits 1 88 s))
 
--- the table as a whole, in its order: a number, or the values
+-- RULES 3.2: the table as a whole, in its order: a number, or the values
 abbrev pub table : List ℕ → Said Values
 table s =
     cond (earns1 s) (number 1)

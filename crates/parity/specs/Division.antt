@@ -1,4 +1,4 @@
--- Division of a polynomial over bits by x^24 plus the terms of 0xFFF409. A polynomial is written as a number: bit n is the term x^n.
+-- RULES 4.1 and 4.4: division of a polynomial over bits by x^24 plus the terms of 0xFFF409. A polynomial is written as a number: bit n is the term x^n.
 use Prim.Native.Nat.{ℕ, _+_, _-_, _*_, _^_}
 use mathlib.Core.List.{List, [], _∷_, _++_}
 use mathlib.Core.Bool.{cond}

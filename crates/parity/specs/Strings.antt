@@ -1,4 +1,4 @@
--- Strings of bits: what the laws of the remainder are said of.
+-- RULES 4.4: strings of bits: what the laws of the remainder are said of.
 use Prim.Native.Nat.{ℕ, _<_}
 use mathlib.Core.List.{List, [], _∷_}
 use lib.ListN.{replicate, length}

@@ -1,4 +1,4 @@
--- A place of the lent table: a key, which stands in a column of keys, and a body, bytes that are one track.
+-- RULES 9.11, 9.15 and 9.16: a place of the lent table: a key, which stands in a column of keys, and a body, bytes that are one track.
 use Prim.Native.Nat.{ℕ, suc, _+_, _*_, _-_, _/_, _%_, _^_, _<_, min}
 use mathlib.Core.Path.{_≡_}
 use mathlib.Core.Bool.{Bool, true, false}

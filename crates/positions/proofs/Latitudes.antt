@@ -1,4 +1,4 @@
--- Two tables of 58 latitudes rise strictly, each by one test that antt computes: the paper's, and the code's, which is the paper's in another unit, rounded down.
+-- Two tables of 58 latitudes rise strictly, each by one test that antt computes: that of RULES 7.4, and the code's, which is the same in another unit, rounded down.
 -- So a search by halves finds the first entry not below: where one entry is below a latitude, all before it are, and the search may go on behind it.
 -- And both searches find the same: a whole number is at most a fraction just where it is at most the fraction rounded down.
 -- Assumes nothing.
@@ -49,7 +49,7 @@ rises (x ∷ []) t i h = absurd (not-suc-le-zero (le-of-suc-le-suc h))
 rises (x ∷ y ∷ ys) t zero h = ltb→lt x y (first-of (ltb x y) (rising (y ∷ ys)) t)
 rises (x ∷ y ∷ ys) t (suc i) h = rises (y ∷ ys) (second-of (ltb x y) (rising (y ∷ ys)) t) i (le-of-suc-le-suc h)
 
--- the paper's: the one test is `tt`
+-- that of RULES 7.4: the one test is `tt`
 pub latitudes-rise : Rising latitudes
 unfolding latitudes rising above
 latitudes-rise = record { long = refl; rise = λ i h. rises latitudes tt i (suc-le-suc h) }
@@ -115,7 +115,7 @@ pub zones-range : (M : ℕ) (r : ℤ) → (0 < zoneCount M r) × (zoneCount M r 
 unfolding zoneCount latitudes
 zones-range M r = first-range 59 latitudes (natAbs r * 36000000000) M (lit< tt)
 
--- ---- the code's table for the paper's
+-- ---- the code's table for that of RULES 7.4
 
 -- k units of the code are at most e of 10^-8 degree just where k is at most the code's entry for e, for all k and e
 pub same-comparison : (k e : ℕ) → k ≤ edge e ↔ k * 36000000000 ≤ e * fine

@@ -1,4 +1,4 @@
--- What the contracts promise in document 01's terms: whatever meets the contract of `encode` says 8 or the counts, and whatever meets that of `pair` or `single`
+-- What the contracts promise in the rules' terms: whatever meets the contract of `encode` says 8 or the counts, and whatever meets that of `pair` or `single`
 -- says 8, 9, 10 in that order or the spot. The tests of the definitions are the table's, each turned over; then by the cases of the tests.
 -- Assumes nothing.
 use Prim.Native.Nat.{ℕ, _*_, _≤_, _<_}

@@ -1,4 +1,4 @@
--- Worked positions at the edges of 8, 10, 270 degrees and a turn, of fine counts and of coarse, and beside the right answers the wrong ones that document 01's slips would give: each computed, so each holds by `refl`.
+-- Worked positions at the edges of 8, 10, 270 degrees and a turn, of fine counts and of coarse, and beside the right answers the wrong ones that the slips of RULES 1.8 would give: each computed, so each holds by `refl`.
 -- Assumes nothing.
 use mathlib.Core.Path.{_≡_, refl}
 use Prim.Native.Nat.{ℕ, suc, _-_, _*_, _/_}

@@ -1,4 +1,4 @@
--- What the theorems speak of: the rounded place of a message, how far apart two places are, the positions near a reference, and how far a longitude is short of a turn.
+-- RULES 7.13, 7.15, 7.17 and 7.18: what the theorems speak of: the rounded place of a message, how far apart two places are, the positions near a reference, and how far a longitude is short of a turn.
 use mathlib.Core.Path.{_≡_}
 use mathlib.Core.Bool.{cond}
 use Prim.Native.Nat.{ℕ, _+_, _-_, _*_, _≤_, _<_, min}

@@ -1,4 +1,4 @@
--- What the answers say in document 01's terms: a number of its table, or what is given instead; and when each number is due.
+-- RULES 7.10, 7.16 and 19.3: what the answers say in the rules' terms: a number, or what is given instead; and when each number is due.
 use mathlib.Core.Bool.{Bool, cond, not, _||_}
 use lib.Dec.{ltb, eqb}
 use lib.IntN.{natAbs}

@@ -1,4 +1,4 @@
--- Whole numbers of either sign: divided and rounded down, the remainder, and rounded to nearest.
+-- RULES 7.3: whole numbers of either sign: divided and rounded down, the remainder, and rounded to nearest.
 use Prim.Native.Nat.{ℕ, suc, _-_, _*_, _/_, _%_}
 use lib.IntN.{ℤ, pos, negsuc, _+ℤ_, _*ℤ_}
 

@@ -1,4 +1,4 @@
--- The zone count NL of a latitude, from 58 latitudes in units of 10^-8 degree.
+-- RULES 7.4: the zone count NL of a latitude, from 58 latitudes in units of 10^-8 degree.
 use mathlib.Core.Bool.{cond}
 use mathlib.Core.List.{List, [], _∷_}
 use Prim.Native.Nat.{ℕ, _-_, _*_, suc, _<_}

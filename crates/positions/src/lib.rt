@@ -258,7 +258,7 @@ fn nearest(a: u64, d: u64) -> u64
     (2 * a + d) / (2 * d)
 }
 
-// The table: the paper's 58 latitudes in its unit, each rounded down.
+// The table: the 58 latitudes of RULES 7.4 in the unit of RULES 7.5, each rounded down.
 fn code_table() -> [u64; 58]
     ensures { λ r. ⌜ r ≡ edges ⌝ }
 {

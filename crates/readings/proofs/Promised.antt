@@ -1,4 +1,4 @@
--- What the contracts promise in document 01's terms: whatever meets one says 8 where a code, a sign or a subtype is wider than its bits, and else what the paper gives; of a body 8 where one field is,
+-- What the contracts promise in the rules' terms: whatever meets one says 8 where a code, a sign or a subtype is wider than its bits, and else what RULES 5 gives; of a body 8 where one field is,
 -- or TYPE and subtype are another layout's, and else only readings that are none of them a number. The definitions of specs/Said carry each case of the answer over.
 -- Assumes nothing.
 use Prim.Native.Nat.{ℕ, _-_, _<_, _^_}

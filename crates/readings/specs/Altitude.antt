@@ -1,4 +1,4 @@
--- Altitude, as document 01 has it under that name, and its step, as R-4 of document 02 has it. The bits are C1 A1 C2 A2 C4 A4 B1 Q B2 D2 B4 D4.
+-- RULES 6.1 to 6.5: altitude and its step. The bits are C1 A1 C2 A2 C4 A4 B1 Q B2 D2 B4 D4.
 use Prim.Native.Nat.{ℕ, _+_, _-_, _*_, _%_, _^_}
 use mathlib.Core.List.{List, [], _∷_}
 use mathlib.Core.Bool.{cond, _||_}

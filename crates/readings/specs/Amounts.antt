@@ -1,4 +1,4 @@
--- Speeds, vertical rates and height differences: a code with a sign bit, by one rule.
+-- RULES 5.5 to 5.8: speeds, vertical rates and height differences: a code with a sign bit, by one rule.
 use Prim.Native.Nat.{ℕ, _-_, _*_, _^_}
 use mathlib.Core.Bool.{cond, _||_}
 use lib.Dec.{eqb}

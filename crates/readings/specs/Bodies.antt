@@ -1,4 +1,4 @@
--- What the fields of a body mean, for each layout of ME; those of a velocity in a traffic service's message (CF 2 and 5) or in another.
+-- RULES 5 and 17: what the fields of a body mean, for each layout of ME; those of a velocity in a traffic service's message (CF 2 and 5) or in another.
 use Prim.Native.Nat.{ℕ}
 use mathlib.Core.Bool.{Bool, cond, _&&_, not}
 use lib.Dec.{leb, eqb}
@@ -40,14 +40,14 @@ identificationMeans b = record { set = categorySetOf (b .typecode); text = textO
 abbrev pub surfaceMeans : Surface → SurfaceReadings
 surfaceMeans b = record { movement = movementOf (b .movement); heading = headingOf 7 (b .heading) }
 
--- of the TYPEs of this layout, 0 and 9-18 have pressure altitude and 20-22 GNSS height
+-- RULES 2.7: of the TYPEs of this layout, 0 and 9-18 have pressure altitude and 20-22 GNSS height
 abbrev pub isGnss : ℕ → Bool
 isGnss type = leb 20 type
 
 abbrev pub airborneMeans : Airborne → AirborneReadings
 airborneMeans b = record { altitude = altitudeOf (b .altitude); gnss = isGnss (b .typecode) }
 
--- source 002, 2.2.17.3.4: in a traffic message ME bit 36 says whether a height difference stands in bits 49 to 56, which have other fields where it is 0
+-- RULES 17.5: source 002, 2.2.17.3.4: in a traffic message ME bit 36 says whether a height difference stands in bits 49 to 56, which have other fields where it is 0
 abbrev pub ifThere : {A : Type 0} → (unknown there : A) (source : ℕ) (traffic : Bool) → A
 ifThere unknown there source traffic = cond (traffic && not (eqb source 1)) unknown there
 
@@ -62,7 +62,7 @@ groundMeans b traffic = record {
   difference = heightDifference (b .vertical .source) (b .vertical .below) (b .vertical .difference) traffic;
 }
 
--- an airspeed has no direction
+-- RULES 5.5: an airspeed has no direction
 abbrev pub airMeans : Air → Bool → AirReadings
 airMeans b traffic = record {
   heading = headingOf 10 (b .heading);
@@ -78,7 +78,7 @@ statusMeans b = record {
   supplementc = supplementOf (hasC (b .version)) (bitC (b .subtype) (b .bit20));
 }
 
--- a pressure altitude; the track status is a field, and stands beside the angle
+-- RULES 17.8: a pressure altitude; the track status is a field, and stands beside the angle
 abbrev pub coarseMeans : Coarse → CoarseReadings
 coarseMeans b = record { altitude = altitudeOf (b .altitude); angle = headingOf 5 (b .angle); speed = coarseSpeedOf (b .speed) }
 
@@ -92,7 +92,7 @@ bodyReadings (body.Air b) traffic = readings.Air (airMeans b traffic)
 bodyReadings (body.Status b) traffic = readings.Status (statusMeans b)
 bodyReadings (body.Coarse b) traffic = readings.Coarse (coarseMeans b)
 
--- a field wider than its bits, or a TYPE or subtype of another layout, is refused
+-- RULES 5.2: a field wider than its bits, or a TYPE or subtype of another layout, is refused
 unfoldable pub readingsOf : Body → Bool → Readings
 readingsOf b traffic = cond (bodyFits b) (bodyReadings b traffic) (readings.Refused Field)
 

@@ -1,4 +1,4 @@
--- The speed of a coarse message in knots, lower edge, as source 002's list has it.
+-- RULES 17.8: the speed of a coarse message in knots, lower edge, as source 002's list has it.
 use Prim.Native.Nat.{ℕ, _-_, _*_}
 use mathlib.Core.Bool.{cond}
 use lib.Dec.{leb, eqb}

@@ -1,4 +1,4 @@
--- Headings: a code of so many bits is that part of a turn, in units of 2^-32 of a turn.
+-- RULES 5.4 and 17.8: headings: a code of so many bits is that part of a turn, in units of 2^-32 of a turn.
 use Prim.Native.Nat.{ℕ, _-_, _*_, _^_}
 use mathlib.Core.Bool.{cond}
 use Rattle.refusals.specs.declared.Refusal.the-variants.{Field}

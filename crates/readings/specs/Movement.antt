@@ -1,4 +1,4 @@
--- Movement in 48ths of a knot, lower edge, as document 01's list has it.
+-- RULES 5.9: movement in 48ths of a knot, lower edge.
 use Prim.Native.Nat.{ℕ, _+_, _-_, _*_}
 use mathlib.Core.Bool.{cond}
 use lib.Dec.{leb, eqb}

@@ -1,4 +1,4 @@
--- What each reading says in document 01's terms: a number of its table, or what the code means.
+-- RULES 5.1, 6.5 and 19.3: what each reading says in the rules' terms: a number, or what the code means.
 use Prim.Native.Nat.{ℕ}
 use mathlib.Core.Bool.{Bool, cond}
 use mathlib.Core.List.{List}

@@ -1,4 +1,4 @@
--- Operational status: the version of the standard, and the supplements that a version has. Versions 0 to 2 are published, 3 to 7 are reserved.
+-- RULES 5.11 and 16.3: operational status: the version of the standard, and the supplements that a version has. Versions 0 to 2 are published, 3 to 7 are reserved.
 use Prim.Native.Nat.{ℕ}
 use mathlib.Core.Bool.{Bool, cond, _&&_}
 use lib.Dec.{leb, eqb}

@@ -1,4 +1,4 @@
--- What every answer owes: to be the only one.
+-- RULES 1.6: what every answer owes: to be the only one.
 use Prim.Native.Nat.{ℕ}
 use mathlib.Core.Path.{_≡_}
 use mathlib.Core.List.{List}

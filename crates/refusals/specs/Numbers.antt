@@ -1,4 +1,4 @@
--- The numbers that come back, as document 01's table has them, and document 02.
+-- RULES 3.2: the numbers that come back.
 use Prim.Native.Nat.{ℕ}
 use Rattle.refusals.specs.declared.Refusal.{Refusal}
 use Rattle.refusals.specs.declared.Refusal.the-variants.{Length, Late, Parity, Format, TypeCode, Full, Places, Field, Latitude, Zones, Block, NoTrack, Overrun, Log, Degrees, Form}

@@ -1,4 +1,4 @@
--- What an answer says in document 01's terms: a number of its table, or what it gives instead.
+-- RULES 3.1 and 19.3: what an answer says in the rules' terms: a number, or what it gives instead.
 use Prim.Native.Nat.{ℕ}
 
 pub data Said (A : Type 0) : Type 0 where

@@ -1,4 +1,4 @@
-// The numbers that come back: one case for each reason to refuse, and the paper's number of each.
+// The numbers that come back: one case for each reason to refuse, and its number in RULES 3.2.
 ghost use mathlib.Core.Path.{_≡_};
 ghost use Rattle.refusals.specs.Numbers.{numberOf};
 
@@ -37,7 +37,7 @@ pub enum Refusal {
     Form,
 }
 
-// The paper's number of a refusal.
+// The number of a refusal.
 pub fn number(r: Refusal) -> u32
     ensures { λ n. ⌜ n ≡ numberOf r ⌝ }
 {

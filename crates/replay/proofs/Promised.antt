@@ -1,4 +1,4 @@
--- What the contract of `replay` promises in document 02's terms: whatever meets it says 14 or 8 exactly when they are due, or the track, held or absent. By the tests.
+-- What the contract of `replay` promises in the rules' terms: whatever meets it says 14 or 8 exactly when they are due, or the track, held or absent. By the tests.
 -- Assumes nothing.
 use Prim.Native.Nat.{ℕ, _/_}
 use mathlib.Core.Path.{_≡_, refl, ap, _∙_}

@@ -1,4 +1,4 @@
--- What an aircraft sees alone: the times at which messages come and its own messages are all that is asked for.
+-- RULES 13.2: what an aircraft sees alone: the times at which messages come and its own messages are all that is asked for.
 use Prim.Native.Nat.{ℕ}
 use mathlib.Core.Bool.{cond}
 use mathlib.Core.Option.{Option, some, none}

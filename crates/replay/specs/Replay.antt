@@ -1,4 +1,4 @@
--- A track worked out again from a log. "The plain method takes the records in order, knows no table, and applies 01's track rules to that key alone, the clock moving at each record."
+-- RULES 13.1 and 13.2: a track worked out again from a log. The method takes the records in order, knows no table, and applies the rules of tracks to that key alone, the clock moving at each record.
 use Prim.Native.Nat.{ℕ, zero, suc, _*_, _/_, _%_}
 use mathlib.Core.Bool.{Bool, false, cond, not, _&&_, _||_}
 use mathlib.Core.Option.{none}

@@ -1,4 +1,4 @@
--- What the answer says in document 02's terms: 14 or 8, or the track of the key, held or absent.
+-- RULES 13.4 and 19.3: what the answer says in the rules' terms: 14 or 8, or the track of the key, held or absent.
 use Prim.Native.Nat.{ℕ, _/_}
 use mathlib.Core.Bool.{Bool, cond, not, _||_}
 use mathlib.Core.List.{List}

@@ -1,4 +1,4 @@
--- What the contracts promise in document 01's terms: whatever meets the contract of `header_of` says the header's text, or 7, and whatever meets that of `line_of` the text of the key's row, nothing where it has none,
+-- What the contracts promise in the rules' terms: whatever meets the contract of `header_of` says the header's text, or 7, and whatever meets that of `line_of` the text of the key's row, nothing where it has none,
 -- or 7. The definitions of specs/Said carry each case of the answer over, and no text is cut off by its line.
 -- Assumes nothing.
 use Prim.Native.Nat.{ℕ}

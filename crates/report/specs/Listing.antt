@@ -1,4 +1,4 @@
--- The listing of a table, as documents 01 and 02 have it: the header, then the lines of a list of rows, those of the keys held, in the order of the kinds, then by address, each once; of all, or of those with a known position.
+-- RULES 12.1 to 12.6: the listing of a table: the header, then the lines of a list of rows, those of the keys held, in the order of the kinds, then by address, each once; of all, or of those with a known position.
 use Prim.Native.Nat.{ℕ, zero, suc}
 use mathlib.Core.Bool.{Bool, cond, not, _||_}
 use mathlib.Core.List.{List, [], _∷_, _++_}
@@ -27,20 +27,20 @@ use Rattle.report.specs.declared.Report.{Report}
 
 -- ---- what a line says of a track
 
--- latitude signed, longitude from 0
+-- RULES 7.6: latitude signed, longitude from 0
 unfoldable pub latitudeIn : Position → Figure
 latitudeIn p = cond (p .known) (Known (p .spot .latitude)) Unknown
 
 unfoldable pub longitudeIn : Position → Figure
 longitudeIn p = cond (p .known) (Known (pos (p .spot .longitude))) Unknown
 
--- in feet; a code wider than 12 bits, which no body of a table has, is unknown
+-- RULES 12.5: in feet; a code wider than 12 bits, which no body of a table has, is unknown
 unfoldable pub feet : Altitude → Figure
 feet (altitude.Feet z step) = Known z
 feet altitude.Unknown = Unknown
 feet (altitude.Refused r) = Unknown
 
--- how coarse it is, in feet; unknown has no step
+-- RULES 6.6 and 12.5: how coarse it is, in feet; unknown has no step
 unfoldable pub stepIn : Altitude → Figure
 stepIn (altitude.Feet z step) = Known (pos step)
 stepIn altitude.Unknown = Unknown
@@ -78,11 +78,11 @@ keysIn s = keysHeld s (placesIn s)
 
 -- ---- the whole listing
 
--- a track is shown if all are asked for, or if its position is known, whatever its age
+-- RULES 12.2: a track is shown if all are asked for, or if its position is known, whatever its age
 abbrev pub shown : Bool → Position → Bool
 shown all p = all || p .known
 
--- a key's row, if it is held and shown
+-- RULES 12.2: a key's row, if it is held and shown
 unfoldable pub rowFor : Bool → ℕ → Option Track → Option Row
 rowFor all key none = none
 rowFor all key (some t) = cond (shown all (t .position)) (some (rowOf key t)) none
@@ -96,11 +96,11 @@ unfoldable pub rowsOf : Bool → List ℕ → List ℕ → List Row
 rowsOf all s [] = []
 rowsOf all s (key ∷ keys) = asList (rowFor all key (view s key)) ++ rowsOf all s keys
 
--- the rows of a table: the keys that it holds, in order; without those that have no position, unless all are asked for
+-- RULES 12.6: the rows of a table: the keys that it holds, in order; without those that have no position, unless all are asked for
 abbrev pub rowsIn : Bool → List ℕ → List Row
 rowsIn all s = rowsOf all s (keysIn s)
 
--- their texts, one after the other
+-- RULES 12.1: their texts, one after the other
 unfoldable pub texts : List Row → List ℕ
 texts [] = []
 texts (r ∷ rs) = rowText r ++ texts rs
@@ -113,7 +113,7 @@ lineText (some r) = rowText r
 abbrev pub lineFor : Bool → ℕ → Option Track → List ℕ
 lineFor all key v = lineText (rowFor all key v)
 
--- "tracks" counts the rows
+-- RULES 12.1 and 12.3: "tracks" counts the rows
 unfoldable pub headerFor : Bool → List ℕ → ℕ → List ℕ
 headerFor all s bad = headerText (clockOf s) (length (rowsIn all s)) bad
 

@@ -1,4 +1,4 @@
--- What the answers say in document 01's terms: a number of its table, or the text of a line; or nothing, of a key that is not held or not shown.
+-- RULES 12 and 19.3: what the answers say in the rules' terms: a number, or the text of a line; or nothing, of a key that is not held or not shown.
 use Prim.Native.Nat.{ℕ}
 use mathlib.Core.List.{List}
 use mathlib.Core.Option.{Option, some, none}

@@ -1,4 +1,4 @@
--- The altitude that a message tells and a track keeps: the statements of proofs/Altitudes.
+-- RULES 6.6: the altitude that a message tells and a track keeps: the statements of proofs/Altitudes.
 use mathlib.Core.Path.{_≡_}
 use mathlib.Core.Bool.{Bool, false, cond, _&&_}
 use mathlib.Core.Option.{Option, some}

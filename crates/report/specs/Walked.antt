@@ -1,4 +1,4 @@
--- The walk of the keys: the rows of all keys that there are, one after the other; and what a caller prints who asks for the next key again and again, and for the line of each.
+-- RULES 12.1: the walk of the keys: the rows of all keys that there are, one after the other; and what a caller prints who asks for the next key again and again, and for the line of each.
 use Prim.Native.Nat.{ℕ, zero, suc, _+_}
 use mathlib.Core.Path.{_≡_}
 use mathlib.Core.Bool.{Bool}

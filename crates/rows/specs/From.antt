@@ -1,4 +1,4 @@
--- A message back from its 28 numbers; the key and the readings are not read. A number that is wider than its bits, and a layout that is not the one of DF, CF, TYPE and subtype, are refused with 8.
+-- RULES 20.4: a message back from its 28 numbers; the key and the readings are not read. A number that is wider than its bits, and a layout that is not the one of DF, CF, TYPE and subtype, are refused with 8.
 use Prim.Native.Nat.{ℕ}
 use mathlib.Core.Bool.{Bool, cond}
 use mathlib.Core.List.{List, [], _∷_}

@@ -1,4 +1,4 @@
--- A message as 28 numbers: the layout, DF, CA or CF, AA and the key; then its ME fields in the order of their bits, 15 with zeros behind them; then up to four readings. An ME by itself has zeros for what is not its own.
+-- RULES 20.3 and 20.4: a message as 28 numbers: the layout, DF, CA or CF, AA and the key; then its ME fields in the order of their bits, 15 with zeros behind them; then up to four readings. An ME by itself has zeros for what is not its own.
 use Prim.Native.Nat.{ℕ, _+_, _<_}
 use mathlib.Core.Bool.{Bool, cond}
 use mathlib.Core.List.{List, [], _∷_, _++_}

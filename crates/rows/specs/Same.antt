@@ -1,4 +1,4 @@
--- What a message and the numbers that it was read from have in common.
+-- RULES 20.4: what a message and the numbers that it was read from have in common.
 use Prim.Native.Nat.{ℕ, zero, suc}
 use mathlib.Core.Path.{_≡_}
 use mathlib.Core.List.{List, [], _∷_}

@@ -1,4 +1,4 @@
--- A damaged message, one bit of an acceptable one flipped, to any table at any time: 7, then 2, and else 3. By the paper's table, in which it earns 3 and not 1. And what a call accepted is acceptable.
+-- A damaged message, one bit of an acceptable one flipped, to any table at any time: 7, then 2, and else 3. By the table of RULES 3.2, in which it earns 3 and not 1. And what a call accepted is acceptable.
 -- Assumes nothing.
 use Prim.Native.Nat.{ℕ}
 use mathlib.Core.Bool.{Bool, true, false, cond}

@@ -1,4 +1,4 @@
--- The answer to a received message is document 01's table, in its order, for any table of any form and any message. The definition's first three tests are the table's; what is delivered says what the decoder says,
+-- The answer to a received message is the table of RULES 3.2, in the order of RULES 3.3, for any table of any form and any message. The definition's first three tests are the table's; what is delivered says what the decoder says,
 -- which is the table of messages, and 6 or 12 in the place of a message for which there is no room or no track.
 -- Assumes nothing.
 use Prim.Native.Nat.{ℕ}

@@ -1,4 +1,4 @@
--- What the rules answer, in document 01's terms: 7, for a set-up then 8, or what the table holds. Each by its tests; of a received message it is Exactly that says it.
+-- What the rules answer, in the rules' terms: 7, for a set-up then 8, or what the table holds. Each by its tests; of a received message it is Exactly that says it.
 -- Assumes nothing.
 use Prim.Native.Nat.{ℕ}
 use mathlib.Core.Bool.{Bool, true, false, cond, not}

@@ -1,4 +1,4 @@
--- Two tables, of one form or of two, agree: each place holds what the other's holds.
+-- RULES 19.2: two tables, of one form or of two, agree: each place holds what the other's holds.
 use Prim.Native.Nat.{ℕ, _<_, _^_}
 use mathlib.Core.Bool.{true}
 use mathlib.Core.Path.{_≡_}

@@ -1,4 +1,4 @@
--- What a form of the lent table is: how its head and its places are read and written. The rules are said over any form, and their laws are proved of any that keeps the sixteen below.
+-- RULES 9.4 and 19.2: what a form of the lent table is: how its head and its places are read and written. The rules are said over any form, and their laws are proved of any that keeps the sixteen below.
 use Prim.Native.Nat.{ℕ, _^_, _<_}
 use mathlib.Core.Bool.{Bool, true, false, cond, _&&_}
 use mathlib.Core.Path.{_≡_}

@@ -1,4 +1,4 @@
--- The next key, of a number that is 0 where there is none.
+-- RULES 9.8: the next key, of a number that is 0 where there is none.
 use Prim.Native.Nat.{ℕ}
 use mathlib.Core.Bool.{cond}
 use lib.Dec.{eqb}

@@ -1,4 +1,4 @@
--- The rules of the lent table, over any form: set-up, what a received message does, and what can be read.
+-- RULES 3.3 to 3.8 and 9: the rules of the lent table, over any form: set-up, what a received message does, and what can be read.
 use Prim.Native.Nat.{ℕ}
 use mathlib.Core.Bool.{Bool, cond, not, _&&_}
 use mathlib.Core.List.{List}
@@ -41,11 +41,11 @@ setUp F s o =
 
 -- ---- the place of a key
 
--- the lowest place held at the clock with the key; the number of places if there is none
+-- RULES 9.5 and 9.9: the lowest place held at the clock with the key; the number of places if there is none
 unfoldable pub placeOf : {S : Type 0} → Form S → S → ℕ → ℕ → ℕ
 placeOf F s clock key = lowest (λ i. holds clock key (F .cell s i)) (F .count s)
 
--- the lowest free place: one that is not held at the clock
+-- RULES 9.5: the lowest free place: one that is not held at the clock
 unfoldable pub freePlace : {S : Type 0} → Form S → S → ℕ → ℕ
 freePlace F s clock = lowest (λ i. not (isHeld clock (F .cell s i))) (F .count s)
 
@@ -55,7 +55,7 @@ freePlace F s clock = lowest (λ i. not (isHeld clock (F .cell s i))) (F .count 
 abbrev pub placed : {S : Type 0} → Form S → S → ℕ → ℕ → Stepped → After S Decoded
 placed F s i key t = after (t .answer) (F .stored s i key (t .track))
 
--- a message whose key is not held, and that gets no place: 6 if it may start a track, else 12
+-- RULES 3.5: a message whose key is not held, and that gets no place: 6 if it may start a track, else 12
 abbrev pub turnedAway : Bool → Refusal
 turnedAway starts = cond starts Full NoTrack
 
@@ -86,7 +86,7 @@ lookedUp F s key =
     (record { answer = holding.Held; track = F .cell s (placeOf F s (F .clock s) key) .track })
     (record { answer = holding.Unheld; track = newTrack }))
 
--- the smallest key above a given one that is held at the table's clock; 0 if there is none
+-- RULES 9.8: the smallest key above a given one that is held at the table's clock; 0 if there is none
 abbrev pub leastAbove : {S : Type 0} → Form S → S → ℕ → ℕ
 leastAbove F s above = smallest (λ i. F .cell s i .key) (λ i. isHeld (F .clock s) (F .cell s i)) above (F .count s)
 

@@ -1,4 +1,4 @@
--- What the answers say in document 01's terms, of any form: a number of its table, or what the lent table holds; and for a received message the paper's whole table, in its order.
+-- RULES 3.2 to 3.6 and 19.3: what the answers say in the rules' terms, of any form: a number, or what the lent table holds; and for a received message the whole table of numbers, in its order.
 use Prim.Native.Nat.{ℕ}
 use mathlib.Core.Bool.{Bool, cond, not, _&&_}
 use mathlib.Core.List.{List}
@@ -84,23 +84,23 @@ keyHeld F s time k = ltb (placeOf F s time k) (F .count s)
 abbrev pub placeFree : {S : Type 0} → Form S → S → ℕ → Bool
 placeFree F s time = ltb (freePlace F s time) (F .count s)
 
--- 6: a message that may start a track, key not held and no place free
+-- RULES 3.5: 6: a message that may start a track, key not held and no place free
 abbrev pub earns6 : {S : Type 0} → Form S → S → List ℕ → ℕ → Bool
 earns6 F s m time = not (keyHeld F s time (keyIn m)) && (startsIn m && not (placeFree F s time))
 
--- 12, in its place: one that may not, key not held
+-- RULES 3.5 and 9.6: 12, in its place: one that may not, key not held
 abbrev pub earns12 : {S : Type 0} → Form S → S → List ℕ → ℕ → Bool
 earns12 F s m time = not (keyHeld F s time (keyIn m)) && not (startsIn m)
 
--- 7: a table of 0 or more than 1,024 places, or not of whole places
+-- RULES 3.6: 7: a table of 0 or more than 1,024 places, or not of whole places
 abbrev pub earns7 : {S : Type 0} → Form S → S → Bool
 earns7 F s = not (F .whole s)
 
--- 8: a latitude outside -2^30..2^30, of the site that a set-up is given
+-- RULES 3.6: 8: a latitude outside -2^30..2^30, of the site that a set-up is given
 abbrev pub earns8 : Site → Bool
 earns8 o = o .known && not (poleToPole (o .spot .latitude))
 
--- for a set-up 7 precedes 8
+-- RULES 3.6: for a set-up 7 precedes 8
 abbrev pub setUpTable : {S : Type 0} → Form S → S → Site → Said Unit
 setUpTable F s o = cond (earns7 F s) (number 7) (cond (earns8 o) (number 8) done)
 

@@ -1,4 +1,4 @@
--- The two searches among things that are numbered: the lowest that passes a test, and the smallest key above a given one.
+-- RULES 9.5 and 9.8: the two searches among things that are numbered: the lowest that passes a test, and the smallest key above a given one.
 use Prim.Native.Nat.{ℕ, zero, suc}
 use mathlib.Core.Bool.{Bool, cond, _&&_, _||_}
 use lib.Dec.{eqb, ltb}

@@ -1,4 +1,4 @@
--- The abstract table: its clock, its site, and the track of each key that it holds.
+-- RULES 9.2 to 9.6: the abstract table: its clock, its site, and the track of each key that it holds.
 use Prim.Native.Nat.{ℕ, _≤_, _<_}
 use mathlib.Core.Bool.{Bool, true, false, cond}
 use mathlib.Core.Logic.{_⊎_}

@@ -1,4 +1,4 @@
--- A number of 32 bits that can be below zero, 2^32 up, so that it is not.
+-- RULES 20.2: a number of 32 bits that can be below zero, 2^32 up, so that it is not.
 use Prim.Native.Nat.{ℕ, suc, _+_, _-_}
 use lib.IntN.{ℤ, pos, negsuc}
 

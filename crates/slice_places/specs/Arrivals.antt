@@ -1,4 +1,4 @@
--- What a message that arrives earns, and what it puts at its place: decided by value for the functions that touch the slice.
+-- RULES 9.5: what a message that arrives earns, and what it puts at its place: decided by value for the functions that touch the slice.
 use Prim.Native.Nat.{ℕ}
 use mathlib.Core.Bool.{Bool, true, false, cond, not}
 use mathlib.Core.List.{List}

@@ -1,4 +1,4 @@
--- What is decided of the places by value, where no message is at hand: in a set-up, a look and a walk.
+-- RULES 19.2: what is decided of the places by value, where no message is at hand: in a set-up, a look and a walk.
 use Prim.Native.Nat.{ℕ}
 use mathlib.Core.Bool.{Bool, true, false, cond, not, _&&_}
 use Rattle.refusals.specs.declared.Refusal.{Refusal}

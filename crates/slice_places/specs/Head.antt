@@ -1,4 +1,4 @@
--- What a table has beside its places: how many they are, its clock, and its site.
+-- RULES 3.4 and 3.9: what a table has beside its places: how many they are, its clock, and its site.
 use Prim.Native.Nat.{ℕ}
 use mathlib.Core.Bool.{Bool, cond, _&&_}
 use lib.Dec.{leb}

@@ -1,4 +1,4 @@
--- A place of the slice: a key and a track, each value of which has the range that the bytes of a table have room for.
+-- RULES 9.9 to 9.11: a place of the slice: a key and a track, each value of which has the range that the bytes of a table have room for.
 use Prim.Native.Nat.{ℕ}
 use mathlib.Core.Bool.{Bool, _&&_}
 use lib.Dec.{ltb}

@@ -1,4 +1,4 @@
--- What the contracts promise in document 01's terms: whatever satisfies the clause of a public function says the number that the paper's table gives, or what the lent slice holds. Each is a law of `rules`, at the slice.
+-- What the contracts promise in the rules' terms: whatever satisfies the clause of a public function says the number that RULES 3.2 gives, or what the lent slice holds. Each is a law of `rules`, at the slice.
 -- Assumes nothing.
 use mathlib.Core.Bool.{cond}
 use mathlib.Core.Path.{_≡_, ap, sym, _∙_}

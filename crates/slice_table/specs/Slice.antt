@@ -1,4 +1,4 @@
--- The lent slice of places, with its head, as a form of the table.
+-- RULES 9.2 and 19.2: the lent slice of places, with its head, as a form of the table.
 use Prim.Native.Nat.{ℕ}
 use mathlib.Core.List.{List}
 use lib.ListN.{length, getD, set, replicate}

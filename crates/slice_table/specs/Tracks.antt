@@ -1,4 +1,4 @@
--- The lent table as a slice of places, with its head by value: the rules of any form, at the slice.
+-- RULES 19.2: the lent table as a slice of places, with its head by value: the rules of any form, at the slice.
 use Prim.Native.Nat.{ℕ}
 use mathlib.Core.List.{List}
 use Rattle.messages.specs.declared.Decoded.{Decoded}

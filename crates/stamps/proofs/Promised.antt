@@ -1,4 +1,4 @@
--- What the contracts promise in the papers' terms: whatever meets the contract of a public function says the number that a stamp or a message earns, in the order 1, 7, 2, 13, then 3 to 6 or 12, or its time or values. By the tests, and from there by the law of `rules`.
+-- What the contracts promise in the rules' terms: whatever meets the contract of a public function says the number that a stamp or a message earns, in the order 1, 7, 2, 13, then 3 to 6 or 12, or its time or values. By the tests, and from there by the law of `rules`.
 -- Assumes nothing.
 use Prim.Native.Nat.{ℕ, _+_, _^_}
 use mathlib.Core.Path.{_≡_, refl, ap, _∙_}

@@ -1,4 +1,4 @@
--- A message received with a stamp where nobody asks what it says: the same to the table and the state, and done where the answer is a message.
+-- RULES 10.5: a message received with a stamp where nobody asks what it says: the same to the table and the state, and done where the answer is a message.
 use Rattle.rules.specs.declared.answers.Heard.{Heard}
 use Rattle.rules.specs.Rules.{After, after}
 use Rattle.table.specs.Heard.{heardAs}

@@ -1,4 +1,4 @@
--- What the answers say in the papers' terms: the numbers that a stamp earns, in their order, or its time; and then what a message received at that time earns.
+-- RULES 10.4, 10.5 and 19.3: what the answers say in the rules' terms: the numbers that a stamp earns, in their order, or its time; and then what a message received at that time earns.
 use Prim.Native.Nat.{ℕ, _+_, _^_}
 use mathlib.Core.Bool.{Bool, cond, _&&_}
 use mathlib.Core.List.{List}

@@ -1,4 +1,4 @@
--- Stamps of 32 bits, extended to 64-bit times, and a message received with one; over any form of the table.
+-- RULES 10.1 to 10.6: stamps of 32 bits, extended to 64-bit times, and a message received with one; over any form of the table.
 use Prim.Native.Nat.{ℕ, _+_, _-_, _%_, _^_}
 use mathlib.Core.Bool.{true, false, cond, not}
 use mathlib.Core.List.{List}

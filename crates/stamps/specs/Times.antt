@@ -1,4 +1,4 @@
--- "The times are right if the first accepted stamp is the true time, true times never go back and none is 2^31 milliseconds or more past the last accepted one."
+-- RULES 10.7: the times are right if the first accepted stamp is the true time, true times never go back and none is 2^31 milliseconds or more past the last accepted one.
 use Prim.Native.Nat.{ℕ, _+_, _%_, _^_, _<_, _≤_}
 use mathlib.Core.Bool.{Bool, true, false, cond, not, _||_}
 use mathlib.Core.Option.{Option, some, none}

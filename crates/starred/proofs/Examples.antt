@@ -1,4 +1,4 @@
--- Each of document 01's questions marked * has the answer beside it: both sides are computed, example by example.
+-- Each question of the examples that RULES 1.10 names has the answer beside it: both sides are computed, example by example.
 -- Assumes nothing.
 use mathlib.Core.Path.{_≡_, refl}
 use mathlib.Core.List.{map}

@@ -1,4 +1,4 @@
--- Document 01's examples marked *, under 'Examples and edges': one list, each line a question and its answer.
+-- RULES 1.10: the examples that are proved together: one list, each line a question and its answer.
 use Prim.Native.Nat.{ℕ, suc, _*_, _/_}
 use mathlib.Core.List.{List, [], _∷_}
 use lib.IntN.{ℤ, pos, negℤ}
@@ -43,7 +43,7 @@ pub data Answer : Type 0 where
   located : Spot → Answer
   two : Counts → Answer
   many : ℕ → Answer
-  -- the paper's number of a refusal
+  -- the number of a refusal
   number : ℕ → Answer
 
 -- a number of the table, or what is given instead
@@ -63,7 +63,7 @@ answer (message? bytes) = answered (λ _. taken) (table.said (decoded bytes))
 answer (knots? direction code) = answered amount (speedSaid (speedOf 1 direction code))
 answer (rate? sign code) = answered amount (rateSaid (rateOf sign code))
 
--- ---- an example: a question and the paper's answer to it
+-- ---- an example: a question and the answer to it
 
 infix 70 _is_
 pub data Example : Type 0 where
@@ -110,7 +110,7 @@ up = 0
 
 unfoldable pub examples : List Example
 examples =
-    -- Altitude 128 is -1,200; 2050 is -700; 16 is -1,000; 888 is 10,000; 2688 is unknown. The steps are R-4's of document 02.
+    -- Altitude 128 is -1,200; 2050 is -700; 16 is -1,000; 888 is 10,000; 2688 is unknown. The steps are those of RULES 6.5.
     altitude? 128 is amount (inSteps (minus 1200) 100)
     ∷ altitude? 2050 is amount (inSteps (minus 700) 100)
     ∷ altitude? 16 is amount (inSteps (minus 1000) 25)

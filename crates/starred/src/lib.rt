@@ -1,1 +1,1 @@
-// Theorems only: document 01's examples that are marked with a star. specs/ has the questions and the answers, proofs/ that they agree.
+// Theorems only: the examples of the rules that are proved together, RULES 1.10. specs/ has the questions and the answers, proofs/ that they agree.

@@ -1,4 +1,4 @@
--- What the contracts promise in document 01's terms: whatever meets the contract of a public function says the number that the paper's table gives, or what the lent table holds. Each is a law of `rules`, at the bytes;
+-- What the contracts promise in the rules' terms: whatever meets the contract of a public function says the number that RULES 3.2 gives, or what the lent table holds. Each is a law of `rules`, at the bytes;
 -- of the head, which only the bytes have within, by the test.
 -- Assumes nothing.
 use Prim.Native.Nat.{ℕ}

@@ -1,4 +1,4 @@
--- The lent bytes as a form of the table.
+-- RULES 19.2: the lent bytes as a form of the table.
 use Prim.Native.Nat.{ℕ}
 use mathlib.Core.Bool.{cond}
 use mathlib.Core.List.{List}

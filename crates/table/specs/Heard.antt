@@ -1,4 +1,4 @@
--- What a received message does where nobody asks what it says: the same to the table, and done where the answer is a message.
+-- RULES 9 and 19.3: what a received message does where nobody asks what it says: the same to the table, and done where the answer is a message.
 use Rattle.messages.specs.declared.Decoded.{Decoded}
 use Rattle.messages.specs.declared.Decoded.the-variants as decode
 use Rattle.rules.specs.declared.answers.Heard.{Heard}

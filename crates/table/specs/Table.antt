@@ -1,4 +1,4 @@
--- The lent table in bytes: the rules of any form, at the bytes.
+-- RULES 9: the lent table in bytes: the rules of any form, at the bytes.
 use Prim.Native.Nat.{ℕ}
 use mathlib.Core.Bool.{cond}
 use mathlib.Core.List.{List}

@@ -1,4 +1,4 @@
--- The abstract table of `rules`, of the lent bytes.
+-- RULES 9.8: the abstract table of `rules`, of the lent bytes.
 use Prim.Native.Nat.{ℕ}
 use mathlib.Core.List.{List}
 use mathlib.Core.Option.{Option}

@@ -1,4 +1,4 @@
--- The bytes of a lent table of n places: a head, a key for each place, then a body for each.
+-- RULES 9.14 and 9.16: the bytes of a lent table of n places: a head, a key for each place, then a body for each.
 use Prim.Native.Nat.{ℕ, _+_, _-_, _%_}
 use mathlib.Core.Bool.{Bool, true, cond, _&&_}
 use mathlib.Core.List.{List, _++_}

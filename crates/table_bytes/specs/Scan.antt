@@ -1,4 +1,4 @@
--- What the scan tests, some places at a time, and where a message goes.
+-- RULES 9.5: what the scan tests, some places at a time, and where a message goes.
 use Prim.Native.Nat.{ℕ}
 use mathlib.Core.Bool.{Bool, true, false, cond, not, _&&_}
 use lib.Dec.{eqb, ltb}

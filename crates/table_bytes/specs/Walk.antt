@@ -1,4 +1,4 @@
--- The smallest key that a table holds above a given one: that of `rules`, at the places.
+-- RULES 9.8: the smallest key that a table holds above a given one: that of `rules`, at the places.
 use Prim.Native.Nat.{ℕ}
 use Rattle.rules.specs.Search as search
 use Rattle.table_bytes.specs.Layout.{Place, isHeld}

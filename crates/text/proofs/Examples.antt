@@ -1,4 +1,4 @@
--- The paper's two lines, the line of a coarse message, a line south of the equator and one of a track that has told nothing: computed.
+-- The two lines of RULES 12.9, the line of a coarse message, a line south of the equator and one of a track that has told nothing: computed.
 -- Assumes nothing.
 use mathlib.Core.Path.{_≡_, refl}
 use mathlib.Core.List.{[], _∷_}

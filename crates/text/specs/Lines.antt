@@ -1,4 +1,4 @@
--- A line of the listing as text, in ASCII, as document 01 has it under 'Captures and the listing', with the step of R-4 of document 02 and the kind C of its R-12.
+-- RULES 12.3, 12.4 and 17.9: a line of the listing as text, in ASCII.
 use Prim.Native.Nat.{ℕ, _-_}
 use mathlib.Core.Bool.{cond}
 use mathlib.Core.List.{List, [], _∷_, _++_}

@@ -1,4 +1,4 @@
--- Numbers as text, in ASCII: the digits are 48 on, A to F 65 on, the sign is 45.
+-- RULES 12.4: numbers as text, in ASCII: the digits are 48 on, A to F 65 on, the sign is 45.
 use Prim.Native.Nat.{ℕ, zero, suc, _+_, _/_, _%_}
 use mathlib.Core.Bool.{cond}
 use mathlib.Core.List.{List, [], _∷_, _++_}

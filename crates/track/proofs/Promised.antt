@@ -1,4 +1,4 @@
--- What the contract of `step` promises in document 01's terms: whatever meets it says the number or the values of the decoder's answer, or 8 for a message whose fields do not fit. By the answer, then by the test.
+-- What the contract of `step` promises in the rules' terms: whatever meets it says the number or the values of the decoder's answer, or 8 for a message whose fields do not fit. By the answer, then by the test.
 -- Assumes nothing.
 use Prim.Native.Nat.{ℕ}
 use mathlib.Core.Path.{_≡_, refl, ap, _∙_}

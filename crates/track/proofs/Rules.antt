@@ -1,4 +1,4 @@
--- Document 01's rules of a track, one by one. Each is read off the definitions, once a test in its way is known.
+-- The rules of RULES 8, one by one. Each is read off the definitions, once a test in its way is known.
 -- Assumes nothing.
 use Prim.Native.Nat.{ℕ, _-_, _≤_, _<_}
 use native.Mathlib.Omega.{arith}

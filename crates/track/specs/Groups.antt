@@ -1,4 +1,4 @@
--- The groups of a track. A message replaces its own group whole, unknown included; only the altitude of a TYPE 0 may be left out. A position message leaves its TYPE and, in the air, bit 8 too.
+-- RULES 8.1, 8.6, 8.7 and 16.4: the groups of a track. A message replaces its own group whole, unknown included; only the altitude of a TYPE 0 may be left out. A position message leaves its TYPE and, in the air, bit 8 too.
 use Prim.Native.Nat.{ℕ}
 use mathlib.Core.Bool.{Bool, false, cond}
 use lib.Dec.{leb, eqb}

@@ -1,4 +1,4 @@
--- What is held of an aircraft: its track goes when it is too old, a message steps the track that it finds, and a question for it is answered with it.
+-- RULES 8.2 and 8.3: what is held of an aircraft: its track goes when it is too old, a message steps the track that it finds, and a question for it is answered with it.
 use Prim.Native.Nat.{ℕ, _-_}
 use mathlib.Core.Bool.{Bool, cond}
 use mathlib.Core.Option.{Option, some, none}

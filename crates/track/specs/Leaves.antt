@@ -1,4 +1,4 @@
--- What a message leaves of a track, value by value, where it replaces little: the statements of proofs/Rules.
+-- RULES 8.7 and 17.7: what a message leaves of a track, value by value, where it replaces little: the statements of proofs/Rules.
 use Prim.Native.Nat.{ℕ}
 use mathlib.Core.Path.{_≡_}
 use mathlib.Core.Bool.{true, cond}

@@ -1,4 +1,4 @@
--- What a track means whose values may be any: an ME counts if its TYPE is of its group, and otherwise none was heard; what has no mark is none.
+-- RULES 9.11: what a track means whose values may be any: an ME counts if its TYPE is of its group, and otherwise none was heard; what has no mark is none.
 use Prim.Native.Nat.{ℕ}
 use mathlib.Core.Path.{_≡_}
 use mathlib.Core.List.{[], _∷_}

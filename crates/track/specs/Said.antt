@@ -1,4 +1,4 @@
--- What the answers say in document 01's terms: that of a step is the decoder's passed on, so messages' `said` says it; that of a question is a number, or the track that is held.
+-- RULES 19.3: what the answers say in the rules' terms: that of a step is the decoder's passed on, so messages' `said` says it; that of a question is a number, or the track that is held.
 use mathlib.Core.Bool.{cond, not}
 use mathlib.Core.Option.{Option, some, none}
 use Rattle.refusals.specs.Numbers.{numberOf}

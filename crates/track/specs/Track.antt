@@ -1,4 +1,4 @@
--- Tracks: what one message does to its track, as document 01 has it under that name.
+-- RULES 8.1 to 8.15 and 17.7: what one message does to its track.
 use Prim.Native.Nat.{ℕ, _-_, _%_, _^_}
 use mathlib.Core.List.{[], _∷_}
 use mathlib.Core.Bool.{Bool, true, false, cond}
@@ -32,7 +32,7 @@ use Rattle.whereabouts.specs.Located.{noPosition, sizeOf, airbornePosition, sur
 abbrev pub noSaved : Saved
 noSaved = record { known = false; coarse = false; counts = record { latitude = record { 0 = 0 }; longitude = record { 0 = 0 } }; time = 0 }
 
--- a track that has heard nothing yet
+-- RULES 8.1: a track that has heard nothing yet
 abbrev pub newTrack : Track
 newTrack = record { heard = 0; groups = noGroups; position = noPosition; saved = noSaved ∷ noSaved ∷ [] }
 
@@ -40,11 +40,11 @@ newTrack = record { heard = 0; groups = noGroups; position = noPosition; saved =
 unfoldable pub groupTrack : Track → Groups → ℕ → Track
 groupTrack t g time = record { heard = time; groups = g; position = t .position; saved = t .saved }
 
--- F is 0 for even, 1 for odd
+-- RULES 8.8: F is 0 for even, 1 for odd
 abbrev pub formatOf : ℕ → Format
 formatOf f = cond (eqb f 0) Even Odd
 
--- the position after a message; on 8, which only a track or a site with values out of their range earns, it stays
+-- RULES 8.15: the position after a message; on 8, which only a track or a site with values out of their range earns, it stays
 abbrev pub placedOr : Placed → Position → Position
 placedOr (placed.At found) p = found
 placedOr (placed.Refused r) p = p
@@ -63,7 +63,7 @@ airborneGroups g b = positioned (high g (b .typecode) (b .altitude)) (b .typecod
 abbrev pub coarseGroups : Groups → Coarse → ℕ → Groups
 coarseGroups g b me = atPressure (moving g true me) (b .altitude)
 
--- a position in the air, fine or coarse, is saved by its F, then paired with the other one
+-- RULES 8.8: a position in the air, fine or coarse, is saved by its F, then paired with the other one
 unfoldable pub savedTrack : Track → Groups → Bool → ℕ → Counts → ℕ → Track
 savedTrack t g coarse f counts time =
     record {
@@ -79,11 +79,11 @@ airborneTrack t b time = savedTrack t (airborneGroups (t .groups) b) false (b .f
 abbrev pub coarseTrack : Track → Coarse → ℕ → ℕ → Track
 coarseTrack t b me time = savedTrack t (coarseGroups (t .groups) b me) true (b .f) (coarseCounts b) time
 
--- TYPE 0 has the airborne layout and no position: only the altitude that it reports counts
+-- RULES 8.7: TYPE 0 has the airborne layout and no position: only the altitude that it reports counts
 abbrev pub airborneStep : Track → Airborne → ℕ → Track
 airborneStep t b time = cond (eqb (b .typecode) 0) (groupTrack t (reported (t .groups) (b .altitude)) time) (airborneTrack t b time)
 
--- a surface message clears the two saved ones
+-- RULES 8.11: a surface message clears the two saved ones
 unfoldable pub surfaceTrack : Track → Surface → ℕ → Site → ℕ → Track
 surfaceTrack t b me site time =
     record {
@@ -93,7 +93,7 @@ surfaceTrack t b me site time =
       saved = noSaved ∷ noSaved ∷ [];
     }
 
--- by the layout of the message
+-- RULES 8.5: by the layout of the message
 abbrev pub stepBody : Track → Body → ℕ → Site → ℕ → Track
 stepBody t (body.Identification b) me site time = groupTrack t (identified (t .groups) me) time
 stepBody t (body.Surface b) me site time = surfaceTrack t b me site time
@@ -111,7 +111,7 @@ stepTaken t (read.Refused r) me site time = t
 abbrev pub stepMe : Track → Bool → ℕ → Site → ℕ → Track
 stepMe t coarse n site time = stepTaken t (takenBy coarse (n % 2 ^ 56)) (n % 2 ^ 56) site time
 
--- what the decoder's answer does: a message steps the track, and a refusal is passed on and leaves it; a message whose ME fields do not fit is 8 (DF, CA or CF and AA are not read here)
+-- RULES 8.5 and 8.15: what the decoder's answer does: a message steps the track, and a refusal is passed on and leaves it; a message whose ME fields do not fit is 8 (DF, CA or CF and AA are not read here)
 abbrev pub stepped : Track → Decoded → Site → ℕ → Stepped
 stepped t (decode.Refused r) site time = record { answer = decode.Refused r; track = t }
 stepped t (decode.Message m) site time =

@@ -1,4 +1,4 @@
--- What is handed out of a track that was asked for, in a table or of a log.
+-- RULES 20.5: what is handed out of a track that was asked for, in a table or of a log.
 use Prim.Native.Nat.{ℕ}
 use mathlib.Core.List.{List, [], _∷_}
 use Rattle.refusals.specs.Numbers.{numberOf}

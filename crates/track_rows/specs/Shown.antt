@@ -1,4 +1,4 @@
--- What people are shown of a track, 18 readings: entries of the rows of the MEs that last gave identification, velocity and surface fields. Where none did, or one of another layout stands, they are unknown. Of kind C the velocity is a coarse message's ME, whatever its bits.
+-- RULES 8.13, 8.14 and 20.5: what people are shown of a track, 18 readings: entries of the rows of the MEs that last gave identification, velocity and surface fields. Where none did, or one of another layout stands, they are unknown. Of kind C the velocity is a coarse message's ME, whatever its bits.
 use Prim.Native.Nat.{ℕ, suc, _+_, _*_}
 use mathlib.Core.Bool.{Bool, false, cond, _||_}
 use mathlib.Core.List.{List, [], _∷_, _++_}

@@ -1,4 +1,4 @@
--- The integrity of a track as 6 numbers: the version of the standard, supplements A, B and C, and the integrity as a reading, 0 unknown, 1 NUC, 2 NIC.
+-- RULES 20.5: the integrity of a track as 6 numbers: the version of the standard, supplements A, B and C, and the integrity as a reading, 0 unknown, 1 NUC, 2 NIC.
 use Prim.Native.Nat.{ℕ}
 use mathlib.Core.List.{List, [], _∷_, _++_}
 use Rattle.keys.specs.declared.Kind.{Kind}

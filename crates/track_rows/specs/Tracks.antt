@@ -1,4 +1,4 @@
--- A track as 72 numbers: 30 as it is kept, 36 that people are shown, and 6 of its integrity.
+-- RULES 20.5: a track as 72 numbers: 30 as it is kept, 36 that people are shown, and 6 of its integrity.
 use Prim.Native.Nat.{ℕ, _+_}
 use mathlib.Core.List.{List, [], _∷_, _++_}
 use lib.ListN.{getD}

@@ -1,4 +1,4 @@
--- What the contracts promise in document 01's terms: whatever meets the contract of `airborne_position` or `surface_position` says 8 or gives a position, and 8 only
+-- What the contracts promise in the rules' terms: whatever meets the contract of `airborne_position` or `surface_position` says 8 or gives a position, and 8 only
 -- where a value that is known is out of its range. By the definitions, each from the one below it: 9 and 10 of a pair or of a single reading are never handed out.
 -- Assumes nothing.
 use Prim.Native.Nat.{ℕ, _*_}

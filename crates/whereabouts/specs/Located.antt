@@ -1,4 +1,4 @@
--- Where a message puts its aircraft: by its partner, by one reference, or nowhere new. Values out of their range earn 8 where they are read, and it is passed on.
+-- RULES 7.20, 8.8 to 8.12 and 17.7: where a message puts its aircraft: by its partner, by one reference, or nowhere new. Values out of their range earn 8 where they are read, and it is passed on.
 use Prim.Native.Nat.{ℕ, _-_}
 use mathlib.Core.Bool.{Bool, true, false, cond, not, _&&_}
 use lib.Dec.{leb, eqb}
@@ -31,23 +31,23 @@ noSite = record { known = false; spot = record { latitude = pos 0; longitude = 0
 abbrev pub siteAt : Spot → Site
 siteAt spot = record { known = true; spot = spot }
 
--- a time is at most so old; one after the clock has age 0
+-- RULES 8.2: a time is at most so old; one after the clock has age 0
 abbrev pub isWithin : ℕ → ℕ → ℕ → Bool
 isWithin most clock time = leb (clock - time) most
 
--- the track's position, if at most 120,000 old
+-- RULES 8.9: the track's position, if at most 120,000 old
 abbrev pub isFresh : Position → ℕ → Bool
 isFresh p clock = p .known && isWithin 120000 clock (p .time)
 
--- a position found takes the message's time
+-- RULES 8.12: a position found takes the message's time
 abbrev pub foundAt : Spot → ℕ → Position
 foundAt spot time = record { known = true; spot = spot; time = time }
 
--- 8 is passed on; of another number something else comes
+-- RULES 8.15: 8 is passed on; of another number something else comes
 abbrev pub passedOn : Refusal → Placed → Placed
 passedOn r other = cond (eqb (numberOf r) 8) (placed.Refused r) other
 
--- on 9 the position stays
+-- RULES 8.10: on 9 the position stays
 abbrev pub settled : Found → Position → ℕ → Placed
 settled (At spot) p time = placed.At (foundAt spot time)
 settled (Refused r) p time = passedOn r (placed.At p)
@@ -56,16 +56,16 @@ settled (Refused r) p time = passedOn r (placed.At p)
 unfoldable pub readNear : Spot → Position → Size → Counts → Turn → Format → ℕ → Placed
 readNear reference p size counts turn format time = settled (singly (countSize size) reference counts turn format) p time
 
--- an airborne message is read singly against the track's position if at most 120,000 old; otherwise the position stays
+-- RULES 8.9: an airborne message is read singly against the track's position if at most 120,000 old; otherwise the position stays
 unfoldable pub readSingly : Position → Size → Counts → Format → ℕ → Placed
 readSingly p size counts format time = cond (isFresh p time) (readNear (p .spot) p size counts Airborne format time) (placed.At p)
 
--- the later message is the one being processed
+-- RULES 8.8: the later message is the one being processed
 unfoldable pub pairedWith : Counts → Size → Counts → Format → Found
 pairedWith partner size counts Even = paired (countSize size) counts partner Even
 pairedWith partner size counts Odd = paired (countSize size) partner counts Odd
 
--- on 9 or 10 it is read singly
+-- RULES 8.9: on 9 or 10 it is read singly
 abbrev pub afterPair : Found → Position → Size → Counts → Format → ℕ → Placed
 afterPair (At spot) p size counts format time = placed.At (foundAt spot time)
 afterPair (Refused r) p size counts format time = passedOn r (readSingly p size counts format time)
@@ -74,23 +74,23 @@ afterPair (Refused r) p size counts format time = passedOn r (readSingly p size 
 abbrev pub sizeOf : Bool → Size
 sizeOf coarse = cond coarse Coarse Fine
 
--- coarse counts go with a coarse message, fine ones with a fine one
+-- RULES 17.7: coarse counts go with a coarse message, fine ones with a fine one
 abbrev pub sameSize : Bool → Size → Bool
 sameSize coarse Fine = not coarse
 sameSize coarse Coarse = coarse
 
--- the other message is a message's partner if it is known, of its size and at most 10,000 old
+-- RULES 8.8 and 17.7: the other message is a message's partner if it is known, of its size and at most 10,000 old
 unfoldable pub isPartner : Saved → Size → ℕ → Bool
 isPartner saved size time = saved .known && sameSize (saved .coarse) size && isWithin 10000 time (saved .time)
 
--- an airborne message is paired with its partner; failing that it is read singly
+-- RULES 8.8: an airborne message is paired with its partner; failing that it is read singly
 unfoldable pub airbornePosition : Position → Saved → Size → Counts → Format → ℕ → Placed
 airbornePosition p partner size counts format time =
     cond (isPartner partner size time)
     (afterPair (pairedWith (partner .counts) size counts format) p size counts format time)
     (readSingly p size counts format time)
 
--- a surface message, which is never coarse, is read singly against the track's position within 120,000, else the site, else not at all; on 9 the position stays
+-- RULES 7.20 and 8.11: a surface message, which is never coarse, is read singly against the track's position within 120,000, else the site, else not at all; on 9 the position stays
 unfoldable pub surfacePosition : Position → Site → Counts → Format → ℕ → Placed
 surfacePosition p site counts format time =
     cond (isFresh p time) (readNear (p .spot) p Fine counts Surface format time)

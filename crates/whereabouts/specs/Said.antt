@@ -1,4 +1,4 @@
--- What the answers say in document 01's terms: 8, or the position after the message.
+-- RULES 19.3: what the answers say in the rules' terms: 8, or the position after the message.
 use mathlib.Core.Path.{_≡_}
 use mathlib.Core.Bool.{Bool, true}
 use Rattle.refusals.specs.Numbers.{numberOf}

@@ -1,4 +1,4 @@
--- What the contract promises in document 01's terms: whatever meets it says 1, 7, or the text of the listing, for which the buffer has room; the text is what the calls give one by one; its number of tracks is that of its lines.
+-- What the contract promises in the rules' terms: whatever meets it says 1, 7, or the text of the listing, for which the buffer has room; the text is what the calls give one by one; its number of tracks is that of its lines.
 -- Assumes nothing.
 use Prim.Native.Nat.{ℕ, zero, suc, _*_, _≤_, _<_}
 use native.Mathlib.Omega.{arith}

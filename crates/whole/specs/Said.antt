@@ -1,4 +1,4 @@
--- What the answer says in document 01's terms: a number of its table, or what is in the buffer.
+-- RULES 12.1 and 19.3: what the answer says in the rules' terms: a number, or what is in the buffer.
 use Prim.Native.Nat.{ℕ}
 use mathlib.Core.List.{List}
 use Rattle.refusals.specs.Numbers.{numberOf}

@@ -1,4 +1,4 @@
--- The whole listing of a table in one buffer, with zeros behind the text; and the array in which the keys were sorted.
+-- RULES 12.8 and 20.7: the whole listing of a table in one buffer, with zeros behind the text; and the array in which the keys were sorted.
 use Prim.Native.Nat.{ℕ, zero, suc, _+_, _*_}
 use mathlib.Core.Bool.{Bool, cond, not, _&&_}
 use mathlib.Core.List.{List, [], _∷_, _++_}
