@@ -8,26 +8,8 @@ use borrow.Author.Needs.{needs}
 use Rattle.agree.proofs.agrees.Statement.{statement}
 use Rattle.agree.proofs.agrees.Tie as tie
 
-shows-requires : tie.Need-shows-requires
-shows-requires c κs = search needs
-
 returns : tie.Need-returns
 returns c = sym (shown-agrees _ _ (sym (c .before .shows .ensures) ∙ c .if1 .taken))
-
-beside-requires : tie.Need-beside-requires
-beside-requires c κs = search needs
-
-along-requires : tie.Need-along-requires
-along-requires c κs = search needs
-
-along-requires-2 : tie.Need-along-requires-2
-along-requires-2 c κs = search needs
-
-beside-requires-2 : tie.Need-beside-requires-2
-beside-requires-2 c κs = search needs
-
-along-requires-3 : tie.Need-along-requires-3
-along-requires-3 c κs = search needs
 
 returns-2 : tie.Need-returns-2
 unfolding agreesOf
@@ -42,11 +24,11 @@ pub agrees-spec : {M : Type 1} → statement M
 agrees-spec =
     tie.close
     (tie.spec
-    shows-requires
+    (λ c κs. search needs)
     returns
-    beside-requires
-    along-requires
-    along-requires-2
-    beside-requires-2
-    along-requires-3
+    (λ c κs. search needs)
+    (λ c κs. search needs)
+    (λ c κs. search needs)
+    (λ c κs. search needs)
+    (λ c κs. search needs)
     returns-2)

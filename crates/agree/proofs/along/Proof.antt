@@ -7,21 +7,6 @@ use borrow.Author.Needs.{needs}
 use Rattle.agree.proofs.along.Statement.{statement}
 use Rattle.agree.proofs.along.Tie as tie
 
-beside-requires : tie.Need-beside-requires
-beside-requires c κs = search needs
-
-shows-requires : tie.Need-shows-requires
-shows-requires c κs = search needs
-
-shows-requires-2 : tie.Need-shows-requires-2
-shows-requires-2 c κs = search needs
-
-beside-requires-2 : tie.Need-beside-requires-2
-beside-requires-2 c κs = search needs
-
-shows-requires-3 : tie.Need-shows-requires-3
-shows-requires-3 c κs = search needs
-
 returns : tie.Need-returns
 unfolding along
 returns c =
@@ -35,9 +20,9 @@ pub along-spec : {M : Type 1} → statement M
 along-spec =
     tie.close
     (tie.spec
-    beside-requires
-    shows-requires
-    shows-requires-2
-    beside-requires-2
-    shows-requires-3
+    (λ c κs. search needs)
+    (λ c κs. search needs)
+    (λ c κs. search needs)
+    (λ c κs. search needs)
+    (λ c κs. search needs)
     returns)

@@ -9,23 +9,12 @@ use borrow.Author.Needs.{needs}
 use Rattle.agree.proofs.beside.Statement.{statement}
 use Rattle.agree.proofs.beside.Tie as tie
 
-enum-known-f : tie.Need-enum-known-f
-enum-known-f c = search needs
-
-stepped-requires : tie.Need-stepped-requires
-stepped-requires c κs = search needs
-
-enum-told : tie.Need-enum-told
-enum-told c = search needs
-
 returns : tie.Need-returns
 returns c =
     let way = c .before .before .before .before .args .way in
     let e = toZ-ofZ {w = w64} {z = c .before .before .f .given .0 .0} (record { sfits = c .before .known-told .given .0 .1 }) in
     ap Known (toZ-ofZ {w = w64} (record { sfits = c .stepped .ok }) ∙ c .stepped .ensures ∙ ap (stepped way) e) ∙ sym (ap (moved way) (c .before .before .f .given .1))
 
-returns-2 : tie.Need-returns-2
-returns-2 c = search needs
-
 pub beside-spec : {M : Type 1} → statement M
-beside-spec = tie.close (tie.spec enum-known-f stepped-requires enum-told returns returns-2)
+beside-spec =
+    tie.close (tie.spec (λ c. search needs) (λ c κs. search needs) (λ c. search needs) returns (λ c. search needs))

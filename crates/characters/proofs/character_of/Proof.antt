@@ -12,12 +12,9 @@ returns : tie.Need-returns
 unfolding characterOf
 returns c = simp (le-leb _ _ (c .if1 .taken))
 
-shown-requires : tie.Need-shown-requires
-shown-requires c κs = search needs
-
 returns-2 : tie.Need-returns-2
 unfolding characterOf
 returns-2 c = simp (lt-leb _ _ (c .before .if1 .left)) (ap Shown (c .shown .ensures))
 
 pub character-of-spec : {M : Type 1} → statement M
-character-of-spec = tie.close (tie.spec returns shown-requires returns-2)
+character-of-spec = tie.close (tie.spec returns (λ c κs. search needs) returns-2)

@@ -10,9 +10,6 @@ use Rattle.characters.proofs.shown.Tie as tie
 sub-result : tie.Need-sub-result
 sub-result c = leb-true _ _ (and-left _ _ (c .if1 .taken))
 
-add-result : tie.Need-add-result
-add-result c = search needs
-
 returns : tie.Need-returns
 unfolding shown
 returns c = rw (c .if1 .taken)
@@ -24,9 +21,6 @@ returns-2 c = rw (c .before .if1 .left, eq-eqb _ _ (c .if2 .taken))
 sub-result-2 : tie.Need-sub-result-2
 sub-result-2 c = leb-true _ _ (and-left _ _ (c .if3 .taken))
 
-add-result-2 : tie.Need-add-result-2
-add-result-2 c = search needs
-
 returns-3 : tie.Need-returns-3
 unfolding shown
 returns-3 c = rw (c .before .before .if1 .left, ne-eqb _ _ (c .before .if2 .left), c .if3 .taken)
@@ -37,13 +31,4 @@ returns-4 c = rw (c .before .before .if1 .left, ne-eqb _ _ (c .before .if2 .left
 
 pub shown-spec : {M : Type 1} → statement M
 shown-spec =
-    tie.close
-    (tie.spec
-    sub-result
-    add-result
-    returns
-    returns-2
-    sub-result-2
-    add-result-2
-    returns-3
-    returns-4)
+    tie.close (tie.spec sub-result (λ c. search needs) returns returns-2 sub-result-2 (λ c. search needs) returns-3 returns-4)

@@ -6,18 +6,6 @@ use borrow.Author.Needs.{needs}
 use Rattle.compare.proofs.key_above.Statement.{statement}
 use Rattle.compare.proofs.key_above.Tie as tie
 
-next-requires : tie.Need-next-requires
-next-requires c κs = search needs
-
-enum-known-next : tie.Need-enum-known-next
-enum-known-next c = search needs
-
-enum-told : tie.Need-enum-told
-enum-told c = search needs
-
-enum-told-2 : tie.Need-enum-told-2
-enum-told-2 c = search needs
-
 returns : tie.Need-returns
 unfolding keyOrLimit
 returns c = ap keyOrLimit (sym (c .before .next2 .given .1) ∙ c .before .before .before .next .ensures)
@@ -32,5 +20,4 @@ returns-3 c = ap keyOrLimit (sym (c .enum-told2 .given .1) ∙ c .before .before
 
 pub key-above-spec : {M : Type 1} → statement M
 key-above-spec =
-    tie.close
-    (tie.spec next-requires enum-known-next enum-told enum-told-2 returns returns-2 returns-3)
+    tie.close (tie.spec (λ c κs. search needs) (λ c. search needs) (λ c. search needs) (λ c. search needs) returns returns-2 returns-3)

@@ -7,11 +7,8 @@ use Rattle.degrees.proofs.Steps.{figure-is}
 use Rattle.degrees.proofs.figure.Statement.{statement}
 use Rattle.degrees.proofs.figure.Tie as tie
 
-int-to-float-result : tie.Need-int-to-float-result
-int-to-float-result c = search needs
-
 returns : tie.Need-returns
 returns c = rw (toZ-ofZ (c .before .fits .n)) (figure-is (c .before .args .n) (natAbs-le (c .before .args .n) (c .before .fits .n .sfits)))
 
 pub figure-spec : {M : Type 1} → statement M
-figure-spec = tie.close (tie.spec int-to-float-result returns)
+figure-spec = tie.close (tie.spec (λ c. search needs) returns)

@@ -12,9 +12,6 @@ use Rattle.degrees.proofs.minus.Tie as tie
 fits : (c : tie.Start) → SFits w32 (negsuc (c .args .k))
 fits c = record { sfits = c .pre }
 
-cast-result : tie.Need-cast-result
-cast-result c = search needs
-
 sub-result : tie.Need-sub-result
 sub-result c = rw (toZ-pos w32 {n = c .args .k} (c .pre), minus-is (c .args .k)) (fits c)
 
@@ -22,4 +19,4 @@ returns : tie.Need-returns
 returns c = rw (toZ-pos w32 {n = c .args .k} (c .pre), minus-is (c .args .k), toZ-ofZ (fits c))
 
 pub minus-spec : {M : Type 1} → statement M
-minus-spec = tie.close (tie.spec cast-result sub-result returns)
+minus-spec = tie.close (tie.spec (λ c. search needs) sub-result returns)

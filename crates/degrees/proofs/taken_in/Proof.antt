@@ -9,15 +9,6 @@ use Rattle.degrees.proofs.Signed.{east, west}
 use Rattle.degrees.proofs.taken_in.Statement.{statement}
 use Rattle.degrees.proofs.taken_in.Tie as tie
 
-cast-result : tie.Need-cast-result
-cast-result c = search needs
-
-sub-minus : tie.Need-sub-minus
-sub-minus c = search needs
-
-minus-requires : tie.Need-minus-requires
-minus-requires c κs = search needs
-
 returns : tie.Need-returns
 returns c = toZ-pos w32 {n = c .before .args .longitude} (c .if1 .taken) ∙ sym (east (c .before .args .longitude) (c .if1 .taken))
 
@@ -25,4 +16,4 @@ returns-2 : tie.Need-returns-2
 returns-2 c = toZ-ofZ (record { sfits = c .minus .ok }) ∙ c .minus .ensures ∙ sym (west (c .before .before .args .longitude) (c .before .if1 .left) (omega arith))
 
 pub taken-in-spec : {M : Type 1} → statement M
-taken-in-spec = tie.close (tie.spec cast-result sub-minus minus-requires returns returns-2)
+taken-in-spec = tie.close (tie.spec (λ c. search needs) (λ c. search needs) (λ c κs. search needs) returns returns-2)

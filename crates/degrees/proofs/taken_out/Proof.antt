@@ -13,12 +13,6 @@ use Rattle.degrees.proofs.taken_out.Tie as tie
 up-is : (c : tie.After-raise) → c .raise .result ≡ raised (c .before .args .n)
 up-is c = c .raise .ensures ∙ ap raised (toZ-ofZ (c .before .fits .n))
 
-raise-requires : tie.Need-raise-requires
-raise-requires c κs = search needs
-
-cast-result : tie.Need-cast-result
-cast-result c = search needs
-
 cast-result-2 : tie.Need-cast-result-2
 cast-result-2 c = omega (arith, up-is (c .before), raise-small (c .before .before .args .n) (c .before .before .fits .n .sfits))
 
@@ -33,4 +27,4 @@ returns-2 c =
     rw (up-is (c .before)) (out-east (a .args .n) (a .fits .n .sfits) (omega (arith, c .if1 .left, up-is (c .before))))
 
 pub taken-out-spec : {M : Type 1} → statement M
-taken-out-spec = tie.close (tie.spec raise-requires cast-result cast-result-2 returns returns-2)
+taken-out-spec = tie.close (tie.spec (λ c κs. search needs) (λ c. search needs) cast-result-2 returns returns-2)

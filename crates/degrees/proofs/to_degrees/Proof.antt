@@ -21,21 +21,6 @@ ranged c = record { sfits = omega (arith, c .struct-told .given) }
 up-is : (c : tie.After-raise) → c .raise .result ≡ raised (c .before .before .args .spot .latitude)
 up-is c = c .raise .ensures ∙ ap raised (toZ-ofZ (ranged (c .before)))
 
-raise-requires : tie.Need-raise-requires
-raise-requires c κs = search needs
-
-pole-to-pole-requires : tie.Need-pole-to-pole-requires
-pole-to-pole-requires c κs = search needs
-
-figure-requires : tie.Need-figure-requires
-figure-requires c κs = search needs
-
-taken-in-requires : tie.Need-taken-in-requires
-taken-in-requires c κs = search needs
-
-figure-requires-2 : tie.Need-figure-requires-2
-figure-requires-2 c κs = search needs
-
 pole-is : (c : tie.After-pole-to-pole) (b : Bool) → c .pole-to-pole .result ≡ b → poleToPole (c .before .before .before .args .spot .latitude) ≡ b
 pole-is c b t = tested (c .before .before .before .args .spot .latitude) (c .before .raise .result) (up-is (c .before)) b (sym (c .pole-to-pole .ensures) ∙ t)
 
@@ -55,10 +40,10 @@ pub to-degrees-spec : {M : Type 1} → statement M
 to-degrees-spec =
     tie.close
     (tie.spec
-    raise-requires
-    pole-to-pole-requires
-    figure-requires
-    taken-in-requires
-    figure-requires-2
+    (λ c κs. search needs)
+    (λ c κs. search needs)
+    (λ c κs. search needs)
+    (λ c κs. search needs)
+    (λ c κs. search needs)
     returns
     returns-2)

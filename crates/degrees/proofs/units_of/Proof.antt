@@ -31,12 +31,6 @@ figured c =
 returns : tie.Need-returns
 returns c n h v = subst (λ (y : Float). Exactly y n) (differs-from-itself (c .before .args .x) (subst T (sym (c .if1 .taken)) tt)) v
 
-guess-requires : tie.Need-guess-requires
-guess-requires c κs = search needs
-
-figure-requires : tie.Need-figure-requires
-figure-requires c κs = search needs
-
 float-to-bits-given : tie.Need-float-to-bits-given
 float-to-bits-given c = no-nan (c .before .before .before .args .x) (c .before .before .if1 .left)
 
@@ -60,12 +54,4 @@ returns-3 c n h v =
 
 pub units-of-spec : {M : Type 1} → statement M
 units-of-spec =
-    tie.close
-    (tie.spec
-    returns
-    guess-requires
-    figure-requires
-    float-to-bits-given
-    float-to-bits-due
-    returns-2
-    returns-3)
+    tie.close (tie.spec returns (λ c κs. search needs) (λ c κs. search needs) float-to-bits-given float-to-bits-due returns-2 returns-3)

@@ -4,11 +4,8 @@ use borrow.Author.Needs.{needs}
 use Rattle.encoder.proofs.head_fits.Statement.{statement}
 use Rattle.encoder.proofs.head_fits.Tie as tie
 
-head-taken-requires : tie.Need-head-taken-requires
-head-taken-requires c κs = search needs
-
 returns : tie.Need-returns
 returns c = rw (c .before .before .before .head-taken .ensures)
 
 pub head-fits-spec : {M : Type 1} → statement M
-head-fits-spec = tie.close (tie.spec head-taken-requires returns)
+head-fits-spec = tie.close (tie.spec (λ c κs. search needs) returns)

@@ -5,12 +5,6 @@ use borrow.Author.Needs.{needs}
 use Rattle.encoder.proofs.me_of.Statement.{statement}
 use Rattle.encoder.proofs.me_of.Tie as tie
 
-head-fits-requires : tie.Need-head-fits-requires
-head-fits-requires c κs = search needs
-
-me-of-requires : tie.Need-me-of-requires
-me-of-requires c κs = search needs
-
 returns : tie.Need-returns
 returns c = rw (sym (c .before .before .head-fits .ensures) ∙ c .before .if1 .taken) (c .me-of .ensures)
 
@@ -18,4 +12,4 @@ returns-2 : tie.Need-returns-2
 returns-2 c = rw (sym (c .before .head-fits .ensures) ∙ c .if1 .left)
 
 pub me-of-spec : {M : Type 1} → statement M
-me-of-spec = tie.close (tie.spec head-fits-requires me-of-requires returns returns-2)
+me-of-spec = tie.close (tie.spec (λ c κs. search needs) (λ c κs. search needs) returns returns-2)

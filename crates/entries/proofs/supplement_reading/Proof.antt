@@ -6,21 +6,6 @@ use borrow.Author.Needs.{needs}
 use Rattle.entries.proofs.supplement_reading.Statement.{statement}
 use Rattle.entries.proofs.supplement_reading.Tie as tie
 
-enum-told : tie.Need-enum-told
-enum-told c = search needs
-
-only-requires : tie.Need-only-requires
-only-requires c κs = search needs
-
-enum-known-a : tie.Need-enum-known-a
-enum-known-a c = search needs
-
-cast-known : tie.Need-cast-known
-cast-known c = search needs
-
-known-requires : tie.Need-known-requires
-known-requires c κs = search needs
-
 returns : tie.Need-returns
 returns c = c .only .ensures ∙ sym (ap supplementReading (c .before .enum-told .given .1))
 
@@ -30,4 +15,11 @@ returns-2 c = c .known .ensures ∙ sym (ap supplementReading (c .before .before
 pub supplement-reading-spec : {M : Type 1} → statement M
 supplement-reading-spec =
     tie.close
-    (tie.spec enum-told only-requires enum-known-a cast-known known-requires returns returns-2)
+    (tie.spec
+    (λ c. search needs)
+    (λ c κs. search needs)
+    (λ c. search needs)
+    (λ c. search needs)
+    (λ c κs. search needs)
+    returns
+    returns-2)

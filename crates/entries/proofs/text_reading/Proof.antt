@@ -6,18 +6,6 @@ use borrow.Author.Needs.{needs}
 use Rattle.entries.proofs.text_reading.Statement.{statement}
 use Rattle.entries.proofs.text_reading.Tie as tie
 
-enum-known-a : tie.Need-enum-known-a
-enum-known-a c = search needs
-
-known-requires : tie.Need-known-requires
-known-requires c κs = search needs
-
-enum-told : tie.Need-enum-told
-enum-told c = search needs
-
-only-requires : tie.Need-only-requires
-only-requires c κs = search needs
-
 returns : tie.Need-returns
 returns c = c .known .ensures ∙ sym (ap textReading (c .before .before .a .given .1))
 
@@ -26,4 +14,4 @@ returns-2 c = c .only .ensures ∙ sym (ap textReading (c .before .enum-told .gi
 
 pub text-reading-spec : {M : Type 1} → statement M
 text-reading-spec =
-    tie.close (tie.spec enum-known-a known-requires enum-told only-requires returns returns-2)
+    tie.close (tie.spec (λ c. search needs) (λ c κs. search needs) (λ c. search needs) (λ c κs. search needs) returns returns-2)

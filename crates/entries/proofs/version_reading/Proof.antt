@@ -6,21 +6,6 @@ use borrow.Author.Needs.{needs}
 use Rattle.entries.proofs.version_reading.Statement.{statement}
 use Rattle.entries.proofs.version_reading.Tie as tie
 
-enum-known-a : tie.Need-enum-known-a
-enum-known-a c = search needs
-
-cast-known : tie.Need-cast-known
-cast-known c = search needs
-
-known-requires : tie.Need-known-requires
-known-requires c κs = search needs
-
-enum-told : tie.Need-enum-told
-enum-told c = search needs
-
-only-requires : tie.Need-only-requires
-only-requires c κs = search needs
-
 returns : tie.Need-returns
 returns c = c .known .ensures ∙ sym (ap versionReading (c .before .before .a .given .1))
 
@@ -30,4 +15,11 @@ returns-2 c = c .only .ensures ∙ sym (ap versionReading (c .before .enum-told 
 pub version-reading-spec : {M : Type 1} → statement M
 version-reading-spec =
     tie.close
-    (tie.spec enum-known-a cast-known known-requires enum-told only-requires returns returns-2)
+    (tie.spec
+    (λ c. search needs)
+    (λ c. search needs)
+    (λ c κs. search needs)
+    (λ c. search needs)
+    (λ c κs. search needs)
+    returns
+    returns-2)

@@ -6,15 +6,6 @@ use borrow.Author.Needs.{needs}
 use Rattle.feed.proofs.block_records.Statement.{statement}
 use Rattle.feed.proofs.block_records.Tie as tie
 
-block-of-requires : tie.Need-block-of-requires
-block-of-requires c κs = search needs
-
-enum-known-b : tie.Need-enum-known-b
-enum-known-b c = search needs
-
-enum-told : tie.Need-enum-told
-enum-told c = search needs
-
 returns : tie.Need-returns
 returns c = records-good _ _ (sym (c .before .before .before .block-of .ensures) ∙ c .before .b .given .1)
 
@@ -23,4 +14,4 @@ returns-2 c = records-bad _ _ (sym (c .before .before .block-of .ensures) ∙ c 
 
 pub block-records-spec : {M : Type 1} → statement M
 block-records-spec =
-    tie.close (tie.spec block-of-requires enum-known-b enum-told returns returns-2)
+    tie.close (tie.spec (λ c κs. search needs) (λ c. search needs) (λ c. search needs) returns returns-2)

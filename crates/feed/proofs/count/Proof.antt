@@ -9,9 +9,6 @@ use Rattle.feed.proofs.count.Tie as tie
 returns : tie.Need-returns
 returns c = count-good _ (c .if1 .taken)
 
-add-result : tie.Need-add-result
-add-result c = search needs
-
 returns-2 : tie.Need-returns-2
 returns-2 c = count-bad _ (c .before .if1 .left) (omega arith)
 
@@ -19,4 +16,4 @@ returns-3 : tie.Need-returns-3
 returns-3 c = count-most _ (c .before .if1 .left) (omega arith) (omega arith)
 
 pub count-spec : {M : Type 1} → statement M
-count-spec = tie.close (tie.spec returns add-result returns-2 returns-3)
+count-spec = tie.close (tie.spec returns (λ c. search needs) returns-2 returns-3)

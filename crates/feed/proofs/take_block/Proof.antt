@@ -6,23 +6,8 @@ use borrow.Author.Needs.{needs}
 use Rattle.feed.proofs.take_block.Statement.{statement}
 use Rattle.feed.proofs.take_block.Tie as tie
 
-block-of-requires : tie.Need-block-of-requires
-block-of-requires c κs = search needs
-
-enum-known-count : tie.Need-enum-known-count
-enum-known-count c = search needs
-
-enum-told : tie.Need-enum-told
-enum-told c = search needs
-
 returns : tie.Need-returns
 returns c = block-skipped _ _ _ (sym (c .before .before .block-of .ensures) ∙ c .enum-told .given .1)
-
-take-records-requires : tie.Need-take-records-requires
-take-records-requires c κs = search needs
-
-same-length : tie.Need-same-length
-same-length c = search needs
 
 returns-2 : tie.Need-returns-2
 returns-2 c =
@@ -32,10 +17,10 @@ pub take-block-spec : {M : Type 1} → statement M
 take-block-spec =
     tie.close
     (tie.spec
-    block-of-requires
-    enum-known-count
-    enum-told
+    (λ c κs. search needs)
+    (λ c. search needs)
+    (λ c. search needs)
     returns
-    take-records-requires
-    same-length
+    (λ c κs. search needs)
+    (λ c. search needs)
     returns-2)

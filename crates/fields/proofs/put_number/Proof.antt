@@ -23,18 +23,6 @@ loop-holds c =
     let z : length o - length o ≡ 0 = omega arith in
     (omega arith, refl, rw z (omega arith), drop-length o ∙ ap (λ (k : ℕ). bytesOf k (c .args .n)) (sym z))
 
-sub-i : tie.Need-sub-i Inv-loop μ-loop
-sub-i c = search needs
-
-cast-out : tie.Need-cast-out Inv-loop μ-loop
-cast-out c = search needs
-
-slice-write-out : tie.Need-slice-write-out Inv-loop μ-loop
-slice-write-out c = search needs
-
-loop-less : tie.Need-loop-less Inv-loop μ-loop
-loop-less c = search needs
-
 loop-again : tie.Need-loop-again Inv-loop μ-loop
 loop-again c =
     let o = c .before .loop .out in
@@ -51,9 +39,6 @@ loop-again c =
       rw (e, inv .2) (put-byte o n (i - 1) k (omega arith) (rw d (inv .3))),
     )
 
-same-length : tie.Need-same-length Inv-loop μ-loop
-same-length c = search needs
-
 returns : tie.Need-returns Inv-loop μ-loop
 returns c =
     let l = c .before .loop in
@@ -69,10 +54,10 @@ put-number-spec =
     Inv-loop
     μ-loop
     loop-holds
-    sub-i
-    cast-out
-    slice-write-out
-    loop-less
+    (λ c. search needs)
+    (λ c. search needs)
+    (λ c. search needs)
+    (λ c. search needs)
     loop-again
-    same-length
+    (λ c. search needs)
     returns)

@@ -8,12 +8,6 @@ use Rattle.form.proofs.line_end.Tie as tie
 returns : tie.Need-returns
 returns c = next-line _ _ (line-past _ _ (c .if1 .taken))
 
-piece-end-requires : tie.Need-piece-end-requires
-piece-end-requires c κs = search needs
-
-add-result : tie.Need-add-result
-add-result c = search needs
-
 returns-2 : tie.Need-returns-2
 returns-2 c =
     let p = c .before .piece-end .ensures in
@@ -23,4 +17,4 @@ returns-3 : tie.Need-returns-3
 returns-3 c = next-line _ _ (line-none _ _ (c .before .piece-end .result) (c .before .piece-end .ensures) (c .if2 .left))
 
 pub line-end-spec : {M : Type 1} → statement M
-line-end-spec = tie.close (tie.spec returns piece-end-requires add-result returns-2 returns-3)
+line-end-spec = tie.close (tie.spec returns (λ c κs. search needs) (λ c. search needs) returns-2 returns-3)

@@ -14,18 +14,9 @@ returns : tie.Need-returns
 unfolding integrityOf
 returns c = rw (c .if1 .taken)
 
-is-coarse-requires : tie.Need-is-coarse-requires
-is-coarse-requires c κs = search needs
-
 returns-2 : tie.Need-returns-2
 unfolding integrityOf
 returns-2 c = rw (c .before .before .if1 .left, sym (c .before .is-coarse .ensures) ∙ c .if2 .taken)
-
-version-in-requires : tie.Need-version-in-requires
-version-in-requires c κs = search needs
-
-bits-in-requires : tie.Need-bits-in-requires
-bits-in-requires c κs = search needs
 
 integrity-by-requires : tie.Need-integrity-by-requires
 integrity-by-requires c κs =
@@ -43,4 +34,11 @@ returns-3 c =
 pub integrity-of-spec : {M : Type 1} → statement M
 integrity-of-spec =
     tie.close
-    (tie.spec returns is-coarse-requires returns-2 version-in-requires bits-in-requires integrity-by-requires returns-3)
+    (tie.spec
+    returns
+    (λ c κs. search needs)
+    returns-2
+    (λ c κs. search needs)
+    (λ c κs. search needs)
+    integrity-by-requires
+    returns-3)

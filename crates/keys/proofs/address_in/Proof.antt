@@ -5,9 +5,6 @@ use borrow.Author.Needs.{needs}
 use Rattle.keys.proofs.address_in.Statement.{statement}
 use Rattle.keys.proofs.address_in.Tie as tie
 
-coarse-in-requires : tie.Need-coarse-in-requires
-coarse-in-requires c κs = search needs
-
 returns : tie.Need-returns
 returns c = rw (sym (c .before .coarse-in .ensures) ∙ c .if1 .taken)
 
@@ -15,4 +12,4 @@ returns-2 : tie.Need-returns-2
 returns-2 c = rw (sym (c .before .coarse-in .ensures) ∙ c .if1 .left)
 
 pub address-in-spec : {M : Type 1} → statement M
-address-in-spec = tie.close (tie.spec coarse-in-requires returns returns-2)
+address-in-spec = tie.close (tie.spec (λ c κs. search needs) returns returns-2)

@@ -5,23 +5,12 @@ use borrow.Author.Needs.{needs}
 use Rattle.keys.proofs.kind_in.Statement.{statement}
 use Rattle.keys.proofs.kind_in.Tie as tie
 
-coarse-in-requires : tie.Need-coarse-in-requires
-coarse-in-requires c κs = search needs
-
-flag-in-requires : tie.Need-flag-in-requires
-flag-in-requires c κs = search needs
-
-station-in-requires : tie.Need-station-in-requires
-station-in-requires c κs = search needs
-
 returns : tie.Need-returns
 returns c = rw (sym (c .before .before .before .coarse-in .ensures) ∙ c .before .before .if1 .taken) (cc)
-
-kind-at-requires : tie.Need-kind-at-requires
-kind-at-requires c κs = search needs
 
 returns-2 : tie.Need-returns-2
 returns-2 c = rw (sym (c .before .before .coarse-in .ensures) ∙ c .before .if1 .left) (c .kind-at .ensures)
 
 pub kind-in-spec : {M : Type 1} → statement M
-kind-in-spec = tie.close (tie.spec coarse-in-requires flag-in-requires station-in-requires returns kind-at-requires returns-2)
+kind-in-spec =
+    tie.close (tie.spec (λ c κs. search needs) (λ c κs. search needs) (λ c κs. search needs) returns (λ c κs. search needs) returns-2)

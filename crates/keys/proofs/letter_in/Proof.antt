@@ -6,14 +6,8 @@ use Rattle.keys.specs.Keys.{letterOf}
 use Rattle.keys.proofs.letter_in.Statement.{statement}
 use Rattle.keys.proofs.letter_in.Tie as tie
 
-kind-in-requires : tie.Need-kind-in-requires
-kind-in-requires c κs = search needs
-
-letter-of-requires : tie.Need-letter-of-requires
-letter-of-requires c κs = search needs
-
 returns : tie.Need-returns
 returns c = c .letter-of .ensures ∙ ap letterOf (c .before .kind-in .ensures)
 
 pub letter-in-spec : {M : Type 1} → statement M
-letter-in-spec = tie.close (tie.spec kind-in-requires letter-of-requires returns)
+letter-in-spec = tie.close (tie.spec (λ c κs. search needs) (λ c κs. search needs) returns)

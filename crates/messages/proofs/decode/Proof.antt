@@ -10,24 +10,6 @@ use borrow.Author.Needs.{needs}
 use Rattle.messages.proofs.decode.Statement.{statement}
 use Rattle.messages.proofs.decode.Tie as tie
 
-frame-in-requires : tie.Need-frame-in-requires
-frame-in-requires c κs = search needs
-
-enum-known-opened : tie.Need-enum-known-opened
-enum-known-opened c = search needs
-
-frame-coarse-requires : tie.Need-frame-coarse-requires
-frame-coarse-requires c κs = search needs
-
-body-by-requires : tie.Need-body-by-requires
-body-by-requires c κs = search needs
-
-with-body-requires : tie.Need-with-body-requires
-with-body-requires c κs = search needs
-
-enum-known-opened-2 : tie.Need-enum-known-opened-2
-enum-known-opened-2 c = search needs
-
 returns : tie.Need-returns
 returns c =
     let p = c .before .before .before .before in
@@ -46,4 +28,12 @@ returns-2 c =
 pub decode-spec : {M : Type 1} → statement M
 decode-spec =
     tie.close
-    (tie.spec frame-in-requires enum-known-opened frame-coarse-requires body-by-requires with-body-requires enum-known-opened-2 returns returns-2)
+    (tie.spec
+    (λ c κs. search needs)
+    (λ c. search needs)
+    (λ c κs. search needs)
+    (λ c κs. search needs)
+    (λ c κs. search needs)
+    (λ c. search needs)
+    returns
+    returns-2)

@@ -10,24 +10,9 @@ use borrow.Author.Tests.{ne-eqb}
 use Rattle.messages.proofs.frame_key.Statement.{statement}
 use Rattle.messages.proofs.frame_key.Tie as tie
 
-key-for-requires : tie.Need-key-for-requires
-key-for-requires c κs = search needs
-
 returns : tie.Need-returns
 unfolding kindOf
 returns c = rw (ne-eqb _ 18 (c .before .if1 .taken)) (c .key-for .ensures)
-
-frame-coarse-requires : tie.Need-frame-coarse-requires
-frame-coarse-requires c κs = search needs
-
-flag-in-requires : tie.Need-flag-in-requires
-flag-in-requires c κs = search needs
-
-station-in-requires : tie.Need-station-in-requires
-station-in-requires c κs = search needs
-
-key-by-requires : tie.Need-key-by-requires
-key-by-requires c κs = search needs
 
 returns-2 : tie.Need-returns-2
 returns-2 c =
@@ -43,10 +28,10 @@ pub frame-key-spec : {M : Type 1} → statement M
 frame-key-spec =
     tie.close
     (tie.spec
-    key-for-requires
+    (λ c κs. search needs)
     returns
-    frame-coarse-requires
-    flag-in-requires
-    station-in-requires
-    key-by-requires
+    (λ c κs. search needs)
+    (λ c κs. search needs)
+    (λ c κs. search needs)
+    (λ c κs. search needs)
     returns-2)

@@ -21,23 +21,11 @@ coarse-taken f e =
     let p = each (eqb (f .format) 18) (eqb (f .control) 3) e in
     rw (eqb-true (f .format) 18 (p .0), eqb-true (f .control) 3 (p .1))
 
-is-taken-requires : tie.Need-is-taken-requires
-is-taken-requires c κs = search needs
-
 returns : tie.Need-returns
 returns c = rw (ne-eqb _ 18 (c .before .if1 .taken)) (ap not (c .is-taken .ensures) ∙ or-false _)
 
-frame-coarse-requires : tie.Need-frame-coarse-requires
-frame-coarse-requires c κs = search needs
-
 returns-2 : tie.Need-returns-2
 returns-2 c = coarse-taken (c .before .before .before .before .args .f) (sym (c .before .frame-coarse .ensures) ∙ c .if2 .taken)
-
-is-taken-requires-2 : tie.Need-is-taken-requires-2
-is-taken-requires-2 c κs = search needs
-
-frame-reserved-requires : tie.Need-frame-reserved-requires
-frame-reserved-requires c κs = search needs
 
 returns-3 : tie.Need-returns-3
 returns-3 c =
@@ -51,10 +39,10 @@ pub frame-refused-spec : {M : Type 1} → statement M
 frame-refused-spec =
     tie.close
     (tie.spec
-    is-taken-requires
+    (λ c κs. search needs)
     returns
-    frame-coarse-requires
+    (λ c κs. search needs)
     returns-2
-    is-taken-requires-2
-    frame-reserved-requires
+    (λ c κs. search needs)
+    (λ c κs. search needs)
     returns-3)

@@ -12,18 +12,6 @@ use Rattle.messages.proofs.frame_reserved.Tie as tie
 returns : tie.Need-returns
 returns c = rw (ne-eqb _ 18 (c .if1 .taken))
 
-frame-coarse-requires : tie.Need-frame-coarse-requires
-frame-coarse-requires c κs = search needs
-
-type-by-requires : tie.Need-type-by-requires
-type-by-requires c κs = search needs
-
-flag-in-requires : tie.Need-flag-in-requires
-flag-in-requires c κs = search needs
-
-is-reserved-requires : tie.Need-is-reserved-requires
-is-reserved-requires c κs = search needs
-
 returns-2 : tie.Need-returns-2
 returns-2 c =
     let p = c .before .before .before in
@@ -34,4 +22,4 @@ returns-2 c =
 
 pub frame-reserved-spec : {M : Type 1} → statement M
 frame-reserved-spec =
-    tie.close (tie.spec returns frame-coarse-requires type-by-requires flag-in-requires is-reserved-requires returns-2)
+    tie.close (tie.spec returns (λ c κs. search needs) (λ c κs. search needs) (λ c κs. search needs) (λ c κs. search needs) returns-2)

@@ -8,18 +8,6 @@ use borrow.Author.Needs.{needs}
 use Rattle.messages.proofs.frame_starts.Statement.{statement}
 use Rattle.messages.proofs.frame_starts.Tie as tie
 
-frame-coarse-requires : tie.Need-frame-coarse-requires
-frame-coarse-requires c κs = search needs
-
-traffic-by-requires : tie.Need-traffic-by-requires
-traffic-by-requires c κs = search needs
-
-type-by-requires : tie.Need-type-by-requires
-type-by-requires c κs = search needs
-
-starts-by-requires : tie.Need-starts-by-requires
-starts-by-requires c κs = search needs
-
 returns : tie.Need-returns
 returns c =
     let p = c .before .before .before in
@@ -29,4 +17,5 @@ returns c =
     ∙ starts-alike k (c .before .before .traffic-by .ensures ∙ sym (traffic-is (f .format) (f .control) _ _)) (c .before .type-by .ensures ∙ ap (λ (b : Bool). typeBy b (f .me)) k)
 
 pub frame-starts-spec : {M : Type 1} → statement M
-frame-starts-spec = tie.close (tie.spec frame-coarse-requires traffic-by-requires type-by-requires starts-by-requires returns)
+frame-starts-spec =
+    tie.close (tie.spec (λ c κs. search needs) (λ c κs. search needs) (λ c κs. search needs) (λ c κs. search needs) returns)

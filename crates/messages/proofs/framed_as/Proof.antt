@@ -5,15 +5,9 @@ use borrow.Author.Needs.{needs}
 use Rattle.messages.proofs.framed_as.Statement.{statement}
 use Rattle.messages.proofs.framed_as.Tie as tie
 
-format-taken-requires : tie.Need-format-taken-requires
-format-taken-requires c κs = search needs
-
 returns : tie.Need-returns
 unfolding framed
 returns c = rw (← c .before .format-taken .ensures, c .if1 .taken)
-
-frame-refused-requires : tie.Need-frame-refused-requires
-frame-refused-requires c κs = search needs
 
 returns-2 : tie.Need-returns-2
 unfolding framed
@@ -24,4 +18,4 @@ unfolding framed
 returns-3 c = rw (← c .before .before .before .format-taken .ensures, c .before .before .if1 .left, ← c .before .frame-refused .ensures, c .if2 .left)
 
 pub framed-as-spec : {M : Type 1} → statement M
-framed-as-spec = tie.close (tie.spec format-taken-requires returns frame-refused-requires returns-2 returns-3)
+framed-as-spec = tie.close (tie.spec (λ c κs. search needs) returns (λ c κs. search needs) returns-2 returns-3)

@@ -7,27 +7,6 @@ use borrow.Author.Needs.{needs}
 use Rattle.messages.proofs.head_taken.Statement.{statement}
 use Rattle.messages.proofs.head_taken.Tie as tie
 
-type-of-requires : tie.Need-type-of-requires
-type-of-requires c κs = search needs
-
-flag-of-requires : tie.Need-flag-of-requires
-flag-of-requires c κs = search needs
-
-is-reserved-requires : tie.Need-is-reserved-requires
-is-reserved-requires c κs = search needs
-
-coarse-by-requires : tie.Need-coarse-by-requires
-coarse-by-requires c κs = search needs
-
-is-coarse-requires : tie.Need-is-coarse-requires
-is-coarse-requires c κs = search needs
-
-agree-requires : tie.Need-agree-requires
-agree-requires c κs = search needs
-
-format-taken-requires : tie.Need-format-taken-requires
-format-taken-requires c κs = search needs
-
 returns : tie.Need-returns
 returns c =
     let g = c .before in
@@ -41,11 +20,11 @@ pub head-taken-spec : {M : Type 1} → statement M
 head-taken-spec =
     tie.close
     (tie.spec
-    type-of-requires
-    flag-of-requires
-    is-reserved-requires
-    coarse-by-requires
-    is-coarse-requires
-    agree-requires
-    format-taken-requires
+    (λ c κs. search needs)
+    (λ c κs. search needs)
+    (λ c κs. search needs)
+    (λ c κs. search needs)
+    (λ c κs. search needs)
+    (λ c κs. search needs)
+    (λ c κs. search needs)
     returns)

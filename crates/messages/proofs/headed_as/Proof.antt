@@ -5,15 +5,9 @@ use borrow.Author.Needs.{needs}
 use Rattle.messages.proofs.headed_as.Statement.{statement}
 use Rattle.messages.proofs.headed_as.Tie as tie
 
-format-taken-requires : tie.Need-format-taken-requires
-format-taken-requires c κs = search needs
-
 returns : tie.Need-returns
 unfolding headed
 returns c = rw (← c .before .format-taken .ensures, c .if1 .taken)
-
-frame-reserved-requires : tie.Need-frame-reserved-requires
-frame-reserved-requires c κs = search needs
 
 returns-2 : tie.Need-returns-2
 unfolding headed
@@ -24,5 +18,4 @@ unfolding headed
 returns-3 c = rw (← c .before .before .before .format-taken .ensures, c .before .before .if1 .left, ← c .before .frame-reserved .ensures, c .if2 .left)
 
 pub headed-as-spec : {M : Type 1} → statement M
-headed-as-spec =
-    tie.close (tie.spec format-taken-requires returns frame-reserved-requires returns-2 returns-3)
+headed-as-spec = tie.close (tie.spec (λ c κs. search needs) returns (λ c κs. search needs) returns-2 returns-3)

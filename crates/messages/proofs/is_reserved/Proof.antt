@@ -4,11 +4,8 @@ use borrow.Author.Needs.{needs}
 use Rattle.messages.proofs.is_reserved.Statement.{statement}
 use Rattle.messages.proofs.is_reserved.Tie as tie
 
-traffic-by-requires : tie.Need-traffic-by-requires
-traffic-by-requires c κs = search needs
-
 returns : tie.Need-returns
 returns c = rw (c .traffic-by .ensures)
 
 pub is-reserved-spec : {M : Type 1} → statement M
-is-reserved-spec = tie.close (tie.spec traffic-by-requires returns)
+is-reserved-spec = tie.close (tie.spec (λ c κs. search needs) returns)

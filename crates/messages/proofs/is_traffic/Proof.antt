@@ -6,11 +6,8 @@ use borrow.Author.Needs.{needs}
 use Rattle.messages.proofs.is_traffic.Statement.{statement}
 use Rattle.messages.proofs.is_traffic.Tie as tie
 
-traffic-by-requires : tie.Need-traffic-by-requires
-traffic-by-requires c κs = search needs
-
 returns : tie.Need-returns
 returns c = let m = c .before .args .m in c .traffic-by .ensures ∙ sym (traffic-is (m .format) (m .control) _ _)
 
 pub is-traffic-spec : {M : Type 1} → statement M
-is-traffic-spec = tie.close (tie.spec traffic-by-requires returns)
+is-traffic-spec = tie.close (tie.spec (λ c κs. search needs) returns)

@@ -7,14 +7,8 @@ use borrow.Author.Needs.{needs}
 use Rattle.messages.proofs.key_by.Statement.{statement}
 use Rattle.messages.proofs.key_by.Tie as tie
 
-kind-of-requires : tie.Need-kind-of-requires
-kind-of-requires c κs = search needs
-
-key-for-requires : tie.Need-key-for-requires
-key-for-requires c κs = search needs
-
 returns : tie.Need-returns
 returns c = c .key-for .ensures ∙ ap (λ (k : Kind). keyFor k (c .before .before .args .address)) (c .before .kind-of .ensures)
 
 pub key-by-spec : {M : Type 1} → statement M
-key-by-spec = tie.close (tie.spec kind-of-requires key-for-requires returns)
+key-by-spec = tie.close (tie.spec (λ c κs. search needs) (λ c κs. search needs) returns)

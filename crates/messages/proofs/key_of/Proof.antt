@@ -7,19 +7,10 @@ use borrow.Author.Needs.{needs}
 use Rattle.messages.proofs.key_of.Statement.{statement}
 use Rattle.messages.proofs.key_of.Tie as tie
 
-flag-of-requires : tie.Need-flag-of-requires
-flag-of-requires c κs = search needs
-
-station-of-requires : tie.Need-station-of-requires
-station-of-requires c κs = search needs
-
-key-by-requires : tie.Need-key-by-requires
-key-by-requires c κs = search needs
-
 returns : tie.Need-returns
 returns c =
     let m = c .before .before .before .args .m in
     c .key-by .ensures ∙ ap₂ (λ (g s : ℕ). keyBy (m .format) (m .control) g s (m .address)) (c .before .before .flag-of .ensures) (c .before .station-of .ensures)
 
 pub key-of-spec : {M : Type 1} → statement M
-key-of-spec = tie.close (tie.spec flag-of-requires station-of-requires key-by-requires returns)
+key-of-spec = tie.close (tie.spec (λ c κs. search needs) (λ c κs. search needs) (λ c κs. search needs) returns)

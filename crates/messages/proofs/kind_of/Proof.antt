@@ -6,9 +6,6 @@ use borrow.Author.Needs.{needs}
 use Rattle.messages.proofs.kind_of.Statement.{statement}
 use Rattle.messages.proofs.kind_of.Tie as tie
 
-kind-by-requires : tie.Need-kind-by-requires
-kind-by-requires c κs = search needs
-
 returns : tie.Need-returns
 unfolding kindOf
 returns c = rw (eq-eqb _ 18 (c .before .if1 .taken)) (c .kind-by .ensures)
@@ -18,4 +15,4 @@ unfolding kindOf
 returns-2 c = rw (ne-eqb _ 18 (c .if1 .left))
 
 pub kind-of-spec : {M : Type 1} → statement M
-kind-of-spec = tie.close (tie.spec kind-by-requires returns returns-2)
+kind-of-spec = tie.close (tie.spec (λ c κs. search needs) returns returns-2)

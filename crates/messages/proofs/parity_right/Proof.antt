@@ -7,11 +7,8 @@ use borrow.Author.Needs.{needs}
 use Rattle.messages.proofs.parity_right.Statement.{statement}
 use Rattle.messages.proofs.parity_right.Tie as tie
 
-remainder-of-requires : tie.Need-remainder-of-requires
-remainder-of-requires c κs = search needs
-
 returns : tie.Need-returns
 returns c = ap (λ (n : ℕ). eqb n 0) (c .remainder-of .ensures)
 
 pub parity-right-spec : {M : Type 1} → statement M
-parity-right-spec = tie.close (tie.spec remainder-of-requires returns)
+parity-right-spec = tie.close (tie.spec (λ c κs. search needs) returns)

@@ -7,9 +7,6 @@ use Rattle.messages.proofs.starts_by.Tie as tie
 returns : tie.Need-returns
 returns c = rw (c .if1 .taken)
 
-is-position-requires : tie.Need-is-position-requires
-is-position-requires c κs = search needs
-
 returns-2 : tie.Need-returns-2
 returns-2 c = rw (c .before .before .if1 .left, c .before .if2 .taken) (c .is-position .ensures)
 
@@ -17,4 +14,4 @@ returns-3 : tie.Need-returns-3
 returns-3 c = rw (c .before .if1 .left, c .if2 .left)
 
 pub starts-by-spec : {M : Type 1} → statement M
-starts-by-spec = tie.close (tie.spec returns is-position-requires returns-2 returns-3)
+starts-by-spec = tie.close (tie.spec returns (λ c κs. search needs) returns-2 returns-3)

@@ -6,12 +6,6 @@ use borrow.Author.Needs.{needs}
 use Rattle.messages.proofs.with_body.Statement.{statement}
 use Rattle.messages.proofs.with_body.Tie as tie
 
-enum-known-taken : tie.Need-enum-known-taken
-enum-known-taken c = search needs
-
-enum-known-taken-2 : tie.Need-enum-known-taken-2
-enum-known-taken-2 c = search needs
-
 returns : tie.Need-returns
 returns c =
     let a = c .before .before .before .args in
@@ -23,4 +17,4 @@ returns-2 c =
     sym (ap (withBody (a .format) (a .control) (a .address)) (c .before .taken2 .given .1))
 
 pub with-body-spec : {M : Type 1} → statement M
-with-body-spec = tie.close (tie.spec enum-known-taken enum-known-taken-2 returns returns-2)
+with-body-spec = tie.close (tie.spec (λ c. search needs) (λ c. search needs) returns returns-2)

@@ -11,24 +11,6 @@ use borrow.Author.Needs.{needs}
 use Rattle.parity_words.proofs.seal_of.Statement.{statement}
 use Rattle.parity_words.proofs.seal_of.Tie as tie
 
-remainder-of-requires : tie.Need-remainder-of-requires
-remainder-of-requires c κs = search needs
-
-cast-t6 : tie.Need-cast-t6
-cast-t6 c = search needs
-
-cast-t9 : tie.Need-cast-t9
-cast-t9 c = search needs
-
-cast-t11 : tie.Need-cast-t11
-cast-t11 c = search needs
-
-slice-aggregate-remainder-of : tie.Need-slice-aggregate-remainder-of
-slice-aggregate-remainder-of c = search needs
-
-remainder-of-requires-2 : tie.Need-remainder-of-requires-2
-remainder-of-requires-2 c κs = search needs
-
 returns : tie.Need-returns
 returns c =
     let s = c .before .before .before .before .args .s .now in
@@ -43,10 +25,10 @@ pub seal-of-spec : {M : Type 1} → statement M
 seal-of-spec =
     tie.close
     (tie.spec
-    remainder-of-requires
-    cast-t6
-    cast-t9
-    cast-t11
-    slice-aggregate-remainder-of
-    remainder-of-requires-2
+    (λ c κs. search needs)
+    (λ c. search needs)
+    (λ c. search needs)
+    (λ c. search needs)
+    (λ c. search needs)
+    (λ c κs. search needs)
     returns)

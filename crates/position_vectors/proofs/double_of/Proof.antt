@@ -22,11 +22,5 @@ a-number b h = by-test (eqb (b % 9223372036854775808 / 4503599627370496) 2047) r
 float-from-bits-result : tie.Need-float-from-bits-result
 float-from-bits-result c = a-number (c .before .args .pattern) (c .if1 .left)
 
-returns : tie.Need-returns
-returns c = search needs
-
-returns-2 : tie.Need-returns-2
-returns-2 c = search needs
-
 pub double-of-spec : {M : Type 1} → statement M
-double-of-spec = tie.close (tie.spec float-from-bits-result returns returns-2)
+double-of-spec = tie.close (tie.spec float-from-bits-result (λ c. search needs) (λ c. search needs))

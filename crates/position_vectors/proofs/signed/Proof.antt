@@ -16,23 +16,12 @@ narrow c = rw (sub-neg (c .before .args .x) 4294967296 (omega arith)) (record { 
 wide : (c : tie.Else1) → SFits w64 (pos (c .before .args .x) -ℤ pos 4294967296)
 wide c = sfits-widen tt (narrow c)
 
-cast-result : tie.Need-cast-result
-cast-result c = search needs
-
-cast-result-2 : tie.Need-cast-result-2
-cast-result-2 c = search needs
-
 sub-result : tie.Need-sub-result
 sub-result c = rw (toZ-pos w64 {n = c .before .args .x} (omega arith)) (wide c)
 
 cast-result-3 : tie.Need-cast-result-3
 cast-result-3 c = rw (toZ-pos w64 {n = c .before .args .x} (omega arith), toZ-ofZ (wide c)) (narrow c)
 
-returns : tie.Need-returns
-returns c = search needs
-
-returns-2 : tie.Need-returns-2
-returns-2 c = search needs
-
 pub signed-spec : {M : Type 1} → statement M
-signed-spec = tie.close (tie.spec cast-result cast-result-2 sub-result cast-result-3 returns returns-2)
+signed-spec =
+    tie.close (tie.spec (λ c. search needs) (λ c. search needs) sub-result cast-result-3 (λ c. search needs) (λ c. search needs))

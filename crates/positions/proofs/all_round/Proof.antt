@@ -6,15 +6,6 @@ use borrow.Author.Needs.{needs}
 use Rattle.positions.proofs.all_round.Statement.{statement}
 use Rattle.positions.proofs.all_round.Tie as tie
 
-enum-told : tie.Need-enum-told
-enum-told c = search needs
-
-enum-told-2 : tie.Need-enum-told-2
-enum-told-2 c = search needs
-
-mul-result : tie.Need-mul-result
-mul-result c = search needs
-
 returns : tie.Need-returns
 unfolding allRound
 returns c = rw (c .enum-told .given .1) (omega arith, (omega arith, omega arith))
@@ -24,4 +15,4 @@ unfolding allRound
 returns-2 c = rw (c .enum-told2 .given .1) (omega arith, (omega arith, omega arith))
 
 pub all-round-spec : {M : Type 1} → statement M
-all-round-spec = tie.close (tie.spec enum-told enum-told-2 mul-result returns returns-2)
+all-round-spec = tie.close (tie.spec (λ c. search needs) (λ c. search needs) (λ c. search needs) returns returns-2)

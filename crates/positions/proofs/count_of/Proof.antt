@@ -8,18 +8,6 @@ use borrow.Author.Needs.{needs}
 use Rattle.positions.proofs.count_of.Statement.{statement}
 use Rattle.positions.proofs.count_of.Tie as tie
 
-enum-told : tie.Need-enum-told
-enum-told c = search needs
-
-cast-result : tie.Need-cast-result
-cast-result c = search needs
-
-enum-told-2 : tie.Need-enum-told-2
-enum-told-2 c = search needs
-
-cast-result-2 : tie.Need-cast-result-2
-cast-result-2 c = search needs
-
 returns : tie.Need-returns
 returns c = sym (ap (λ (z : Size). c .before .before .args .whole % countSize z) (c .enum-told .given .1))
 
@@ -27,4 +15,5 @@ returns-2 : tie.Need-returns-2
 returns-2 c = sym (ap (λ (z : Size). c .before .before .args .whole % countSize z) (c .enum-told2 .given .1))
 
 pub count-of-spec : {M : Type 1} → statement M
-count-of-spec = tie.close (tie.spec enum-told cast-result enum-told-2 cast-result-2 returns returns-2)
+count-of-spec =
+    tie.close (tie.spec (λ c. search needs) (λ c. search needs) (λ c. search needs) (λ c. search needs) returns returns-2)

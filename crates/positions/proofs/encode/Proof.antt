@@ -17,12 +17,6 @@ up-is u =
     u .raise .ensures
     ∙ ap raised (toZ-ofZ {w = w32} {z = u .before .before .args .spot .latitude} (record { sfits = omega (arith, u .before .struct-told .given) }))
 
-raise-requires : tie.Need-raise-requires
-raise-requires c κs = search needs
-
-pole-to-pole-requires : tie.Need-pole-to-pole-requires
-pole-to-pole-requires c κs = search needs
-
 encode-raised-requires : tie.Need-encode-raised-requires
 encode-raised-requires c κs = poles (c .before .before .raise .result) (sym (c .before .pole-to-pole .ensures) ∙ c .if1 .taken)
 
@@ -40,4 +34,4 @@ returns-2 c =
 
 pub encode-spec : {M : Type 1} → statement M
 encode-spec =
-    tie.close (tie.spec raise-requires pole-to-pole-requires encode-raised-requires returns returns-2)
+    tie.close (tie.spec (λ c κs. search needs) (λ c κs. search needs) encode-raised-requires returns returns-2)

@@ -11,15 +11,6 @@ use borrow.Author.Needs.{needs}
 use Rattle.positions.proofs.latitude_out.Statement.{statement}
 use Rattle.positions.proofs.latitude_out.Tie as tie
 
-mul-nearest : tie.Need-mul-nearest
-mul-nearest c = search needs
-
-mul-nearest-2 : tie.Need-mul-nearest-2
-mul-nearest-2 c = search needs
-
-nearest-requires : tie.Need-nearest-requires
-nearest-requires c κs = search needs
-
 lower-requires : tie.Need-lower-requires
 lower-requires c κs =
     let a = c .before .args in
@@ -33,4 +24,4 @@ returns c =
 
 pub latitude-out-spec : {M : Type 1} → statement M
 latitude-out-spec =
-    tie.close (tie.spec mul-nearest mul-nearest-2 nearest-requires lower-requires returns)
+    tie.close (tie.spec (λ c. search needs) (λ c. search needs) (λ c κs. search needs) lower-requires returns)

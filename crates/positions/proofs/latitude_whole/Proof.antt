@@ -14,9 +14,6 @@ all c = mul-le-mul {n₂ = 240} {m₂ = 131072} (omega arith) (omega arith)
 most : (c : tie.Start) → c .args .up * (c .args .n * (4 * c .args .q)) ≤ 5368709120 * 31457280
 most c = mul-le-mul {n₂ = 5368709120} {m₂ = 31457280} (omega arith) (all c)
 
-mul-nearest : tie.Need-mul-nearest
-mul-nearest c = search needs
-
 mul-nearest-2 : tie.Need-mul-nearest-2
 mul-nearest-2 c = omega (arith, all c)
 
@@ -37,4 +34,4 @@ returns c =
     )
 
 pub latitude-whole-spec : {M : Type 1} → statement M
-latitude-whole-spec = tie.close (tie.spec mul-nearest mul-nearest-2 mul-nearest-3 nearest-requires returns)
+latitude-whole-spec = tie.close (tie.spec (λ c. search needs) mul-nearest-2 mul-nearest-3 nearest-requires returns)

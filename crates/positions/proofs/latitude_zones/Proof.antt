@@ -6,12 +6,6 @@ use borrow.Author.Needs.{needs}
 use Rattle.positions.proofs.latitude_zones.Statement.{statement}
 use Rattle.positions.proofs.latitude_zones.Tie as tie
 
-enum-told : tie.Need-enum-told
-enum-told c = search needs
-
-enum-told-2 : tie.Need-enum-told-2
-enum-told-2 c = search needs
-
 returns : tie.Need-returns
 returns c = rw (c .enum-told .given .1) (refl, (omega arith, omega arith))
 
@@ -19,4 +13,4 @@ returns-2 : tie.Need-returns-2
 returns-2 c = rw (c .enum-told2 .given .1) (refl, (omega arith, omega arith))
 
 pub latitude-zones-spec : {M : Type 1} → statement M
-latitude-zones-spec = tie.close (tie.spec enum-told enum-told-2 returns returns-2)
+latitude-zones-spec = tie.close (tie.spec (λ c. search needs) (λ c. search needs) returns returns-2)

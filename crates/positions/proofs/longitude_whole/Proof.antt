@@ -16,9 +16,6 @@ all c = mul-le-mul {n₂ = 240} {m₂ = 131072} (omega arith) (omega arith)
 most : (c : tie.Start) → c .args .longitude * (c .args .n * (4 * c .args .q)) ≤ 4294967296 * 31457280
 most c = mul-le-mul {n₂ = 4294967296} {m₂ = 31457280} (omega arith) (all c)
 
-mul-nearest : tie.Need-mul-nearest
-mul-nearest c = search needs
-
 mul-nearest-2 : tie.Need-mul-nearest-2
 mul-nearest-2 c = omega (arith, all c)
 
@@ -34,4 +31,4 @@ returns c =
     whole-pos (4 * a .q) (a .n) (a .longitude) ∙ ap pos (sym (c .nearest .ensures))
 
 pub longitude-whole-spec : {M : Type 1} → statement M
-longitude-whole-spec = tie.close (tie.spec mul-nearest mul-nearest-2 mul-nearest-3 nearest-requires returns)
+longitude-whole-spec = tie.close (tie.spec (λ c. search needs) mul-nearest-2 mul-nearest-3 nearest-requires returns)

@@ -16,9 +16,6 @@ narrow c = record { sfits = lower-small (c .args .up) (c .pre .0) (c .pre .1) }
 wide : (c : tie.Start) → SFits w64 (pos (c .args .up) -ℤ pos 4294967296)
 wide c = sfits-widen tt (narrow c)
 
-cast-result : tie.Need-cast-result
-cast-result c = search needs
-
 sub-result : tie.Need-sub-result
 sub-result c = rw (toZ-pos w64 {n = c .args .up} (omega arith)) (wide c)
 
@@ -29,4 +26,4 @@ returns : tie.Need-returns
 returns c = rw (toZ-pos w64 {n = c .args .up} (omega arith), toZ-ofZ (wide c), toZ-ofZ (narrow c))
 
 pub lower-spec : {M : Type 1} → statement M
-lower-spec = tie.close (tie.spec cast-result sub-result cast-result-2 returns)
+lower-spec = tie.close (tie.spec (λ c. search needs) sub-result cast-result-2 returns)

@@ -23,17 +23,8 @@ small c =
     let e : c .nearest .result ≡ nearestℕ (a .up * (a .n * 131072) - a .count .0 * 4294967296) 562949953421312 = c .nearest .ensures in
     omega (arith, most (c .before .before))
 
-mul-x : tie.Need-mul-x
-mul-x c = search needs
-
 mul-x-2 : tie.Need-mul-x-2
 mul-x-2 c = omega (arith, most c)
-
-cast-x : tie.Need-cast-x
-cast-x c = search needs
-
-mul-x-3 : tie.Need-mul-x-3
-mul-x-3 c = search needs
 
 sub-x : tie.Need-sub-x
 sub-x c = omega (arith, least (c .before))
@@ -53,4 +44,4 @@ returns c =
 
 pub near-latitude-zone-spec : {M : Type 1} → statement M
 near-latitude-zone-spec =
-    tie.close (tie.spec mul-x mul-x-2 cast-x mul-x-3 sub-x nearest-requires cast-t9 returns)
+    tie.close (tie.spec (λ c. search needs) mul-x-2 (λ c. search needs) (λ c. search needs) sub-x nearest-requires cast-t9 returns)

@@ -9,15 +9,6 @@ use borrow.Author.Needs.{needs}
 use Rattle.positions.proofs.near_spot.Statement.{statement}
 use Rattle.positions.proofs.near_spot.Tie as tie
 
-latitude-out-requires : tie.Need-latitude-out-requires
-latitude-out-requires c κs = search needs
-
-near-longitude-zone-requires : tie.Need-near-longitude-zone-requires
-near-longitude-zone-requires c κs = search needs
-
-longitude-out-requires : tie.Need-longitude-out-requires
-longitude-out-requires c κs = search needs
-
 returns : tie.Need-returns
 returns c =
     let zone = c .before .near-longitude-zone in
@@ -28,6 +19,4 @@ returns c =
     (c .longitude-out .ensures)
 
 pub near-spot-spec : {M : Type 1} → statement M
-near-spot-spec =
-    tie.close
-    (tie.spec latitude-out-requires near-longitude-zone-requires longitude-out-requires returns)
+near-spot-spec = tie.close (tie.spec (λ c κs. search needs) (λ c κs. search needs) (λ c κs. search needs) returns)

@@ -7,18 +7,6 @@ use borrow.Author.Needs.{needs}
 use Rattle.positions.proofs.pair.Statement.{statement}
 use Rattle.positions.proofs.pair.Tie as tie
 
-enum-told : tie.Need-enum-told
-enum-told c = search needs
-
-pair-fine-requires : tie.Need-pair-fine-requires
-pair-fine-requires c κs = search needs
-
-enum-told-2 : tie.Need-enum-told-2
-enum-told-2 c = search needs
-
-pair-coarse-requires : tie.Need-pair-coarse-requires
-pair-coarse-requires c κs = search needs
-
 returns : tie.Need-returns
 returns c =
     let a = c .before .before .before .args in
@@ -31,5 +19,4 @@ returns-2 c =
 
 pub pair-spec : {M : Type 1} → statement M
 pair-spec =
-    tie.close
-    (tie.spec enum-told pair-fine-requires enum-told-2 pair-coarse-requires returns returns-2)
+    tie.close (tie.spec (λ c. search needs) (λ c κs. search needs) (λ c. search needs) (λ c κs. search needs) returns returns-2)

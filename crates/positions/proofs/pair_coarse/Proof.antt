@@ -11,12 +11,6 @@ use borrow.Author.Needs.{needs}
 use Rattle.positions.proofs.pair_coarse.Statement.{statement}
 use Rattle.positions.proofs.pair_coarse.Tie as tie
 
-fits-coarse-requires : tie.Need-fits-coarse-requires
-fits-coarse-requires c κs = search needs
-
-fits-coarse-requires-2 : tie.Need-fits-coarse-requires-2
-fits-coarse-requires-2 c κs = search needs
-
 tests : (c : tie.After-fits-coarse2) → (fit 4096 (c .before .before .args .even) && fit 4096 (c .before .before .args .odd)) ≡ (c .before .fits-coarse .result && c .fits-coarse2 .result)
 tests c = sym (ap₂ _&&_ (c .before .fits-coarse .ensures) (c .fits-coarse2 .ensures))
 
@@ -48,4 +42,11 @@ returns-2 c = rw (tests (c .before) ∙ c .if1 .left)
 pub pair-coarse-spec : {M : Type 1} → statement M
 pair-coarse-spec =
     tie.close
-    (tie.spec fits-coarse-requires fits-coarse-requires-2 finer-requires finer-requires-2 pair-fitting-requires returns returns-2)
+    (tie.spec
+    (λ c κs. search needs)
+    (λ c κs. search needs)
+    finer-requires
+    finer-requires-2
+    pair-fitting-requires
+    returns
+    returns-2)

@@ -9,12 +9,6 @@ use borrow.Author.Needs.{needs}
 use Rattle.positions.proofs.pair_fine.Statement.{statement}
 use Rattle.positions.proofs.pair_fine.Tie as tie
 
-fits-requires : tie.Need-fits-requires
-fits-requires c κs = search needs
-
-fits-requires-2 : tie.Need-fits-requires-2
-fits-requires-2 c κs = search needs
-
 pair-fitting-requires : tie.Need-pair-fitting-requires
 pair-fitting-requires c κs =
     let a = c .before .before .before .args in
@@ -37,4 +31,4 @@ returns-2 c =
 
 pub pair-fine-spec : {M : Type 1} → statement M
 pair-fine-spec =
-    tie.close (tie.spec fits-requires fits-requires-2 pair-fitting-requires returns returns-2)
+    tie.close (tie.spec (λ c κs. search needs) (λ c κs. search needs) pair-fitting-requires returns returns-2)

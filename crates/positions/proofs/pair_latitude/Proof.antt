@@ -6,15 +6,6 @@ use borrow.Author.Needs.{needs}
 use Rattle.positions.proofs.pair_latitude.Statement.{statement}
 use Rattle.positions.proofs.pair_latitude.Tie as tie
 
-latitude-zones-requires : tie.Need-latitude-zones-requires
-latitude-zones-requires c κs = search needs
-
-pair-latitude-zone-requires : tie.Need-pair-latitude-zone-requires
-pair-latitude-zone-requires c κs = search needs
-
-own-latitude-requires : tie.Need-own-latitude-requires
-own-latitude-requires c κs = search needs
-
 latitude-in-requires : tie.Need-latitude-in-requires
 latitude-in-requires c κs =
     let a = c .before .before .before .args in
@@ -30,10 +21,4 @@ returns c =
 
 pub pair-latitude-spec : {M : Type 1} → statement M
 pair-latitude-spec =
-    tie.close
-    (tie.spec
-    latitude-zones-requires
-    pair-latitude-zone-requires
-    own-latitude-requires
-    latitude-in-requires
-    returns)
+    tie.close (tie.spec (λ c κs. search needs) (λ c κs. search needs) (λ c κs. search needs) latitude-in-requires returns)

@@ -9,21 +9,6 @@ use borrow.Author.Needs.{needs}
 use Rattle.positions.proofs.pair_spot.Statement.{statement}
 use Rattle.positions.proofs.pair_spot.Tie as tie
 
-latitude-zones-requires : tie.Need-latitude-zones-requires
-latitude-zones-requires c κs = search needs
-
-latitude-out-requires : tie.Need-latitude-out-requires
-latitude-out-requires c κs = search needs
-
-longitude-zones-requires : tie.Need-longitude-zones-requires
-longitude-zones-requires c κs = search needs
-
-pair-longitude-zone-requires : tie.Need-pair-longitude-zone-requires
-pair-longitude-zone-requires c κs = search needs
-
-own-longitude-requires : tie.Need-own-longitude-requires
-own-longitude-requires c κs = search needs
-
 longitude-out-requires : tie.Need-longitude-out-requires
 longitude-out-requires c κs =
     let a = c .before .before .before .before .before .args in
@@ -46,10 +31,10 @@ pub pair-spot-spec : {M : Type 1} → statement M
 pair-spot-spec =
     tie.close
     (tie.spec
-    latitude-zones-requires
-    latitude-out-requires
-    longitude-zones-requires
-    pair-longitude-zone-requires
-    own-longitude-requires
+    (λ c κs. search needs)
+    (λ c κs. search needs)
+    (λ c κs. search needs)
+    (λ c κs. search needs)
+    (λ c κs. search needs)
     longitude-out-requires
     returns)

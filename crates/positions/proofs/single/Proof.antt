@@ -7,18 +7,6 @@ use borrow.Author.Needs.{needs}
 use Rattle.positions.proofs.single.Statement.{statement}
 use Rattle.positions.proofs.single.Tie as tie
 
-enum-told : tie.Need-enum-told
-enum-told c = search needs
-
-single-fine-requires : tie.Need-single-fine-requires
-single-fine-requires c κs = search needs
-
-enum-told-2 : tie.Need-enum-told-2
-enum-told-2 c = search needs
-
-single-coarse-requires : tie.Need-single-coarse-requires
-single-coarse-requires c κs = search needs
-
 returns : tie.Need-returns
 returns c =
     let a = c .before .before .before .args in
@@ -31,5 +19,4 @@ returns-2 c =
 
 pub single-spec : {M : Type 1} → statement M
 single-spec =
-    tie.close
-    (tie.spec enum-told single-fine-requires enum-told-2 single-coarse-requires returns returns-2)
+    tie.close (tie.spec (λ c. search needs) (λ c κs. search needs) (λ c. search needs) (λ c κs. search needs) returns returns-2)

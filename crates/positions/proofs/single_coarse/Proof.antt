@@ -22,15 +22,6 @@ up-is u =
     u .raise .ensures
     ∙ ap raised (toZ-ofZ {w = w32} {z = u .before .before .args .reference .latitude} (record { sfits = omega (arith, u .before .struct-told .given) }))
 
-raise-requires : tie.Need-raise-requires
-raise-requires c κs = search needs
-
-fits-coarse-requires : tie.Need-fits-coarse-requires
-fits-coarse-requires c κs = search needs
-
-pole-to-pole-requires : tie.Need-pole-to-pole-requires
-pole-to-pole-requires c κs = search needs
-
 taken : (c : tie.Then1) → (fit 4096 (c .before .before .before .before .before .args .counts) ≡ true)
     × ((leb 3221225472 (c .before .before .before .raise .result) && leb (c .before .before .before .raise .result) 5368709120) ≡ true)
 taken c =
@@ -70,9 +61,9 @@ pub single-coarse-spec : {M : Type 1} → statement M
 single-coarse-spec =
     tie.close
     (tie.spec
-    raise-requires
-    fits-coarse-requires
-    pole-to-pole-requires
+    (λ c κs. search needs)
+    (λ c κs. search needs)
+    (λ c κs. search needs)
     finer-requires
     single-raised-requires
     returns

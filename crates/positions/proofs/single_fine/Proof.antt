@@ -20,15 +20,6 @@ up-is u =
     u .raise .ensures
     ∙ ap raised (toZ-ofZ {w = w32} {z = u .before .before .args .reference .latitude} (record { sfits = omega (arith, u .before .struct-told .given) }))
 
-raise-requires : tie.Need-raise-requires
-raise-requires c κs = search needs
-
-fits-requires : tie.Need-fits-requires
-fits-requires c κs = search needs
-
-pole-to-pole-requires : tie.Need-pole-to-pole-requires
-pole-to-pole-requires c κs = search needs
-
 single-raised-requires : tie.Need-single-raised-requires
 single-raised-requires c κs =
     let u = c .before .before .before in
@@ -60,11 +51,4 @@ returns-2 c =
 
 pub single-fine-spec : {M : Type 1} → statement M
 single-fine-spec =
-    tie.close
-    (tie.spec
-    raise-requires
-    fits-requires
-    pole-to-pole-requires
-    single-raised-requires
-    returns
-    returns-2)
+    tie.close (tie.spec (λ c κs. search needs) (λ c κs. search needs) (λ c κs. search needs) single-raised-requires returns returns-2)

@@ -8,12 +8,6 @@ use borrow.Author.Needs.{needs}
 use Rattle.positions.proofs.zone_by.Statement.{statement}
 use Rattle.positions.proofs.zone_by.Tie as tie
 
-nearest-requires : tie.Need-nearest-requires
-nearest-requires c κs = search needs
-
-rem-t4 : tie.Need-rem-t4
-rem-t4 c = search needs
-
 cast-t5 : tie.Need-cast-t5
 cast-t5 c = omega (arith, mod-lt (c .nearest .result) {m = c .before .args .z} (c .before .pre .1 .0))
 
@@ -21,4 +15,4 @@ returns : tie.Need-returns
 returns c = (ap (λ (x : ℕ). x % c .before .args .z) (c .nearest .ensures), mod-lt (c .nearest .result) (c .before .pre .1 .0))
 
 pub zone-by-spec : {M : Type 1} → statement M
-zone-by-spec = tie.close (tie.spec nearest-requires rem-t4 cast-t5 returns)
+zone-by-spec = tie.close (tie.spec (λ c κs. search needs) (λ c. search needs) cast-t5 returns)

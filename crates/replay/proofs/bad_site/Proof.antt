@@ -4,11 +4,8 @@ use borrow.Author.Needs.{needs}
 use Rattle.replay.proofs.bad_site.Statement.{statement}
 use Rattle.replay.proofs.bad_site.Tie as tie
 
-pole-to-pole-requires : tie.Need-pole-to-pole-requires
-pole-to-pole-requires c κs = search needs
-
 returns : tie.Need-returns
 returns c = rw (c .before .pole-to-pole .ensures)
 
 pub bad-site-spec : {M : Type 1} → statement M
-bad-site-spec = tie.close (tie.spec pole-to-pole-requires returns)
+bad-site-spec = tie.close (tie.spec (λ c κs. search needs) returns)

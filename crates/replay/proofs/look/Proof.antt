@@ -7,11 +7,8 @@ use Rattle.replay.proofs.look.Tie as tie
 returns : tie.Need-returns
 returns c = rw (c .if1 .taken)
 
-new-track-requires : tie.Need-new-track-requires
-new-track-requires c κs = search needs
-
 returns-2 : tie.Need-returns-2
 returns-2 c = rw (c .before .if1 .left, c .new-track .ensures)
 
 pub look-spec : {M : Type 1} → statement M
-look-spec = tie.close (tie.spec returns new-track-requires returns-2)
+look-spec = tie.close (tie.spec returns (λ c κs. search needs) returns-2)

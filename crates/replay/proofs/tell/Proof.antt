@@ -9,31 +9,16 @@ use borrow.Author.Needs.{needs}
 use Rattle.replay.proofs.tell.Statement.{statement}
 use Rattle.replay.proofs.tell.Tie as tie
 
-frame-key-requires : tie.Need-frame-key-requires
-frame-key-requires c κs = search needs
-
 returns : tie.Need-returns
 returns c =
     let a = c .before .before .args in
     told-another (a .f) (frame-opens (a .f) (c .before .before .pre)) (a .key) (a .site) (a .own .clock) (a .own .held) (a .own .track) (λ e. c .if1 .taken (c .before .frame-key .ensures ∙ e))
-
-frame-starts-requires : tie.Need-frame-starts-requires
-frame-starts-requires c κs = search needs
 
 returns-2 : tie.Need-returns-2
 returns-2 c =
     let a = c .before .before .before .before .before .args in
     told-none (a .f) (frame-opens (a .f) (c .before .before .before .before .before .pre)) (a .key) (a .site) (a .own .clock) (a .own .held) (a .own .track) (sym (c .before .before .before .before .frame-key .ensures) ∙ c .before .before .before .if1 .left)
     (ap (λ (x : Bool). a .own .held || x) (sym (c .before .before .frame-starts .ensures)) ∙ not-true _ (c .if2 .taken))
-
-start-of-requires : tie.Need-start-of-requires
-start-of-requires c κs = search needs
-
-frame-coarse-requires : tie.Need-frame-coarse-requires
-frame-coarse-requires c κs = search needs
-
-step-me-requires : tie.Need-step-me-requires
-step-me-requires c κs = search needs
 
 returns-3 : tie.Need-returns-3
 returns-3 c =
@@ -48,11 +33,11 @@ pub tell-spec : {M : Type 1} → statement M
 tell-spec =
     tie.close
     (tie.spec
-    frame-key-requires
+    (λ c κs. search needs)
     returns
-    frame-starts-requires
+    (λ c κs. search needs)
     returns-2
-    start-of-requires
-    frame-coarse-requires
-    step-me-requires
+    (λ c κs. search needs)
+    (λ c κs. search needs)
+    (λ c κs. search needs)
     returns-3)

@@ -5,18 +5,6 @@ use borrow.Author.Needs.{needs}
 use Rattle.report.proofs.has_row.Statement.{statement}
 use Rattle.report.proofs.has_row.Tie as tie
 
-is-first-requires : tie.Need-is-first-requires
-is-first-requires c κs = search needs
-
-body-requires : tie.Need-body-requires
-body-requires c κs = search needs
-
-load-requires : tie.Need-load-requires
-load-requires c κs = search needs
-
-is-shown-requires : tie.Need-is-shown-requires
-is-shown-requires c κs = search needs
-
 returns : tie.Need-returns
 returns c =
     let a = c .before .before .before .before .before .before .args in
@@ -29,5 +17,4 @@ returns-2 c =
 
 pub has-row-spec : {M : Type 1} → statement M
 has-row-spec =
-    tie.close
-    (tie.spec is-first-requires body-requires load-requires is-shown-requires returns returns-2)
+    tie.close (tie.spec (λ c κs. search needs) (λ c κs. search needs) (λ c κs. search needs) (λ c κs. search needs) returns returns-2)

@@ -6,23 +6,8 @@ use borrow.Author.Needs.{needs}
 use Rattle.report.proofs.header_of.Statement.{statement}
 use Rattle.report.proofs.header_of.Tie as tie
 
-clock-of-requires : tie.Need-clock-of-requires
-clock-of-requires c κs = search needs
-
-enum-known-clock : tie.Need-enum-known-clock
-enum-known-clock c = search needs
-
 count-requires : tie.Need-count-requires
 count-requires c κs = clock-whole _ (c .before .before .before .clock-of .ensures) (c .before .clock .given .1)
-
-header-line-requires : tie.Need-header-line-requires
-header-line-requires c κs = search needs
-
-enum-known-clock-2 : tie.Need-enum-known-clock-2
-enum-known-clock-2 c = search needs
-
-without-requires : tie.Need-without-requires
-without-requires c κs = search needs
 
 returns : tie.Need-returns
 returns c = header-known _ (c .before .before .before .before .before .clock-of .ensures) _ _ (c .before .before .before .clock .given .1) (c .before .count .ensures) (c .header-line .ensures)
@@ -34,11 +19,11 @@ pub header-of-spec : {M : Type 1} → statement M
 header-of-spec =
     tie.close
     (tie.spec
-    clock-of-requires
-    enum-known-clock
+    (λ c κs. search needs)
+    (λ c. search needs)
     count-requires
-    header-line-requires
-    enum-known-clock-2
-    without-requires
+    (λ c κs. search needs)
+    (λ c. search needs)
+    (λ c κs. search needs)
     returns
     returns-2)

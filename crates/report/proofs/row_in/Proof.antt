@@ -7,14 +7,8 @@ use borrow.Author.Needs.{needs}
 use Rattle.report.proofs.row_in.Statement.{statement}
 use Rattle.report.proofs.row_in.Tie as tie
 
-look-up-requires : tie.Need-look-up-requires
-look-up-requires c κs = search needs
-
-row-of-requires : tie.Need-row-of-requires
-row-of-requires c κs = search needs
-
 returns : tie.Need-returns
 returns c = c .row-of .ensures ∙ ap (λ (x : Looked). rowOf (c .before .before .before .before .args .key) (x .track)) (c .before .before .look-up .ensures)
 
 pub row-in-spec : {M : Type 1} → statement M
-row-in-spec = tie.close (tie.spec look-up-requires row-of-requires returns)
+row-in-spec = tie.close (tie.spec (λ c κs. search needs) (λ c κs. search needs) returns)

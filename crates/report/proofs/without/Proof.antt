@@ -4,11 +4,8 @@ use borrow.Author.Needs.{needs}
 use Rattle.report.proofs.without.Statement.{statement}
 use Rattle.report.proofs.without.Tie as tie
 
-no-line-requires : tie.Need-no-line-requires
-no-line-requires c κs = search needs
-
 returns : tie.Need-returns
 returns c = rw (c .no-line .ensures)
 
 pub without-spec : {M : Type 1} → statement M
-without-spec = tie.close (tie.spec no-line-requires returns)
+without-spec = tie.close (tie.spec (λ c κs. search needs) returns)

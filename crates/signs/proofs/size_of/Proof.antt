@@ -53,10 +53,6 @@ cast-result-2 c =
     let h = c .before .fits .z in
     rw (toZ-ofZ h) (above-nonNeg z (rw (toZ-ofZ h) at (c .if1 .left)), fits-natAbs {w = w64} tt h)
 
-returns-2 : tie.Need-returns-2
-returns-2 c = search needs
-
 pub size-of-spec : {M : Type 1} → statement M
 size-of-spec =
-    tie.close
-    (tie.spec add-result sub-result cast-result add-result-2 returns cast-result-2 returns-2)
+    tie.close (tie.spec add-result sub-result cast-result add-result-2 returns cast-result-2 (λ c. search needs))

@@ -5,9 +5,6 @@ use borrow.Author.Needs.{needs}
 use Rattle.slice_places.proofs.better_of.Statement.{statement}
 use Rattle.slice_places.proofs.better_of.Tie as tie
 
-is-held-requires : tie.Need-is-held-requires
-is-held-requires c κs = search needs
-
 returns : tie.Need-returns
 unfolding better
 returns c = rw (c .before .before .if1 .taken, ← c .before .is-held .ensures, c .if2 .taken)
@@ -21,4 +18,4 @@ unfolding better
 returns-3 c = rw (c .if1 .left)
 
 pub better-of-spec : {M : Type 1} → statement M
-better-of-spec = tie.close (tie.spec is-held-requires returns returns-2 returns-3)
+better-of-spec = tie.close (tie.spec (λ c κs. search needs) returns returns-2 returns-3)

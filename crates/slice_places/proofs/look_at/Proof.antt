@@ -7,11 +7,8 @@ use borrow.Author.Needs.{needs}
 use Rattle.slice_places.proofs.look_at.Statement.{statement}
 use Rattle.slice_places.proofs.look_at.Tie as tie
 
-meant-requires : tie.Need-meant-requires
-meant-requires c κs = search needs
-
 returns : tie.Need-returns
 returns c = ap (looked holding.Held) (c .meant .ensures)
 
 pub look-at-spec : {M : Type 1} → statement M
-look-at-spec = tie.close (tie.spec meant-requires returns)
+look-at-spec = tie.close (tie.spec (λ c κs. search needs) returns)

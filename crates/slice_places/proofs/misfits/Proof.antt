@@ -4,11 +4,8 @@ use borrow.Author.Needs.{needs}
 use Rattle.slice_places.proofs.misfits.Statement.{statement}
 use Rattle.slice_places.proofs.misfits.Tie as tie
 
-places-fit-requires : tie.Need-places-fit-requires
-places-fit-requires c κs = search needs
-
 returns : tie.Need-returns
 returns c = rw (c .places-fit .ensures)
 
 pub misfits-spec : {M : Type 1} → statement M
-misfits-spec = tie.close (tie.spec places-fit-requires returns)
+misfits-spec = tie.close (tie.spec (λ c κs. search needs) returns)

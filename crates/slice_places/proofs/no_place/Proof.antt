@@ -4,11 +4,8 @@ use borrow.Author.Needs.{needs}
 use Rattle.slice_places.proofs.no_place.Statement.{statement}
 use Rattle.slice_places.proofs.no_place.Tie as tie
 
-new-track-requires : tie.Need-new-track-requires
-new-track-requires c κs = search needs
-
 returns : tie.Need-returns
 returns c = rw (c .new-track .ensures)
 
 pub no-place-spec : {M : Type 1} → statement M
-no-place-spec = tie.close (tie.spec new-track-requires returns)
+no-place-spec = tie.close (tie.spec (λ c κs. search needs) returns)

@@ -4,11 +4,8 @@ use borrow.Author.Needs.{needs}
 use Rattle.slice_places.proofs.not_looked.Statement.{statement}
 use Rattle.slice_places.proofs.not_looked.Tie as tie
 
-new-track-requires : tie.Need-new-track-requires
-new-track-requires c κs = search needs
-
 returns : tie.Need-returns
 returns c = rw (c .new-track .ensures)
 
 pub not-looked-spec : {M : Type 1} → statement M
-not-looked-spec = tie.close (tie.spec new-track-requires returns)
+not-looked-spec = tie.close (tie.spec (λ c κs. search needs) returns)

@@ -5,12 +5,6 @@ use borrow.Author.Needs.{needs}
 use Rattle.slice_places.proofs.site_of.Statement.{statement}
 use Rattle.slice_places.proofs.site_of.Tie as tie
 
-pole-to-pole-requires : tie.Need-pole-to-pole-requires
-pole-to-pole-requires c κs = search needs
-
-no-site-requires : tie.Need-no-site-requires
-no-site-requires c κs = search needs
-
 returns : tie.Need-returns
 unfolding siteOf
 returns c = rw (← c .before .before .pole-to-pole .ensures, c .if1 .taken)
@@ -20,4 +14,4 @@ unfolding siteOf
 returns-2 c = rw (← c .before .before .before .pole-to-pole .ensures, c .before .if1 .left, c .no-site .ensures)
 
 pub site-of-spec : {M : Type 1} → statement M
-site-of-spec = tie.close (tie.spec pole-to-pole-requires no-site-requires returns returns-2)
+site-of-spec = tie.close (tie.spec (λ c κs. search needs) (λ c κs. search needs) returns returns-2)

@@ -5,21 +5,9 @@ use borrow.Author.Needs.{needs}
 use Rattle.slice_places.proofs.start.Statement.{statement}
 use Rattle.slice_places.proofs.start.Tie as tie
 
-places-fit-requires : tie.Need-places-fit-requires
-places-fit-requires c κs = search needs
-
-not-started-requires : tie.Need-not-started-requires
-not-started-requires c κs = search needs
-
 returns : tie.Need-returns
 unfolding started
 returns c = rw (← c .before .before .places-fit .ensures, c .before .if1 .taken, c .not-started .ensures)
-
-pole-to-pole-requires : tie.Need-pole-to-pole-requires
-pole-to-pole-requires c κs = search needs
-
-not-started-requires-2 : tie.Need-not-started-requires-2
-not-started-requires-2 c κs = search needs
 
 returns-2 : tie.Need-returns-2
 unfolding started
@@ -33,10 +21,10 @@ pub start-spec : {M : Type 1} → statement M
 start-spec =
     tie.close
     (tie.spec
-    places-fit-requires
-    not-started-requires
+    (λ c κs. search needs)
+    (λ c κs. search needs)
     returns
-    pole-to-pole-requires
-    not-started-requires-2
+    (λ c κs. search needs)
+    (λ c κs. search needs)
     returns-2
     returns-3)

@@ -4,11 +4,8 @@ use borrow.Author.Needs.{needs}
 use Rattle.slice_places.proofs.unheld.Statement.{statement}
 use Rattle.slice_places.proofs.unheld.Tie as tie
 
-new-track-requires : tie.Need-new-track-requires
-new-track-requires c κs = search needs
-
 returns : tie.Need-returns
 returns c = rw (c .new-track .ensures)
 
 pub unheld-spec : {M : Type 1} → statement M
-unheld-spec = tie.close (tie.spec new-track-requires returns)
+unheld-spec = tie.close (tie.spec (λ c κs. search needs) returns)

@@ -10,18 +10,6 @@ use Rattle.stamps.proofs.time_of.Tie as tie
 returns : tie.Need-returns
 returns c = sym (no-length bytes _ _ _ _ (c .if1 .taken))
 
-clock-of-requires : tie.Need-clock-of-requires
-clock-of-requires c κs = search needs
-
-enum-known-answer : tie.Need-enum-known-answer
-enum-known-answer c = search needs
-
-extend-requires : tie.Need-extend-requires
-extend-requires c κs = search needs
-
-enum-known-answer-2 : tie.Need-enum-known-answer-2
-enum-known-answer-2 c = search needs
-
 returns-2 : tie.Need-returns-2
 returns-2 c = clock-found _ _ _ _ (c .before .before .before .before .before .if1 .left) (c .before .before .before .before .clock-of .ensures) (c .before .before .answer .given .1) (c .extend .ensures)
 
@@ -30,12 +18,4 @@ returns-3 c = no-clock _ _ _ _ (c .before .before .before .before .if1 .left) (c
 
 pub time-of-spec : {M : Type 1} → statement M
 time-of-spec =
-    tie.close
-    (tie.spec
-    returns
-    clock-of-requires
-    enum-known-answer
-    extend-requires
-    enum-known-answer-2
-    returns-2
-    returns-3)
+    tie.close (tie.spec returns (λ c κs. search needs) (λ c. search needs) (λ c κs. search needs) (λ c. search needs) returns-2 returns-3)

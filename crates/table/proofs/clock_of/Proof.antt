@@ -7,9 +7,6 @@ use borrow.Author.Needs.{needs}
 use Rattle.table.proofs.clock_of.Statement.{statement}
 use Rattle.table.proofs.clock_of.Tie as tie
 
-whole-places-requires : tie.Need-whole-places-requires
-whole-places-requires c κs = search needs
-
 clock-of-requires : tie.Need-clock-of-requires
 clock-of-requires c κs = whole-head _ (sym (c .before .whole-places .ensures) ∙ c .if1 .taken)
 
@@ -20,4 +17,4 @@ returns-2 : tie.Need-returns-2
 returns-2 c = clock-size _ (c .before .whole-places .ensures) (c .if1 .left)
 
 pub clock-of-spec : {M : Type 1} → statement M
-clock-of-spec = tie.close (tie.spec whole-places-requires clock-of-requires returns returns-2)
+clock-of-spec = tie.close (tie.spec (λ c κs. search needs) clock-of-requires returns returns-2)

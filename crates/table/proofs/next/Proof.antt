@@ -6,23 +6,11 @@ use borrow.Author.Needs.{needs}
 use Rattle.table.proofs.next.Statement.{statement}
 use Rattle.table.proofs.next.Tie as tie
 
-whole-places-requires : tie.Need-whole-places-requires
-whole-places-requires c κs = search needs
-
 returns : tie.Need-returns
 returns c = next-size _ (c .before .whole-places .ensures) _ (c .if1 .taken)
 
 places-in-requires : tie.Need-places-in-requires
 places-in-requires c κs = whole _ (c .before .whole-places .ensures) (c .if1 .left)
-
-clock-of-requires : tie.Need-clock-of-requires
-clock-of-requires c κs = search needs
-
-smallest-above-requires : tie.Need-smallest-above-requires
-smallest-above-requires c κs = search needs
-
-key-or-end-requires : tie.Need-key-or-end-requires
-key-or-end-requires c κs = search needs
 
 returns-2 : tie.Need-returns-2
 returns-2 c = next-on _ (c .before .before .before .before .before .whole-places .ensures) _ (c .before .before .before .before .if1 .left) (c .before .before .before .places-in .ensures .0) (c .before .before .clock-of .ensures) (c .before .smallest-above .ensures) (c .key-or-end .ensures)
@@ -31,10 +19,10 @@ pub next-spec : {M : Type 1} → statement M
 next-spec =
     tie.close
     (tie.spec
-    whole-places-requires
+    (λ c κs. search needs)
     returns
     places-in-requires
-    clock-of-requires
-    smallest-above-requires
-    key-or-end-requires
+    (λ c κs. search needs)
+    (λ c κs. search needs)
+    (λ c κs. search needs)
     returns-2)

@@ -5,21 +5,11 @@ use borrow.Author.Needs.{needs}
 use Rattle.table.proofs.set_up.Statement.{statement}
 use Rattle.table.proofs.set_up.Tie as tie
 
-whole-places-requires : tie.Need-whole-places-requires
-whole-places-requires c κs = search needs
-
 returns : tie.Need-returns
 returns c = set-up-size _ (c .before .whole-places .ensures) (c .if1 .taken)
-
-clear-requires : tie.Need-clear-requires
-clear-requires c κs = search needs
-
-same-length : tie.Need-same-length
-same-length c = search needs
 
 returns-2 : tie.Need-returns-2
 returns-2 c = set-up-on _ (c .before .before .before .before .before .whole-places .ensures) (c .before .before .before .before .if1 .left) (c .before .before .clear .ensures)
 
 pub set-up-spec : {M : Type 1} → statement M
-set-up-spec =
-    tie.close (tie.spec whole-places-requires returns clear-requires same-length returns-2)
+set-up-spec = tie.close (tie.spec (λ c κs. search needs) returns (λ c κs. search needs) (λ c. search needs) returns-2)

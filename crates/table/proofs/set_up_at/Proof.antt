@@ -10,31 +10,19 @@ use borrow.Author.Needs.{needs}
 use Rattle.table.proofs.set_up_at.Statement.{statement}
 use Rattle.table.proofs.set_up_at.Tie as tie
 
-whole-places-requires : tie.Need-whole-places-requires
-whole-places-requires c κs = search needs
-
 returns : tie.Need-returns
 returns c = site-size _ (c .before .whole-places .ensures) _ (c .if1 .taken)
-
-pole-to-pole-requires : tie.Need-pole-to-pole-requires
-pole-to-pole-requires c κs = search needs
 
 returns-2 : tie.Need-returns-2
 returns-2 c =
     let a = c .before .before .before .before .before .args in
     site-pole _ (c .before .before .before .whole-places .ensures) (a .site) (c .before .before .if1 .left) (c .before .pole-to-pole .ensures) (c .if2 .taken)
 
-clear-requires : tie.Need-clear-requires
-clear-requires c κs = search needs
-
 put-site-requires : tie.Need-put-site-requires
 put-site-requires c κs = (
   omega (arith, c .before .before .before .clear .kept, whole-head _ (whole _ (c .before .before .before .before .before .before .before .before .whole-places .ensures) (c .before .before .before .before .before .before .before .if1 .left))),
   sym (c .before .before .before .before .before .before .pole-to-pole .ensures) ∙ not-false _ (c .before .before .before .before .before .if2 .left),
 )
-
-same-length : tie.Need-same-length
-same-length c = search needs
 
 returns-3 : tie.Need-returns-3
 returns-3 c =
@@ -45,11 +33,11 @@ pub set-up-at-spec : {M : Type 1} → statement M
 set-up-at-spec =
     tie.close
     (tie.spec
-    whole-places-requires
+    (λ c κs. search needs)
     returns
-    pole-to-pole-requires
+    (λ c κs. search needs)
     returns-2
-    clear-requires
+    (λ c κs. search needs)
     put-site-requires
-    same-length
+    (λ c. search needs)
     returns-3)

@@ -7,9 +7,6 @@ use borrow.Author.Needs.{needs}
 use Rattle.table.proofs.site_of.Statement.{statement}
 use Rattle.table.proofs.site_of.Tie as tie
 
-whole-places-requires : tie.Need-whole-places-requires
-whole-places-requires c κs = search needs
-
 site-of-requires : tie.Need-site-of-requires
 site-of-requires c κs = whole-head _ (sym (c .before .whole-places .ensures) ∙ c .if1 .taken)
 
@@ -20,4 +17,4 @@ returns-2 : tie.Need-returns-2
 returns-2 c = no-site _ (c .before .whole-places .ensures) (c .if1 .left)
 
 pub site-of-spec : {M : Type 1} → statement M
-site-of-spec = tie.close (tie.spec whole-places-requires site-of-requires returns returns-2)
+site-of-spec = tie.close (tie.spec (λ c κs. search needs) site-of-requires returns returns-2)

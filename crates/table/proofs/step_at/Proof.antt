@@ -9,21 +9,6 @@ use borrow.Author.Needs.{needs}
 use Rattle.table.proofs.step_at.Statement.{statement}
 use Rattle.table.proofs.step_at.Tie as tie
 
-site-of-requires : tie.Need-site-of-requires
-site-of-requires c κs = search needs
-
-frame-coarse-requires : tie.Need-frame-coarse-requires
-frame-coarse-requires c κs = search needs
-
-step-me-requires : tie.Need-step-me-requires
-step-me-requires c κs = search needs
-
-store-requires : tie.Need-store-requires
-store-requires c κs = search needs
-
-same-length : tie.Need-same-length
-same-length c = search needs
-
 returns : tie.Need-returns
 returns c =
     let step = c .before .before .before in
@@ -37,9 +22,9 @@ pub step-at-spec : {M : Type 1} → statement M
 step-at-spec =
     tie.close
     (tie.spec
-    site-of-requires
-    frame-coarse-requires
-    step-me-requires
-    store-requires
-    same-length
+    (λ c κs. search needs)
+    (λ c κs. search needs)
+    (λ c κs. search needs)
+    (λ c κs. search needs)
+    (λ c. search needs)
     returns)

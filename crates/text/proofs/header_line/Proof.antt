@@ -6,16 +6,10 @@ use borrow.Author.Needs.{needs}
 use Rattle.text.proofs.header_line.Statement.{statement}
 use Rattle.text.proofs.header_line.Tie as tie
 
-slice-aggregate-put-header : tie.Need-slice-aggregate-put-header
-slice-aggregate-put-header c = search needs
-
-put-header-requires : tie.Need-put-header-requires
-put-header-requires c κs = search needs
-
 returns : tie.Need-returns
 returns c =
     let a = c .before .before .before .args in
     line-made (omega (arith, header-most (a .clock) (a .tracks) (a .bad))) (c .before .put-header .ensures)
 
 pub header-line-spec : {M : Type 1} → statement M
-header-line-spec = tie.close (tie.spec slice-aggregate-put-header put-header-requires returns)
+header-line-spec = tie.close (tie.spec (λ c. search needs) (λ c κs. search needs) returns)

@@ -13,26 +13,8 @@ use borrow.Author.Needs.{needs}
 use Rattle.text.proofs.put_key.Statement.{statement}
 use Rattle.text.proofs.put_key.Tie as tie
 
-letter-in-requires : tie.Need-letter-in-requires
-letter-in-requires c κs = search needs
-
-put-byte-requires : tie.Need-put-byte-requires
-put-byte-requires c κs = search needs
-
-put-byte-requires-2 : tie.Need-put-byte-requires-2
-put-byte-requires-2 c κs = search needs
-
-address-in-requires : tie.Need-address-in-requires
-address-in-requires c κs = search needs
-
-put-hex-requires : tie.Need-put-hex-requires
-put-hex-requires c κs = search needs
-
 put-sender-requires : tie.Need-put-sender-requires
 put-sender-requires c κs = omega (arith, c .before .before .before .put-hex .ensures .next, hex-length 6 (c .before .before .before .before .address-in .result))
-
-same-length : tie.Need-same-length
-same-length c = search needs
 
 returns : tie.Need-returns
 unfolding keyText
@@ -46,11 +28,11 @@ pub put-key-spec : {M : Type 1} → statement M
 put-key-spec =
     tie.close
     (tie.spec
-    letter-in-requires
-    put-byte-requires
-    put-byte-requires-2
-    address-in-requires
-    put-hex-requires
+    (λ c κs. search needs)
+    (λ c κs. search needs)
+    (λ c κs. search needs)
+    (λ c κs. search needs)
+    (λ c κs. search needs)
     put-sender-requires
-    same-length
+    (λ c. search needs)
     returns)

@@ -35,15 +35,6 @@ module _ (t : Track) (time me : ℕ) where
   located false true e h = absurd (true≢false h)
   located false false e h = rw e
 
-airborne-of-requires : tie.Need-airborne-of-requires
-airborne-of-requires c κs = search needs
-
-with-reported-requires : tie.Need-with-reported-requires
-with-reported-requires c κs = search needs
-
-group-track-requires : tie.Need-group-track-requires
-group-track-requires c κs = search needs
-
 returns : tie.Need-returns
 returns c =
     let p = c .before .before .before .before in
@@ -54,12 +45,6 @@ returns c =
     c .group-track .ensures
     ∙ ap (λ (g : Groups). groupTrack (a .t) g (a .time)) (c .before .with-reported .ensures ∙ ap (λ (x : Airborne). reported (a .t .groups) (x .altitude)) (b .ensures))
     ∙ silent (a .t) (a .time) (a .me) (a .coarse) _ refl tested
-
-aloft-in-requires : tie.Need-aloft-in-requires
-aloft-in-requires c κs = search needs
-
-saved-track-requires : tie.Need-saved-track-requires
-saved-track-requires c κs = search needs
 
 returns-2 : tie.Need-returns-2
 returns-2 c =
@@ -75,10 +60,10 @@ pub air-step-spec : {M : Type 1} → statement M
 air-step-spec =
     tie.close
     (tie.spec
-    airborne-of-requires
-    with-reported-requires
-    group-track-requires
+    (λ c κs. search needs)
+    (λ c κs. search needs)
+    (λ c κs. search needs)
     returns
-    aloft-in-requires
-    saved-track-requires
+    (λ c κs. search needs)
+    (λ c κs. search needs)
     returns-2)

@@ -4,11 +4,8 @@ use borrow.Author.Needs.{needs}
 use Rattle.track.proofs.airborne_aloft.Statement.{statement}
 use Rattle.track.proofs.airborne_aloft.Tie as tie
 
-with-altitude-requires : tie.Need-with-altitude-requires
-with-altitude-requires c κs = search needs
-
 returns : tie.Need-returns
 returns c = rw (c .with-altitude .ensures)
 
 pub airborne-aloft-spec : {M : Type 1} → statement M
-airborne-aloft-spec = tie.close (tie.spec with-altitude-requires returns)
+airborne-aloft-spec = tie.close (tie.spec (λ c κs. search needs) returns)

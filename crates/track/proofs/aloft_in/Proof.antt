@@ -12,18 +12,6 @@ use borrow.Author.Needs.{needs}
 use Rattle.track.proofs.aloft_in.Statement.{statement}
 use Rattle.track.proofs.aloft_in.Tie as tie
 
-coarse-of-requires : tie.Need-coarse-of-requires
-coarse-of-requires c κs = search needs
-
-coarse-aloft-requires : tie.Need-coarse-aloft-requires
-coarse-aloft-requires c κs = search needs
-
-airborne-of-requires : tie.Need-airborne-of-requires
-airborne-of-requires c κs = search needs
-
-airborne-aloft-requires : tie.Need-airborne-aloft-requires
-airborne-aloft-requires c κs = search needs
-
 returns : tie.Need-returns
 returns c =
     let a = c .before .before .before .args in
@@ -40,11 +28,4 @@ returns-2 c =
 
 pub aloft-in-spec : {M : Type 1} → statement M
 aloft-in-spec =
-    tie.close
-    (tie.spec
-    coarse-of-requires
-    coarse-aloft-requires
-    airborne-of-requires
-    airborne-aloft-requires
-    returns
-    returns-2)
+    tie.close (tie.spec (λ c κs. search needs) (λ c κs. search needs) (λ c κs. search needs) (λ c κs. search needs) returns returns-2)

@@ -4,11 +4,8 @@ use borrow.Author.Needs.{needs}
 use Rattle.track.proofs.coarse_aloft.Statement.{statement}
 use Rattle.track.proofs.coarse_aloft.Tie as tie
 
-with-coarse-requires : tie.Need-with-coarse-requires
-with-coarse-requires c κs = search needs
-
 returns : tie.Need-returns
 returns c = rw (c .with-coarse .ensures)
 
 pub coarse-aloft-spec : {M : Type 1} → statement M
-coarse-aloft-spec = tie.close (tie.spec with-coarse-requires returns)
+coarse-aloft-spec = tie.close (tie.spec (λ c κs. search needs) returns)

@@ -5,21 +5,6 @@ use borrow.Author.Needs.{needs}
 use Rattle.track.proofs.surface_track.Statement.{statement}
 use Rattle.track.proofs.surface_track.Tie as tie
 
-no-saved-requires : tie.Need-no-saved-requires
-no-saved-requires c κs = search needs
-
-with-surface-requires : tie.Need-with-surface-requires
-with-surface-requires c κs = search needs
-
-format-of-requires : tie.Need-format-of-requires
-format-of-requires c κs = search needs
-
-surface-position-requires : tie.Need-surface-position-requires
-surface-position-requires c κs = search needs
-
-placed-or-requires : tie.Need-placed-or-requires
-placed-or-requires c κs = search needs
-
 returns : tie.Need-returns
 unfolding surfaceTrack
 returns c =
@@ -31,9 +16,9 @@ pub surface-track-spec : {M : Type 1} → statement M
 surface-track-spec =
     tie.close
     (tie.spec
-    no-saved-requires
-    with-surface-requires
-    format-of-requires
-    surface-position-requires
-    placed-or-requires
+    (λ c κs. search needs)
+    (λ c κs. search needs)
+    (λ c κs. search needs)
+    (λ c κs. search needs)
+    (λ c κs. search needs)
     returns)

@@ -8,21 +8,6 @@ use borrow.Author.Needs.{needs}
 use Rattle.whereabouts.proofs.after_pair.Statement.{statement}
 use Rattle.whereabouts.proofs.after_pair.Tie as tie
 
-enum-known-found : tie.Need-enum-known-found
-enum-known-found c = search needs
-
-found-at-requires : tie.Need-found-at-requires
-found-at-requires c κs = search needs
-
-enum-known-found-2 : tie.Need-enum-known-found-2
-enum-known-found-2 c = search needs
-
-read-singly-requires : tie.Need-read-singly-requires
-read-singly-requires c κs = search needs
-
-pass-on-requires : tie.Need-pass-on-requires
-pass-on-requires c κs = search needs
-
 returns : tie.Need-returns
 returns c =
     let a = c .before .before .before .before .args in
@@ -36,10 +21,10 @@ pub after-pair-spec : {M : Type 1} → statement M
 after-pair-spec =
     tie.close
     (tie.spec
-    enum-known-found
-    found-at-requires
-    enum-known-found-2
-    read-singly-requires
-    pass-on-requires
+    (λ c. search needs)
+    (λ c κs. search needs)
+    (λ c. search needs)
+    (λ c κs. search needs)
+    (λ c κs. search needs)
     returns
     returns-2)

@@ -21,12 +21,6 @@ by-partner : (p : Position) (size : Size) (counts : Counts) (format : Format) (t
 by-partner p size counts format time true found = refl
 by-partner p size counts format time false found = refl
 
-tried-with-requires : tie.Need-tried-with-requires
-tried-with-requires c κs = search needs
-
-after-pair-requires : tie.Need-after-pair-requires
-after-pair-requires c κs = search needs
-
 returns : tie.Need-returns
 unfolding airbornePosition
 returns c =
@@ -36,4 +30,4 @@ returns c =
     ∙ by-partner (a .p) (a .size) (a .counts) (a .format) (a .time) (isPartner (a .partner) (a .size) (a .time)) _
 
 pub airborne-position-spec : {M : Type 1} → statement M
-airborne-position-spec = tie.close (tie.spec tried-with-requires after-pair-requires returns)
+airborne-position-spec = tie.close (tie.spec (λ c κs. search needs) (λ c κs. search needs) returns)

@@ -6,11 +6,8 @@ use borrow.Author.Needs.{needs}
 use Rattle.whereabouts.proofs.is_fresh.Statement.{statement}
 use Rattle.whereabouts.proofs.is_fresh.Tie as tie
 
-is-within-requires : tie.Need-is-within-requires
-is-within-requires c κs = search needs
-
 returns : tie.Need-returns
 returns c = ap (λ (x : Bool). c .before .before .args .p .known && x) (c .before .is-within .ensures)
 
 pub is-fresh-spec : {M : Type 1} → statement M
-is-fresh-spec = tie.close (tie.spec is-within-requires returns)
+is-fresh-spec = tie.close (tie.spec (λ c κs. search needs) returns)

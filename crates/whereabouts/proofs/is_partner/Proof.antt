@@ -5,15 +5,9 @@ use borrow.Author.Needs.{needs}
 use Rattle.whereabouts.proofs.is_partner.Statement.{statement}
 use Rattle.whereabouts.proofs.is_partner.Tie as tie
 
-same-size-requires : tie.Need-same-size-requires
-same-size-requires c κs = search needs
-
-is-within-requires : tie.Need-is-within-requires
-is-within-requires c κs = search needs
-
 returns : tie.Need-returns
 unfolding isPartner
 returns c = rw (c .before .before .same-size .ensures, c .is-within .ensures)
 
 pub is-partner-spec : {M : Type 1} → statement M
-is-partner-spec = tie.close (tie.spec same-size-requires is-within-requires returns)
+is-partner-spec = tie.close (tie.spec (λ c κs. search needs) (λ c κs. search needs) returns)

@@ -6,18 +6,6 @@ use borrow.Author.Needs.{needs}
 use Rattle.whereabouts.proofs.paired_with.Statement.{statement}
 use Rattle.whereabouts.proofs.paired_with.Tie as tie
 
-enum-told : tie.Need-enum-told
-enum-told c = search needs
-
-pair-requires : tie.Need-pair-requires
-pair-requires c κs = search needs
-
-enum-told-2 : tie.Need-enum-told-2
-enum-told-2 c = search needs
-
-pair-requires-2 : tie.Need-pair-requires-2
-pair-requires-2 c κs = search needs
-
 returns : tie.Need-returns
 unfolding pairedWith
 returns c =
@@ -32,4 +20,4 @@ returns-2 c =
 
 pub paired-with-spec : {M : Type 1} → statement M
 paired-with-spec =
-    tie.close (tie.spec enum-told pair-requires enum-told-2 pair-requires-2 returns returns-2)
+    tie.close (tie.spec (λ c. search needs) (λ c κs. search needs) (λ c. search needs) (λ c κs. search needs) returns returns-2)

@@ -7,9 +7,6 @@ use borrow.Author.Needs.{needs}
 use Rattle.whereabouts.proofs.pass_on.Statement.{statement}
 use Rattle.whereabouts.proofs.pass_on.Tie as tie
 
-number-requires : tie.Need-number-requires
-number-requires c κs = search needs
-
 returns : tie.Need-returns
 returns c =
     let p = c .before in
@@ -21,4 +18,4 @@ returns-2 c =
     rw (ne-eqb (numberOf (p .before .args .r)) 8 (λ e. c .if1 .left (p .number .ensures ∙ e)))
 
 pub pass-on-spec : {M : Type 1} → statement M
-pass-on-spec = tie.close (tie.spec number-requires returns returns-2)
+pass-on-spec = tie.close (tie.spec (λ c κs. search needs) returns returns-2)

@@ -12,12 +12,6 @@ use Rattle.whereabouts.proofs.pole_to_pole.Tie as tie
 wide : (z : ℤ) → SFits w32 z → SFits w64 z
 wide z h = sfits-widen tt h
 
-widen-requires : tie.Need-widen-requires
-widen-requires c κs = search needs
-
-size-of-requires : tie.Need-size-of-requires
-size-of-requires c κs = search needs
-
 returns : tie.Need-returns
 returns c =
     let z = c .before .before .before .args .spot .latitude in
@@ -25,4 +19,4 @@ returns c =
     rw (c .size-of .ensures, c .before .widen .ensures, toZ-ofZ h, toZ-ofZ (wide z h))
 
 pub pole-to-pole-spec : {M : Type 1} → statement M
-pole-to-pole-spec = tie.close (tie.spec widen-requires size-of-requires returns)
+pole-to-pole-spec = tie.close (tie.spec (λ c κs. search needs) (λ c κs. search needs) returns)

@@ -7,12 +7,6 @@ use borrow.Author.Needs.{needs}
 use Rattle.whereabouts.proofs.read_near.Statement.{statement}
 use Rattle.whereabouts.proofs.read_near.Tie as tie
 
-single-requires : tie.Need-single-requires
-single-requires c κs = search needs
-
-settle-requires : tie.Need-settle-requires
-settle-requires c κs = search needs
-
 returns : tie.Need-returns
 unfolding readNear
 returns c =
@@ -20,4 +14,4 @@ returns c =
     c .settle .ensures ∙ ap (λ (x : Found). settled x (a .p) (a .time)) (c .before .single .ensures)
 
 pub read-near-spec : {M : Type 1} → statement M
-read-near-spec = tie.close (tie.spec single-requires settle-requires returns)
+read-near-spec = tie.close (tie.spec (λ c κs. search needs) (λ c κs. search needs) returns)

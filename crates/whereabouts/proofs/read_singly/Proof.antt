@@ -7,12 +7,6 @@ use borrow.Author.Needs.{needs}
 use Rattle.whereabouts.proofs.read_singly.Statement.{statement}
 use Rattle.whereabouts.proofs.read_singly.Tie as tie
 
-is-fresh-requires : tie.Need-is-fresh-requires
-is-fresh-requires c κs = search needs
-
-read-near-requires : tie.Need-read-near-requires
-read-near-requires c κs = search needs
-
 returns : tie.Need-returns
 unfolding readSingly
 returns c =
@@ -28,4 +22,4 @@ returns-2 c =
     rw t
 
 pub read-singly-spec : {M : Type 1} → statement M
-read-singly-spec = tie.close (tie.spec is-fresh-requires read-near-requires returns returns-2)
+read-singly-spec = tie.close (tie.spec (λ c κs. search needs) (λ c κs. search needs) returns returns-2)

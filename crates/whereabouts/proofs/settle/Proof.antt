@@ -8,18 +8,6 @@ use borrow.Author.Needs.{needs}
 use Rattle.whereabouts.proofs.settle.Statement.{statement}
 use Rattle.whereabouts.proofs.settle.Tie as tie
 
-enum-known-found : tie.Need-enum-known-found
-enum-known-found c = search needs
-
-found-at-requires : tie.Need-found-at-requires
-found-at-requires c κs = search needs
-
-enum-known-found-2 : tie.Need-enum-known-found-2
-enum-known-found-2 c = search needs
-
-pass-on-requires : tie.Need-pass-on-requires
-pass-on-requires c κs = search needs
-
 returns : tie.Need-returns
 returns c =
     let a = c .before .before .before .before .args in
@@ -32,5 +20,4 @@ returns-2 c =
 
 pub settle-spec : {M : Type 1} → statement M
 settle-spec =
-    tie.close
-    (tie.spec enum-known-found found-at-requires enum-known-found-2 pass-on-requires returns returns-2)
+    tie.close (tie.spec (λ c. search needs) (λ c κs. search needs) (λ c. search needs) (λ c κs. search needs) returns returns-2)

@@ -7,12 +7,6 @@ use borrow.Author.Needs.{needs}
 use Rattle.whereabouts.proofs.surface_position.Statement.{statement}
 use Rattle.whereabouts.proofs.surface_position.Tie as tie
 
-is-fresh-requires : tie.Need-is-fresh-requires
-is-fresh-requires c κs = search needs
-
-read-near-requires : tie.Need-read-near-requires
-read-near-requires c κs = search needs
-
 returns : tie.Need-returns
 unfolding surfacePosition
 returns c =
@@ -20,9 +14,6 @@ returns c =
     let a = p .before .args in
     let t : isFresh (a .p) (a .time) ≡ true = sym (p .is-fresh .ensures) ∙ c .before .before .if1 .taken in
     rw t (c .read-near .ensures)
-
-read-near-requires-2 : tie.Need-read-near-requires-2
-read-near-requires-2 c κs = search needs
 
 returns-2 : tie.Need-returns-2
 unfolding surfacePosition
@@ -42,11 +33,4 @@ returns-3 c =
 
 pub surface-position-spec : {M : Type 1} → statement M
 surface-position-spec =
-    tie.close
-    (tie.spec
-    is-fresh-requires
-    read-near-requires
-    returns
-    read-near-requires-2
-    returns-2
-    returns-3)
+    tie.close (tie.spec (λ c κs. search needs) (λ c κs. search needs) returns (λ c κs. search needs) returns-2 returns-3)

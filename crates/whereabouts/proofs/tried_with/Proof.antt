@@ -7,12 +7,6 @@ use borrow.Author.Needs.{needs}
 use Rattle.whereabouts.proofs.tried_with.Statement.{statement}
 use Rattle.whereabouts.proofs.tried_with.Tie as tie
 
-is-partner-requires : tie.Need-is-partner-requires
-is-partner-requires c κs = search needs
-
-paired-with-requires : tie.Need-paired-with-requires
-paired-with-requires c κs = search needs
-
 returns : tie.Need-returns
 returns c =
     let p = c .before .before .before in
@@ -27,5 +21,4 @@ returns-2 c =
     rw t
 
 pub tried-with-spec : {M : Type 1} → statement M
-tried-with-spec =
-    tie.close (tie.spec is-partner-requires paired-with-requires returns returns-2)
+tried-with-spec = tie.close (tie.spec (λ c κs. search needs) (λ c κs. search needs) returns returns-2)

@@ -5,14 +5,8 @@ use borrow.Author.Needs.{needs}
 use Rattle.whole.proofs.has_room.Statement.{statement}
 use Rattle.whole.proofs.has_room.Tie as tie
 
-places-of-requires : tie.Need-places-of-requires
-places-of-requires c κs = search needs
-
-add-result : tie.Need-add-result
-add-result c = search needs
-
 returns : tie.Need-returns
 returns c = room-is _ _ _ (c .places-of .ensures)
 
 pub has-room-spec : {M : Type 1} → statement M
-has-room-spec = tie.close (tie.spec places-of-requires add-result returns)
+has-room-spec = tie.close (tie.spec (λ c κs. search needs) (λ c. search needs) returns)

@@ -9,22 +9,9 @@ use Rattle.addercoil.proofs.blocks.addercoil_feed_block.Tie as tie
 returns : tie.Need-returns
 returns c = rw (ne-eqb _ _ (c .if1 .taken))
 
-feed-block-requires : tie.Need-feed-block-requires
-feed-block-requires c κs = search needs
-
-give-fed-requires : tie.Need-give-fed-requires
-give-fed-requires c κs = search needs
-
-same-length : tie.Need-same-length
-same-length c = search needs
-
-same-length-2 : tie.Need-same-length-2
-same-length-2 c = search needs
-
 returns-2 : tie.Need-returns-2
 returns-2 c = fed-on _ _ _ (c .before .before .before .before .before .before .before .before .if1 .left) (c .before .before .give-fed .ensures) (c .before .before .before .before .before .feed-block .ensures)
 
 pub addercoil-feed-block-spec : {M : Type 1} → statement M
 addercoil-feed-block-spec =
-    tie.close
-    (tie.spec returns feed-block-requires give-fed-requires same-length same-length-2 returns-2)
+    tie.close (tie.spec returns (λ c κs. search needs) (λ c κs. search needs) (λ c. search needs) (λ c. search needs) returns-2)

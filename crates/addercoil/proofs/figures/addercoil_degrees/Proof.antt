@@ -9,14 +9,8 @@ use Rattle.addercoil.proofs.figures.addercoil_degrees.Tie as tie
 returns : tie.Need-returns
 returns c = degrees-wrong _ _ _ (c .if1 .taken)
 
-to-degrees-requires : tie.Need-to-degrees-requires
-to-degrees-requires c κs = search needs
-
 give-figures-requires : tie.Need-give-figures-requires
 give-figures-requires c κs = c .before .before .if1 .left
-
-same-length : tie.Need-same-length
-same-length c = search needs
 
 returns-2 : tie.Need-returns-2
 returns-2 c =
@@ -26,4 +20,4 @@ returns-2 c =
 
 pub addercoil-degrees-spec : {M : Type 1} → statement M
 addercoil-degrees-spec =
-    tie.close (tie.spec returns to-degrees-requires give-figures-requires same-length returns-2)
+    tie.close (tie.spec returns (λ c κs. search needs) give-figures-requires (λ c. search needs) returns-2)

@@ -9,15 +9,6 @@ use Rattle.addercoil.proofs.figures.addercoil_from_degrees.Tie as tie
 returns : tie.Need-returns
 returns c = into-wrong 2 _ _ (c .if1 .taken)
 
-from-degrees-requires : tie.Need-from-degrees-requires
-from-degrees-requires c κs = search needs
-
-give-spot-requires : tie.Need-give-spot-requires
-give-spot-requires c κs = search needs
-
-same-length : tie.Need-same-length
-same-length c = search needs
-
 returns-2 : tie.Need-returns-2
 returns-2 c =
     into-given 2 _ _ (c .before .before .before .before .before .if1 .left)
@@ -25,4 +16,4 @@ returns-2 c =
 
 pub addercoil-from-degrees-spec : {M : Type 1} → statement M
 addercoil-from-degrees-spec =
-    tie.close (tie.spec returns from-degrees-requires give-spot-requires same-length returns-2)
+    tie.close (tie.spec returns (λ c κs. search needs) (λ c κs. search needs) (λ c. search needs) returns-2)

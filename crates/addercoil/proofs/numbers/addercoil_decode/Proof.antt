@@ -15,15 +15,6 @@ use Rattle.addercoil.proofs.numbers.addercoil_decode.Tie as tie
 returns : tie.Need-returns
 returns c = into-wrong 28 _ _ (c .if1 .taken)
 
-frame-in-requires : tie.Need-frame-in-requires
-frame-in-requires c κs = search needs
-
-give-message-requires : tie.Need-give-message-requires
-give-message-requires c κs = search needs
-
-same-length : tie.Need-same-length
-same-length c = search needs
-
 returns-2 : tie.Need-returns-2
 returns-2 c =
     let m = c .before .before in
@@ -34,4 +25,4 @@ returns-2 c =
 
 pub addercoil-decode-spec : {M : Type 1} → statement M
 addercoil-decode-spec =
-    tie.close (tie.spec returns frame-in-requires give-message-requires same-length returns-2)
+    tie.close (tie.spec returns (λ c κs. search needs) (λ c κs. search needs) (λ c. search needs) returns-2)

@@ -8,18 +8,9 @@ use Rattle.addercoil.proofs.numbers.addercoil_encode.Tie as tie
 returns : tie.Need-returns
 returns c = encode-wrong _ _ (c .if1 .taken)
 
-message-from-requires : tie.Need-message-from-requires
-message-from-requires c κs = search needs
-
-encode-into-requires : tie.Need-encode-into-requires
-encode-into-requires c κs = search needs
-
-same-length : tie.Need-same-length
-same-length c = search needs
-
 returns-2 : tie.Need-returns-2
 returns-2 c = encode-right _ _ (c .before .before .before .before .before .if1 .left) (c .before .before .before .message-from .ensures) (c .before .before .encode-into .ensures)
 
 pub addercoil-encode-spec : {M : Type 1} → statement M
 addercoil-encode-spec =
-    tie.close (tie.spec returns message-from-requires encode-into-requires same-length returns-2)
+    tie.close (tie.spec returns (λ c κs. search needs) (λ c κs. search needs) (λ c. search needs) returns-2)

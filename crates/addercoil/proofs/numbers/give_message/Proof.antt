@@ -9,21 +9,6 @@ use borrow.Author.Needs.{needs}
 use Rattle.addercoil.proofs.numbers.give_message.Statement.{statement}
 use Rattle.addercoil.proofs.numbers.give_message.Tie as tie
 
-enum-known-answer : tie.Need-enum-known-answer
-enum-known-answer c = search needs
-
-give-frame-requires : tie.Need-give-frame-requires
-give-frame-requires c κs = search needs
-
-enum-known-answer-2 : tie.Need-enum-known-answer-2
-enum-known-answer-2 c = search needs
-
-number-requires : tie.Need-number-requires
-number-requires c κs = search needs
-
-same-length : tie.Need-same-length
-same-length c = search needs
-
 returns : tie.Need-returns
 returns c =
     given-as (λ (x : Accepted). messageSaid (decodedBy x)) (c .before .before .before .before .before .before .before .before .args .out .now) (c .before .before .before .before .before .answer .given .1) (c .before .before .give-frame .ensures)
@@ -35,10 +20,10 @@ pub give-message-spec : {M : Type 1} → statement M
 give-message-spec =
     tie.close
     (tie.spec
-    enum-known-answer
-    give-frame-requires
-    enum-known-answer-2
-    number-requires
-    same-length
+    (λ c. search needs)
+    (λ c κs. search needs)
+    (λ c. search needs)
+    (λ c κs. search needs)
+    (λ c. search needs)
     returns
     returns-2)

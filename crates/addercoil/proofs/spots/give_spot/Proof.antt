@@ -7,21 +7,6 @@ use borrow.Author.Needs.{needs}
 use Rattle.addercoil.proofs.spots.give_spot.Statement.{statement}
 use Rattle.addercoil.proofs.spots.give_spot.Tie as tie
 
-enum-known-answer : tie.Need-enum-known-answer
-enum-known-answer c = search needs
-
-give-at-requires : tie.Need-give-at-requires
-give-at-requires c κs = search needs
-
-enum-known-answer-2 : tie.Need-enum-known-answer-2
-enum-known-answer-2 c = search needs
-
-number-requires : tie.Need-number-requires
-number-requires c κs = search needs
-
-same-length : tie.Need-same-length
-same-length c = search needs
-
 returns : tie.Need-returns
 returns c = given-as spotSaid _ (c .before .before .before .before .before .answer .given .1) (c .before .before .give-at .ensures)
 
@@ -32,10 +17,10 @@ pub give-spot-spec : {M : Type 1} → statement M
 give-spot-spec =
     tie.close
     (tie.spec
-    enum-known-answer
-    give-at-requires
-    enum-known-answer-2
-    number-requires
-    same-length
+    (λ c. search needs)
+    (λ c κs. search needs)
+    (λ c. search needs)
+    (λ c κs. search needs)
+    (λ c. search needs)
     returns
     returns-2)

@@ -9,24 +9,6 @@ use borrow.Author.Needs.{needs}
 use Rattle.addercoil.proofs.stamped.give_noted.Statement.{statement}
 use Rattle.addercoil.proofs.stamped.give_noted.Tie as tie
 
-bit-requires : tie.Need-bit-requires
-bit-requires c κs = search needs
-
-slice-write-state : tie.Need-slice-write-state
-slice-write-state c = search needs
-
-cast-state : tie.Need-cast-state
-cast-state c = search needs
-
-slice-write-state-2 : tie.Need-slice-write-state-2
-slice-write-state-2 c = search needs
-
-heard-number-requires : tie.Need-heard-number-requires
-heard-number-requires c κs = search needs
-
-same-length : tie.Need-same-length
-same-length c = search needs
-
 returns : tie.Need-returns
 returns c =
     let a = c .before .before .before .before .before .args in
@@ -36,10 +18,10 @@ pub give-noted-spec : {M : Type 1} → statement M
 give-noted-spec =
     tie.close
     (tie.spec
-    bit-requires
-    slice-write-state
-    cast-state
-    slice-write-state-2
-    heard-number-requires
-    same-length
+    (λ c κs. search needs)
+    (λ c. search needs)
+    (λ c. search needs)
+    (λ c. search needs)
+    (λ c κs. search needs)
+    (λ c. search needs)
     returns)

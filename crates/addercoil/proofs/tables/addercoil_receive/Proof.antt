@@ -6,19 +6,9 @@ use borrow.Author.Needs.{needs}
 use Rattle.addercoil.proofs.tables.addercoil_receive.Statement.{statement}
 use Rattle.addercoil.proofs.tables.addercoil_receive.Tie as tie
 
-hear-requires : tie.Need-hear-requires
-hear-requires c κs = search needs
-
-heard-number-requires : tie.Need-heard-number-requires
-heard-number-requires c κs = search needs
-
-same-length : tie.Need-same-length
-same-length c = search needs
-
 returns : tie.Need-returns
 unfolding receivedSent
 returns c = left-as heardNumber (c .heard-number .ensures) (c .before .before .before .hear .ensures)
 
 pub addercoil-receive-spec : {M : Type 1} → statement M
-addercoil-receive-spec =
-    tie.close (tie.spec hear-requires heard-number-requires same-length returns)
+addercoil-receive-spec = tie.close (tie.spec (λ c κs. search needs) (λ c κs. search needs) (λ c. search needs) returns)

@@ -8,24 +8,6 @@ use borrow.Author.Needs.{needs}
 use Rattle.addercoil.proofs.tables.give_site.Statement.{statement}
 use Rattle.addercoil.proofs.tables.give_site.Tie as tie
 
-bit-requires : tie.Need-bit-requires
-bit-requires c κs = search needs
-
-twos-of-requires : tie.Need-twos-of-requires
-twos-of-requires c κs = search needs
-
-cast-longitude : tie.Need-cast-longitude
-cast-longitude c = search needs
-
-slice-aggregate-give : tie.Need-slice-aggregate-give
-slice-aggregate-give c = search needs
-
-give-requires : tie.Need-give-requires
-give-requires c κs = search needs
-
-same-length : tie.Need-same-length
-same-length c = search needs
-
 returns : tie.Need-returns
 returns c = c .before .before .give .ensures ∙ rw (c .before .before .before .before .before .before .before .before .bit .ensures, c .before .before .before .before .before .before .twos-of .ensures, toZ-ofZ {w = w32} {z = c .before .before .before .before .before .before .before .before .before .before .args .site .spot .latitude} (record { sfits = omega (arith, c .before .before .before .before .before .before .before .struct-told .given) }))
 
@@ -33,10 +15,10 @@ pub give-site-spec : {M : Type 1} → statement M
 give-site-spec =
     tie.close
     (tie.spec
-    bit-requires
-    twos-of-requires
-    cast-longitude
-    slice-aggregate-give
-    give-requires
-    same-length
+    (λ c κs. search needs)
+    (λ c κs. search needs)
+    (λ c. search needs)
+    (λ c. search needs)
+    (λ c κs. search needs)
+    (λ c. search needs)
     returns)

@@ -12,15 +12,6 @@ use Rattle.audit.proofs.replays.addercoil_replay.Tie as tie
 returns : tie.Need-returns
 returns c = into-wrong 72 _ _ (c .if1 .taken)
 
-no-site-requires : tie.Need-no-site-requires
-no-site-requires c κs = search needs
-
-give-replay-requires : tie.Need-give-replay-requires
-give-replay-requires c κs = search needs
-
-same-length : tie.Need-same-length
-same-length c = search needs
-
 returns-2 : tie.Need-returns-2
 returns-2 c =
     let a = c .before .before .before .before .before .before .before .before .args in
@@ -28,4 +19,4 @@ returns-2 c =
 
 pub addercoil-replay-spec : {M : Type 1} → statement M
 addercoil-replay-spec =
-    tie.close (tie.spec returns no-site-requires give-replay-requires same-length returns-2)
+    tie.close (tie.spec returns (λ c κs. search needs) (λ c κs. search needs) (λ c. search needs) returns-2)

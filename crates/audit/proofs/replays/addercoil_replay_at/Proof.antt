@@ -9,16 +9,10 @@ use Rattle.audit.proofs.replays.addercoil_replay_at.Tie as tie
 returns : tie.Need-returns
 returns c = into-wrong 72 _ _ (c .if1 .taken)
 
-give-replay-requires : tie.Need-give-replay-requires
-give-replay-requires c κs = search needs
-
-same-length : tie.Need-same-length
-same-length c = search needs
-
 returns-2 : tie.Need-returns-2
 returns-2 c =
     let a = c .before .before .before .before .before .before .before .args in
     into-given 72 (a .out .now) _ (c .before .before .before .before .if1 .left) (rw (toZ-ofZ (c .before .before .before .before .before .before .before .fits .latitude)) at (c .before .before .give-replay .ensures))
 
 pub addercoil-replay-at-spec : {M : Type 1} → statement M
-addercoil-replay-at-spec = tie.close (tie.spec returns give-replay-requires same-length returns-2)
+addercoil-replay-at-spec = tie.close (tie.spec returns (λ c κs. search needs) (λ c. search needs) returns-2)

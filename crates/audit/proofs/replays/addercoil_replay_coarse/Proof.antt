@@ -8,17 +8,10 @@ use Rattle.audit.proofs.replays.addercoil_replay_coarse.Tie as tie
 returns : tie.Need-returns
 returns c = into-wrong 72 _ _ (c .if1 .taken)
 
-give-coarse-requires : tie.Need-give-coarse-requires
-give-coarse-requires c κs = search needs
-
-same-length : tie.Need-same-length
-same-length c = search needs
-
 returns-2 : tie.Need-returns-2
 returns-2 c =
     let a = c .before .before .before .before .before .before .before .args in
     into-given 72 (a .out .now) _ (c .before .before .before .before .if1 .left) (c .before .before .give-coarse .ensures)
 
 pub addercoil-replay-coarse-spec : {M : Type 1} → statement M
-addercoil-replay-coarse-spec =
-    tie.close (tie.spec returns give-coarse-requires same-length returns-2)
+addercoil-replay-coarse-spec = tie.close (tie.spec returns (λ c κs. search needs) (λ c. search needs) returns-2)

@@ -10,18 +10,6 @@ use borrow.Author.Needs.{needs}
 use Rattle.audit.proofs.replays.give_of.Statement.{statement}
 use Rattle.audit.proofs.replays.give_of.Tie as tie
 
-replay-requires : tie.Need-replay-requires
-replay-requires c κs = search needs
-
-key-for-requires : tie.Need-key-for-requires
-key-for-requires c κs = search needs
-
-give-held-requires : tie.Need-give-held-requires
-give-held-requires c κs = search needs
-
-same-length : tie.Need-same-length
-same-length c = search needs
-
 returns : tie.Need-returns
 unfolding workedOut
 returns c =
@@ -32,4 +20,4 @@ returns c =
 
 pub give-of-spec : {M : Type 1} → statement M
 give-of-spec =
-    tie.close (tie.spec replay-requires key-for-requires give-held-requires same-length returns)
+    tie.close (tie.spec (λ c κs. search needs) (λ c κs. search needs) (λ c κs. search needs) (λ c. search needs) returns)

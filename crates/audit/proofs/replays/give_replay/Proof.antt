@@ -11,31 +11,16 @@ use borrow.Author.Needs.{needs}
 use Rattle.audit.proofs.replays.give_replay.Statement.{statement}
 use Rattle.audit.proofs.replays.give_replay.Tie as tie
 
-is-log-requires : tie.Need-is-log-requires
-is-log-requires c κs = search needs
-
 returns : tie.Need-returns
 returns c =
     let a = c .before .before .before .before .args in
     no-log (a .out .now) (a .log .now) (not (isKind (a .kind))) (kindAt (a .kind)) (a .address) (a .site) (c .before .is-log .ensures) (c .if1 .taken)
-
-is-kind-requires : tie.Need-is-kind-requires
-is-kind-requires c κs = search needs
 
 returns-2 : tie.Need-returns-2
 returns-2 c =
     let a = c .before .before .before .before .before .before .args in
     no-kind (a .out .now) (a .log .now) (not (isKind (a .kind))) (kindAt (a .kind)) (a .address) (a .site) (c .before .before .before .is-log .ensures) (c .before .before .if1 .left)
     (sym (ap not (c .before .is-kind .ensures)) ∙ c .if2 .taken)
-
-kind-at-requires : tie.Need-kind-at-requires
-kind-at-requires c κs = search needs
-
-give-of-requires : tie.Need-give-of-requires
-give-of-requires c κs = search needs
-
-same-length : tie.Need-same-length
-same-length c = search needs
 
 returns-3 : tie.Need-returns-3
 returns-3 c =
@@ -49,11 +34,11 @@ pub give-replay-spec : {M : Type 1} → statement M
 give-replay-spec =
     tie.close
     (tie.spec
-    is-log-requires
+    (λ c κs. search needs)
     returns
-    is-kind-requires
+    (λ c κs. search needs)
     returns-2
-    kind-at-requires
-    give-of-requires
-    same-length
+    (λ c κs. search needs)
+    (λ c κs. search needs)
+    (λ c. search needs)
     returns-3)

@@ -12,20 +12,8 @@ use Rattle.display.proofs.lines.addercoil_line.Tie as tie
 returns : tie.Need-returns
 returns c = into-wrong lineBuffer _ _ (c .if1 .taken)
 
-no-choice-requires : tie.Need-no-choice-requires
-no-choice-requires c κs = search needs
-
 returns-2 : tie.Need-returns-2
 returns-2 c = into-given lineBuffer _ _ (c .before .before .if1 .left) (line-unchosen _ _ _ _ (lt-ltb _ _ (c .before .if2 .taken)) (c .no-choice .ensures))
-
-line-of-requires : tie.Need-line-of-requires
-line-of-requires c κs = search needs
-
-give-report-requires : tie.Need-give-report-requires
-give-report-requires c κs = search needs
-
-same-length : tie.Need-same-length
-same-length c = search needs
 
 returns-3 : tie.Need-returns-3
 returns-3 c =
@@ -37,9 +25,9 @@ addercoil-line-spec =
     tie.close
     (tie.spec
     returns
-    no-choice-requires
+    (λ c κs. search needs)
     returns-2
-    line-of-requires
-    give-report-requires
-    same-length
+    (λ c κs. search needs)
+    (λ c κs. search needs)
+    (λ c. search needs)
     returns-3)

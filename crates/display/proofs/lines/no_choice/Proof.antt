@@ -5,9 +5,6 @@ use borrow.Author.Needs.{needs}
 use Rattle.display.proofs.lines.no_choice.Statement.{statement}
 use Rattle.display.proofs.lines.no_choice.Tie as tie
 
-whole-places-requires : tie.Need-whole-places-requires
-whole-places-requires c κs = search needs
-
 returns : tie.Need-returns
 returns c = rw (sym (c .before .whole-places .ensures) ∙ c .if1 .taken)
 
@@ -15,4 +12,4 @@ returns-2 : tie.Need-returns-2
 returns-2 c = rw (sym (c .before .whole-places .ensures) ∙ c .if1 .left)
 
 pub no-choice-spec : {M : Type 1} → statement M
-no-choice-spec = tie.close (tie.spec whole-places-requires returns returns-2)
+no-choice-spec = tie.close (tie.spec (λ c κs. search needs) returns returns-2)

@@ -5,12 +5,6 @@ use borrow.Author.Needs.{needs}
 use Rattle.display.proofs.listing.unlisted.Statement.{statement}
 use Rattle.display.proofs.listing.unlisted.Tie as tie
 
-has-room-requires : tie.Need-has-room-requires
-has-room-requires c κs = search needs
-
-no-choice-requires : tie.Need-no-choice-requires
-no-choice-requires c κs = search needs
-
 returns : tie.Need-returns
 returns c = c .no-choice .ensures ∙ rw (sym (c .before .before .has-room .ensures) ∙ c .before .if1 .taken)
 
@@ -18,4 +12,4 @@ returns-2 : tie.Need-returns-2
 returns-2 c = rw (sym (c .before .has-room .ensures) ∙ c .if1 .left)
 
 pub unlisted-spec : {M : Type 1} → statement M
-unlisted-spec = tie.close (tie.spec has-room-requires no-choice-requires returns returns-2)
+unlisted-spec = tie.close (tie.spec (λ c κs. search needs) (λ c κs. search needs) returns returns-2)

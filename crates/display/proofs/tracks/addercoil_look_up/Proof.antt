@@ -10,18 +10,9 @@ use Rattle.display.proofs.tracks.addercoil_look_up.Tie as tie
 returns : tie.Need-returns
 returns c = into-wrong 72 _ _ (c .if1 .taken)
 
-look-up-requires : tie.Need-look-up-requires
-look-up-requires c κs = search needs
-
-give-held-requires : tie.Need-give-held-requires
-give-held-requires c κs = search needs
-
-same-length : tie.Need-same-length
-same-length c = search needs
-
 returns-2 : tie.Need-returns-2
 returns-2 c = into-right (lookedSaid _) _ refl 72 (c .before .before .before .before .before .before .if1 .left) (c .before .before .before .before .before .look-up .ensures) (c .before .before .give-held .ensures)
 
 pub addercoil-look-up-spec : {M : Type 1} → statement M
 addercoil-look-up-spec =
-    tie.close (tie.spec returns look-up-requires give-held-requires same-length returns-2)
+    tie.close (tie.spec returns (λ c κs. search needs) (λ c κs. search needs) (λ c. search needs) returns-2)

@@ -19,23 +19,11 @@ abbrev μ-loop : tie.MeasureT-loop
 loop-holds : tie.Need-loop-holds Inv-loop μ-loop
 loop-holds c = (search needs, refl, refl)
 
-byte-or-zero-requires : tie.Need-byte-or-zero-requires Inv-loop μ-loop
-byte-or-zero-requires c κs = search needs
-
-slice-write-out : tie.Need-slice-write-out Inv-loop μ-loop
-slice-write-out c = search needs
-
-add-i : tie.Need-add-i Inv-loop μ-loop
-add-i c = search needs
-
 loop-less : tie.Need-loop-less Inv-loop μ-loop
 loop-less c = simp length-set (omega arith)
 
 loop-again : tie.Need-loop-again Inv-loop μ-loop
 loop-again c = (simp length-set (omega arith), simp length-set (search needs), fill-more _ _ _ _ (c .before .loop-test .taken) (c .byte-or-zero .ensures) (c .before .before .loop .inv .2))
-
-same-length : tie.Need-same-length Inv-loop μ-loop
-same-length c = search needs
 
 returns : tie.Need-returns Inv-loop μ-loop
 returns c = fill-whole (c .before .loop .out) _ (c .before .loop .i) (length (c .before .before .before .before .args .out .now)) (omega arith) (omega arith) (c .before .loop .inv .2)
@@ -47,10 +35,10 @@ fill-bytes-spec =
     Inv-loop
     μ-loop
     loop-holds
-    byte-or-zero-requires
-    slice-write-out
-    add-i
+    (λ c κs. search needs)
+    (λ c. search needs)
+    (λ c. search needs)
     loop-less
     loop-again
-    same-length
+    (λ c. search needs)
     returns)

@@ -6,14 +6,8 @@ use borrow.Author.Needs.{needs}
 use Rattle.entries.proofs.arrays.give.Statement.{statement}
 use Rattle.entries.proofs.arrays.give.Tie as tie
 
-fill-requires : tie.Need-fill-requires
-fill-requires c κs = search needs
-
-same-length : tie.Need-same-length
-same-length c = search needs
-
 returns : tie.Need-returns
 returns c = ap (sent 0) (c .before .before .fill .ensures)
 
 pub give-spec : {M : Type 1} → statement M
-give-spec = tie.close (tie.spec fill-requires same-length returns)
+give-spec = tie.close (tie.spec (λ c κs. search needs) (λ c. search needs) returns)

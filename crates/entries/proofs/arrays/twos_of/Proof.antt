@@ -9,12 +9,6 @@ use borrow.Author.Needs.{needs}
 use Rattle.entries.proofs.arrays.twos_of.Statement.{statement}
 use Rattle.entries.proofs.arrays.twos_of.Tie as tie
 
-raise-requires : tie.Need-raise-requires
-raise-requires c κs = search needs
-
-add-result : tie.Need-add-result
-add-result c = search needs
-
 up-is : (c : tie.After-raise) → c .raise .result ≡ raised (c .before .args .z)
 up-is c = c .raise .ensures ∙ ap raised (toZ-ofZ (c .before .fits .z))
 
@@ -29,4 +23,4 @@ returns-2 c =
     rw e (twos-above (c .before .before .args .z) (c .before .before .fits .z .sfits) (omega arith))
 
 pub twos-of-spec : {M : Type 1} → statement M
-twos-of-spec = tie.close (tie.spec raise-requires add-result returns returns-2)
+twos-of-spec = tie.close (tie.spec (λ c κs. search needs) (λ c. search needs) returns returns-2)

@@ -9,12 +9,9 @@ use borrow.Author.Needs.{needs}
 use Rattle.form.proofs.words.is_address.Statement.{statement}
 use Rattle.form.proofs.words.is_address.Tie as tie
 
-all-digits-requires : tie.Need-all-digits-requires
-all-digits-requires c κs = search needs
-
 returns : tie.Need-returns
 unfolding isAddress
 returns c = ap (λ (t : Bool). eqb (length (c .before .before .args .w .now)) 6 && t) (c .all-digits .ensures)
 
 pub is-address-spec : {M : Type 1} → statement M
-is-address-spec = tie.close (tie.spec all-digits-requires returns)
+is-address-spec = tie.close (tie.spec (λ c κs. search needs) returns)

@@ -5,15 +5,9 @@ use borrow.Author.Needs.{needs}
 use Rattle.form.proofs.words.is_coarse.Statement.{statement}
 use Rattle.form.proofs.words.is_coarse.Tie as tie
 
-slice-aggregate-same : tie.Need-slice-aggregate-same
-slice-aggregate-same c = search needs
-
-same-requires : tie.Need-same-requires
-same-requires c κs = search needs
-
 returns : tie.Need-returns
 unfolding isCoarse
 returns c = c .same .ensures
 
 pub is-coarse-spec : {M : Type 1} → statement M
-is-coarse-spec = tie.close (tie.spec slice-aggregate-same same-requires returns)
+is-coarse-spec = tie.close (tie.spec (λ c. search needs) (λ c κs. search needs) returns)

@@ -13,12 +13,9 @@ returns-2 : tie.Need-returns-2
 unfolding nic1
 returns-2 c = rw (c .before .before .if1 .left, c .if2 .taken)
 
-nic-requires : tie.Need-nic-requires
-nic-requires c κs = search needs
-
 returns-3 : tie.Need-returns-3
 unfolding nic1
 returns-3 c = rw (c .before .before .before .if1 .left, c .before .if2 .left) (c .nic .ensures)
 
 pub nic-1-spec : {M : Type 1} → statement M
-nic-1-spec = tie.close (tie.spec returns returns-2 nic-requires returns-3)
+nic-1-spec = tie.close (tie.spec returns returns-2 (λ c κs. search needs) returns-3)

@@ -25,12 +25,9 @@ returns-5 : tie.Need-returns-5
 unfolding nic2
 returns-5 c = rw (c .before .before .before .before .before .before .before .before .before .if1 .left, c .before .before .before .before .before .before .before .if2 .left, c .before .before .before .before .if3 .left, c .before .before .if4 .left, c .if5 .taken)
 
-nic-requires : tie.Need-nic-requires
-nic-requires c κs = search needs
-
 returns-6 : tie.Need-returns-6
 unfolding nic2
 returns-6 c = rw (c .before .before .before .before .before .before .before .before .before .before .if1 .left, c .before .before .before .before .before .before .before .before .if2 .left, c .before .before .before .before .before .if3 .left, c .before .before .before .if4 .left, c .before .if5 .left) (c .nic .ensures)
 
 pub nic-2-spec : {M : Type 1} → statement M
-nic-2-spec = tie.close (tie.spec returns returns-2 returns-3 returns-4 returns-5 nic-requires returns-6)
+nic-2-spec = tie.close (tie.spec returns returns-2 returns-3 returns-4 returns-5 (λ c κs. search needs) returns-6)

@@ -6,19 +6,13 @@ use Rattle.integrity.specs.Standard.{bitsIn}
 use Rattle.integrity.proofs.standard.bits_in.Statement.{statement}
 use Rattle.integrity.proofs.standard.bits_in.Tie as tie
 
-is-traffic-requires : tie.Need-is-traffic-requires
-is-traffic-requires c κs = search needs
-
 returns : tie.Need-returns
 unfolding bitsIn
 returns c = rw (sym (c .before .is-traffic .ensures) ∙ c .if1 .taken)
-
-status-bits-requires : tie.Need-status-bits-requires
-status-bits-requires c κs = search needs
 
 returns-2 : tie.Need-returns-2
 unfolding bitsIn
 returns-2 c = rw (sym (c .before .before .is-traffic .ensures) ∙ c .before .if1 .left) (c .status-bits .ensures)
 
 pub bits-in-spec : {M : Type 1} → statement M
-bits-in-spec = tie.close (tie.spec is-traffic-requires returns status-bits-requires returns-2)
+bits-in-spec = tie.close (tie.spec (λ c κs. search needs) returns (λ c κs. search needs) returns-2)

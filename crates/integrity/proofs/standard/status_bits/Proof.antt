@@ -17,12 +17,6 @@ c-is-one true true bit = refl
 c-is-one true false bit = refl
 c-is-one false t bit = refl
 
-status-version-requires : tie.Need-status-version-requires
-status-version-requires c κs = search needs
-
-status-of-requires : tie.Need-status-of-requires
-status-of-requires c κs = search needs
-
 returns : tie.Need-returns
 unfolding statusBits
 returns c =
@@ -35,4 +29,4 @@ returns c =
     )
 
 pub status-bits-spec : {M : Type 1} → statement M
-status-bits-spec = tie.close (tie.spec status-version-requires status-of-requires returns)
+status-bits-spec = tie.close (tie.spec (λ c κs. search needs) (λ c κs. search needs) returns)

@@ -6,15 +6,6 @@ use Rattle.integrity.specs.Standard.{isStatus, statusVersion}
 use Rattle.integrity.proofs.standard.status_version.Statement.{statement}
 use Rattle.integrity.proofs.standard.status_version.Tie as tie
 
-layout-of-requires : tie.Need-layout-of-requires
-layout-of-requires c κs = search needs
-
-is-status-requires : tie.Need-is-status-requires
-is-status-requires c κs = search needs
-
-status-of-requires : tie.Need-status-of-requires
-status-of-requires c κs = search needs
-
 returns : tie.Need-returns
 unfolding statusVersion
 returns c =
@@ -26,4 +17,4 @@ returns-2 c = rw (sym (ap isStatus (c .before .before .layout-of .ensures)) ∙ 
 
 pub status-version-spec : {M : Type 1} → statement M
 status-version-spec =
-    tie.close (tie.spec layout-of-requires is-status-requires status-of-requires returns returns-2)
+    tie.close (tie.spec (λ c κs. search needs) (λ c κs. search needs) (λ c κs. search needs) returns returns-2)

@@ -10,11 +10,8 @@ use Rattle.integrity.proofs.standard.supplements_of.Tie as tie
 returns : tie.Need-returns
 returns c = rw (le-leb _ _ (c .if1 .taken))
 
-bits-in-requires : tie.Need-bits-in-requires
-bits-in-requires c κs = search needs
-
 returns-2 : tie.Need-returns-2
 returns-2 c = rw (lt-leb _ _ (c .before .if1 .left)) (ap Bits (c .bits-in .ensures))
 
 pub supplements-of-spec : {M : Type 1} → statement M
-supplements-of-spec = tie.close (tie.spec returns bits-in-requires returns-2)
+supplements-of-spec = tie.close (tie.spec returns (λ c κs. search needs) returns-2)

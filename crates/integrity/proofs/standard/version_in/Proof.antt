@@ -6,12 +6,6 @@ use Rattle.integrity.specs.Standard.{versionIn}
 use Rattle.integrity.proofs.standard.version_in.Statement.{statement}
 use Rattle.integrity.proofs.standard.version_in.Tie as tie
 
-is-traffic-requires : tie.Need-is-traffic-requires
-is-traffic-requires c κs = search needs
-
-status-version-requires : tie.Need-status-version-requires
-status-version-requires c κs = search needs
-
 returns : tie.Need-returns
 unfolding versionIn
 returns c = rw (sym (c .before .is-traffic .ensures) ∙ c .if1 .taken)
@@ -21,5 +15,4 @@ unfolding versionIn
 returns-2 c = rw (sym (c .before .before .is-traffic .ensures) ∙ c .before .if1 .left) (c .status-version .ensures)
 
 pub version-in-spec : {M : Type 1} → statement M
-version-in-spec =
-    tie.close (tie.spec is-traffic-requires status-version-requires returns returns-2)
+version-in-spec = tie.close (tie.spec (λ c κs. search needs) (λ c κs. search needs) returns returns-2)

@@ -10,11 +10,8 @@ use Rattle.integrity.proofs.standard.version_of.Tie as tie
 returns : tie.Need-returns
 returns c = rw (le-leb _ _ (c .if1 .taken))
 
-version-in-requires : tie.Need-version-in-requires
-version-in-requires c κs = search needs
-
 returns-2 : tie.Need-returns-2
 returns-2 c = rw (lt-leb _ _ (c .before .if1 .left)) (ap Number (c .version-in .ensures))
 
 pub version-of-spec : {M : Type 1} → statement M
-version-of-spec = tie.close (tie.spec returns version-in-requires returns-2)
+version-of-spec = tie.close (tie.spec returns (λ c κs. search needs) returns-2)

@@ -5,9 +5,6 @@ use borrow.Author.Needs.{needs}
 use Rattle.layouts.proofs.bodies.me_of.Statement.{statement}
 use Rattle.layouts.proofs.bodies.me_of.Tie as tie
 
-body-fits-requires : tie.Need-body-fits-requires
-body-fits-requires c κs = search needs
-
 body-me-requires : tie.Need-body-me-requires
 body-me-requires c κs = sym (c .before .body-fits .ensures) ∙ c .if1 .taken
 
@@ -18,4 +15,4 @@ returns-2 : tie.Need-returns-2
 returns-2 c = simp (sym (c .before .body-fits .ensures) ∙ c .if1 .left)
 
 pub me-of-spec : {M : Type 1} → statement M
-me-of-spec = tie.close (tie.spec body-fits-requires body-me-requires returns returns-2)
+me-of-spec = tie.close (tie.spec (λ c κs. search needs) body-me-requires returns returns-2)

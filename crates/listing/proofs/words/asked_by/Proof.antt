@@ -13,9 +13,6 @@ returns : tie.Need-returns
 unfolding askedBy
 returns c = rw (lt-ltb _ _ (c .if1 .taken))
 
-is-all-requires : tie.Need-is-all-requires
-is-all-requires c κs = search needs
-
 returns-2 : tie.Need-returns-2
 unfolding askedBy
 returns-2 c = rw (le-ltb _ _ (c .before .before .if1 .left), ap (λ (b : Bool). eqb (c .before .before .before .before .args .count) 2 && b) (sym (c .before .is-all .ensures)) ∙ c .if2 .taken)
@@ -25,4 +22,4 @@ unfolding askedBy
 returns-3 c = rw (le-ltb _ _ (c .before .before .if1 .left), ap (λ (b : Bool). eqb (c .before .before .before .before .args .count) 2 && b) (sym (c .before .is-all .ensures)) ∙ c .if2 .left)
 
 pub asked-by-spec : {M : Type 1} → statement M
-asked-by-spec = tie.close (tie.spec returns is-all-requires returns-2 returns-3)
+asked-by-spec = tie.close (tie.spec returns (λ c κs. search needs) returns-2 returns-3)

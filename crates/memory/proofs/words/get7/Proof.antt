@@ -10,12 +10,6 @@ use borrow.Author.Needs.{needs}
 use Rattle.memory.proofs.words.get7.Statement.{statement}
 use Rattle.memory.proofs.words.get7.Tie as tie
 
-sub-get8 : tie.Need-sub-get8
-sub-get8 c = search needs
-
-get8-requires : tie.Need-get8-requires
-get8-requires c κs = search needs
-
 returns : tie.Need-returns
 returns c =
     let start = c .before .before in
@@ -25,4 +19,4 @@ returns c =
     ap (λ (n : ℕ). n / 256) (c .get8 .ensures) ∙ number-rest 7 (a .s .now) (a .at - 1) h ∙ ap (numberAt 7 (a .s .now)) e
 
 pub get7-spec : {M : Type 1} → statement M
-get7-spec = tie.close (tie.spec sub-get8 get8-requires returns)
+get7-spec = tie.close (tie.spec (λ c. search needs) (λ c κs. search needs) returns)

@@ -13,12 +13,6 @@ use Rattle.parity.proofs.Entries.{step-is}
 use Rattle.parity.proofs.division.step.Statement.{statement}
 use Rattle.parity.proofs.division.step.Tie as tie
 
-wide-requires : tie.Need-wide-requires
-wide-requires c κs = search needs
-
-mul-result : tie.Need-mul-result
-mul-result c = search needs
-
 entry-requires : tie.Need-entry-requires
 entry-requires c κs = xor-lt 8 (c .before .args .r / 65536 % 256) (c .wide .result) (omega arith) (omega arith)
 
@@ -40,4 +34,4 @@ returns c =
     ∙ low-bits r (c .before .before .args .byte) (c .before .before .fits .byte .fits)
 
 pub step-spec : {M : Type 1} → statement M
-step-spec = tie.close (tie.spec wide-requires mul-result entry-requires returns)
+step-spec = tie.close (tie.spec (λ c κs. search needs) (λ c. search needs) entry-requires returns)

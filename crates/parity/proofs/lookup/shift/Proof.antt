@@ -11,9 +11,6 @@ use Rattle.parity.specs.Division.{reduce, remainderFrom}
 use Rattle.parity.proofs.lookup.shift.Statement.{statement}
 use Rattle.parity.proofs.lookup.shift.Tie as tie
 
-mul-x : tie.Need-mul-x
-mul-x c = search needs
-
 returns : tie.Need-returns
 unfolding remainderFrom reduce
 returns c = (rw (add-zero (2 * c .before .args .r), lt-ltb _ _ (c .if1 .taken)), c .if1 .taken)
@@ -26,4 +23,4 @@ returns-2 c =
     (rw (add-zero x, le-ltb _ _ (c .if1 .left)), xor-lt 24 (x - 2 ^ 24) 0xFFF409 h (lit< tt))
 
 pub shift-spec : {M : Type 1} → statement M
-shift-spec = tie.close (tie.spec mul-x returns returns-2)
+shift-spec = tie.close (tie.spec (λ c. search needs) returns returns-2)

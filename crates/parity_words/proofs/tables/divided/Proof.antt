@@ -18,20 +18,8 @@ Inv-loop i bits r₀ n₀ r n = (r < 2 ^ 24) × (remainderFrom r (zeros n) ≡ r
 abbrev μ-loop : tie.MeasureT-loop
 μ-loop i bits r₀ n₀ r n = n
 
-mul-r : tie.Need-mul-r Inv-loop μ-loop
-mul-r c = search needs
-
 loop-holds : tie.Need-loop-holds Inv-loop μ-loop
 loop-holds c = (omega arith, refl)
-
-shifted-requires : tie.Need-shifted-requires Inv-loop μ-loop
-shifted-requires c κs = search needs
-
-sub-n : tie.Need-sub-n Inv-loop μ-loop
-sub-n c = search needs
-
-loop-less : tie.Need-loop-less Inv-loop μ-loop
-loop-less c = search needs
 
 loop-again : tie.Need-loop-again Inv-loop μ-loop
 loop-again c =
@@ -49,4 +37,13 @@ returns c =
 pub divided-spec : {M : Type 1} → statement M
 divided-spec =
     tie.close
-    (tie.spec Inv-loop μ-loop mul-r loop-holds shifted-requires sub-n loop-less loop-again returns)
+    (tie.spec
+    Inv-loop
+    μ-loop
+    (λ c. search needs)
+    loop-holds
+    (λ c κs. search needs)
+    (λ c. search needs)
+    (λ c. search needs)
+    loop-again
+    returns)

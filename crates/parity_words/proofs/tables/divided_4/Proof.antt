@@ -8,16 +8,10 @@ use borrow.Author.Needs.{needs}
 use Rattle.parity_words.proofs.tables.divided_4.Statement.{statement}
 use Rattle.parity_words.proofs.tables.divided_4.Tie as tie
 
-sub-divided : tie.Need-sub-divided
-sub-divided c = search needs
-
-divided-requires : tie.Need-divided-requires
-divided-requires c κs = search needs
-
 returns : tie.Need-returns
 returns c =
     let a = c .before in
     c .divided .ensures ∙ sym (from-256 left4 (a .args .j) (a .pre .0) ∙ rule4 _ (omega arith))
 
 pub divided-4-spec : {M : Type 1} → statement M
-divided-4-spec = tie.close (tie.spec sub-divided divided-requires returns)
+divided-4-spec = tie.close (tie.spec (λ c. search needs) (λ c κs. search needs) returns)

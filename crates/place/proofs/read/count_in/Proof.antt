@@ -4,12 +4,6 @@ use borrow.Author.Needs.{needs}
 use Rattle.place.proofs.read.count_in.Statement.{statement}
 use Rattle.place.proofs.read.count_in.Tie as tie
 
-cast-result : tie.Need-cast-result
-cast-result c = search needs
-
-cast-result-2 : tie.Need-cast-result-2
-cast-result-2 c = search needs
-
 returns : tie.Need-returns
 returns c = rw (c .if1 .taken)
 
@@ -17,4 +11,4 @@ returns-2 : tie.Need-returns-2
 returns-2 c = rw (c .if1 .left)
 
 pub count-in-spec : {M : Type 1} → statement M
-count-in-spec = tie.close (tie.spec cast-result cast-result-2 returns returns-2)
+count-in-spec = tie.close (tie.spec (λ c. search needs) (λ c. search needs) returns returns-2)

@@ -7,15 +7,9 @@ use borrow.Author.Needs.{needs}
 use Rattle.place.proofs.read.latitude_of.Statement.{statement}
 use Rattle.place.proofs.read.latitude_of.Tie as tie
 
-capped-requires : tie.Need-capped-requires
-capped-requires c κs = search needs
-
-lower-requires : tie.Need-lower-requires
-lower-requires c κs = search needs
-
 returns : tie.Need-returns
 unfolding lowered
 returns c = rw (toZ-ofZ {w = w32} (record { sfits = c .lower .ok }), c .lower .ensures, c .before .capped .ensures .0)
 
 pub latitude-of-spec : {M : Type 1} → statement M
-latitude-of-spec = tie.close (tie.spec capped-requires lower-requires returns)
+latitude-of-spec = tie.close (tie.spec (λ c κs. search needs) (λ c κs. search needs) returns)

@@ -5,15 +5,9 @@ use borrow.Author.Needs.{needs}
 use Rattle.place.proofs.read.load.Statement.{statement}
 use Rattle.place.proofs.read.load.Tie as tie
 
-written-in-requires : tie.Need-written-in-requires
-written-in-requires c κs = search needs
-
-meant-requires : tie.Need-meant-requires
-meant-requires c κs = search needs
-
 returns : tie.Need-returns
 unfolding trackOf
 returns c = rw (c .meant .ensures, c .before .written-in .ensures)
 
 pub load-spec : {M : Type 1} → statement M
-load-spec = tie.close (tie.spec written-in-requires meant-requires returns)
+load-spec = tie.close (tie.spec (λ c κs. search needs) (λ c κs. search needs) returns)

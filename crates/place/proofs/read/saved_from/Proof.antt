@@ -5,15 +5,9 @@ use borrow.Author.Needs.{needs}
 use Rattle.place.proofs.read.saved_from.Statement.{statement}
 use Rattle.place.proofs.read.saved_from.Tie as tie
 
-count-in-requires : tie.Need-count-in-requires
-count-in-requires c κs = search needs
-
-count-in-requires-2 : tie.Need-count-in-requires-2
-count-in-requires-2 c κs = search needs
-
 returns : tie.Need-returns
 unfolding savedFrom
 returns c = rw (c .count-in2 .ensures, c .before .count-in .ensures)
 
 pub saved-from-spec : {M : Type 1} → statement M
-saved-from-spec = tie.close (tie.spec count-in-requires count-in-requires-2 returns)
+saved-from-spec = tie.close (tie.spec (λ c κs. search needs) (λ c κs. search needs) returns)

@@ -10,9 +10,6 @@ use borrow.Author.Needs.{needs}
 use Rattle.place.proofs.write.above_pole.Statement.{statement}
 use Rattle.place.proofs.write.above_pole.Tie as tie
 
-raise-requires : tie.Need-raise-requires
-raise-requires c κs = search needs
-
 up-is : (c : tie.After-raise) → c .raise .result ≡ raised (c .before .args .latitude)
 up-is c = c .raise .ensures ∙ ap raised (toZ-ofZ (c .before .fits .latitude))
 
@@ -23,4 +20,4 @@ returns : tie.Need-returns
 returns c = rw (up-is c) (above-pole-is (c .before .args .latitude) (c .before .fits .latitude .sfits))
 
 pub above-pole-spec : {M : Type 1} → statement M
-above-pole-spec = tie.close (tie.spec raise-requires add-result returns)
+above-pole-spec = tie.close (tie.spec (λ c κs. search needs) add-result returns)

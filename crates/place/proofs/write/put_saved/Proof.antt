@@ -9,21 +9,6 @@ use borrow.Author.Needs.{needs}
 use Rattle.place.proofs.write.put_saved.Statement.{statement}
 use Rattle.place.proofs.write.put_saved.Tie as tie
 
-saved-number-requires : tie.Need-saved-number-requires
-saved-number-requires c κs = search needs
-
-put5-requires : tie.Need-put5-requires
-put5-requires c κs = search needs
-
-add-put8 : tie.Need-add-put8
-add-put8 c = search needs
-
-put8-requires : tie.Need-put8-requires
-put8-requires c κs = search needs
-
-same-length : tie.Need-same-length
-same-length c = search needs
-
 returns : tie.Need-returns
 unfolding savedBytes
 returns c = put-then _ _ 5 _ _ (low-length 5 _) (put-same _ _ (ap (lowBytes 5) (c .before .before .before .before .before .before .before .saved-number .ensures)) (c .before .before .before .before .before .before .put5 .ensures)) (c .before .before .put8 .ensures)
@@ -31,4 +16,10 @@ returns c = put-then _ _ 5 _ _ (low-length 5 _) (put-same _ _ (ap (lowBytes 5) (
 pub put-saved-spec : {M : Type 1} → statement M
 put-saved-spec =
     tie.close
-    (tie.spec saved-number-requires put5-requires add-put8 put8-requires same-length returns)
+    (tie.spec
+    (λ c κs. search needs)
+    (λ c κs. search needs)
+    (λ c. search needs)
+    (λ c κs. search needs)
+    (λ c. search needs)
+    returns)

@@ -16,21 +16,6 @@ returns : tie.Need-returns
 unfolding byHundreds
 returns c = rw (c .if1 .taken)
 
-mul-n : tie.Need-mul-n
-mul-n c = search needs
-
-turned-requires : tie.Need-turned-requires
-turned-requires c κs = search needs
-
-mul-n-2 : tie.Need-mul-n-2
-mul-n-2 c = search needs
-
-add-n : tie.Need-add-n
-add-n c = search needs
-
-less-requires : tie.Need-less-requires
-less-requires c κs = search needs
-
 returns-2 : tie.Need-returns-2
 unfolding byHundreds
 returns-2 c =
@@ -41,4 +26,12 @@ returns-2 c =
 
 pub by-hundreds-spec : {M : Type 1} → statement M
 by-hundreds-spec =
-    tie.close (tie.spec returns mul-n turned-requires mul-n-2 add-n less-requires returns-2)
+    tie.close
+    (tie.spec
+    returns
+    (λ c. search needs)
+    (λ c κs. search needs)
+    (λ c. search needs)
+    (λ c. search needs)
+    (λ c κs. search needs)
+    returns-2)

@@ -9,12 +9,6 @@ use Rattle.readings.specs.Altitude.{sixLess}
 use Rattle.readings.proofs.altitude.turned.Statement.{statement}
 use Rattle.readings.proofs.altitude.turned.Tie as tie
 
-straightened-requires : tie.Need-straightened-requires
-straightened-requires c κs = search needs
-
-sub-result : tie.Need-sub-result
-sub-result c = search needs
-
 returns : tie.Need-returns
 unfolding sixLess
 returns c = (simp (eq-eqb _ _ (c .if1 .taken)) (ap (λ (k : ℕ). 6 - k) (c .before .straightened .ensures .0)), omega arith)
@@ -24,4 +18,4 @@ unfolding sixLess
 returns-2 c = (simp (ne-eqb _ _ (c .if1 .left)) (c .before .straightened .ensures .0), omega arith)
 
 pub turned-spec : {M : Type 1} → statement M
-turned-spec = tie.close (tie.spec straightened-requires sub-result returns returns-2)
+turned-spec = tie.close (tie.spec (λ c κs. search needs) (λ c. search needs) returns returns-2)

@@ -25,15 +25,6 @@ returns-3 : tie.Need-returns-3
 unfolding differenceOf amount
 returns-3 c = rw (c .before .before .if1 .left, ne-eqb _ _ (c .before .if2 .left), eq-eqb _ _ (c .if3 .taken))
 
-sub-n : tie.Need-sub-n
-sub-n c = search needs
-
-cast-n : tie.Need-cast-n
-cast-n c = search needs
-
-mul-n : tie.Need-mul-n
-mul-n c = search needs
-
 with-sign-requires : tie.Need-with-sign-requires
 with-sign-requires c κs =
     let a = c .before .before .before .args in
@@ -50,4 +41,12 @@ returns-4 c =
 pub difference-of-spec : {M : Type 1} → statement M
 difference-of-spec =
     tie.close
-    (tie.spec returns returns-2 returns-3 sub-n cast-n mul-n with-sign-requires returns-4)
+    (tie.spec
+    returns
+    returns-2
+    returns-3
+    (λ c. search needs)
+    (λ c. search needs)
+    (λ c. search needs)
+    with-sign-requires
+    returns-4)

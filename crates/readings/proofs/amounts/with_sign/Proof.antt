@@ -9,12 +9,6 @@ use Rattle.readings.proofs.BelowZero.{kept, below, above, below-fits, a
 use Rattle.readings.proofs.amounts.with_sign.Statement.{statement}
 use Rattle.readings.proofs.amounts.with_sign.Tie as tie
 
-less-requires : tie.Need-less-requires
-less-requires c κs = search needs
-
-less-requires-2 : tie.Need-less-requires-2
-less-requires-2 c κs = search needs
-
 returns : tie.Need-returns
 unfolding signed
 returns c = rw (eq-eqb _ _ (c .before .if1 .taken)) (kept (below-fits (c .before .before .args .n) (omega arith)) (c .less .ensures ∙ below (c .before .before .args .n)))
@@ -24,4 +18,4 @@ unfolding signed
 returns-2 c = rw (ne-eqb _ _ (c .before .if1 .left)) (kept (above-fits (c .before .before .args .n) (omega arith)) (c .less2 .ensures ∙ above (c .before .before .args .n)))
 
 pub with-sign-spec : {M : Type 1} → statement M
-with-sign-spec = tie.close (tie.spec less-requires less-requires-2 returns returns-2)
+with-sign-spec = tie.close (tie.spec (λ c κs. search needs) (λ c κs. search needs) returns returns-2)

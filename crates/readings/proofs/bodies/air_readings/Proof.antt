@@ -6,23 +6,8 @@ use borrow.Author.Needs.{needs}
 use Rattle.readings.proofs.bodies.air_readings.Statement.{statement}
 use Rattle.readings.proofs.bodies.air_readings.Tie as tie
 
-air-fits-requires : tie.Need-air-fits-requires
-air-fits-requires c κs = search needs
-
 returns : tie.Need-returns
 returns c = rw (unread (Air (c .before .before .args .b)) (c .before .before .args .traffic) _ (c .before .air-fits .ensures) (c .if1 .taken))
-
-heading-of-requires : tie.Need-heading-of-requires
-heading-of-requires c κs = search needs
-
-speed-of-requires : tie.Need-speed-of-requires
-speed-of-requires c κs = search needs
-
-rate-of-requires : tie.Need-rate-of-requires
-rate-of-requires c κs = search needs
-
-height-difference-requires : tie.Need-height-difference-requires
-height-difference-requires c κs = search needs
 
 returns-2 : tie.Need-returns-2
 returns-2 c = rw (read (Air (c .before .before .before .before .before .before .before .args .b)) (c .before .before .before .before .before .before .before .args .traffic) _ (c .before .before .before .before .before .before .air-fits .ensures) (c .before .before .before .before .before .if1 .left), c .before .before .before .heading-of .ensures, c .before .before .speed-of .ensures, c .before .rate-of .ensures, c .height-difference .ensures)
@@ -31,10 +16,10 @@ pub air-readings-spec : {M : Type 1} → statement M
 air-readings-spec =
     tie.close
     (tie.spec
-    air-fits-requires
+    (λ c κs. search needs)
     returns
-    heading-of-requires
-    speed-of-requires
-    rate-of-requires
-    height-difference-requires
+    (λ c κs. search needs)
+    (λ c κs. search needs)
+    (λ c κs. search needs)
+    (λ c κs. search needs)
     returns-2)

@@ -6,23 +6,11 @@ use borrow.Author.Needs.{needs}
 use Rattle.readings.proofs.bodies.airborne_readings.Statement.{statement}
 use Rattle.readings.proofs.bodies.airborne_readings.Tie as tie
 
-airborne-fits-requires : tie.Need-airborne-fits-requires
-airborne-fits-requires c κs = search needs
-
 returns : tie.Need-returns
 returns c traffic = rw (unread (Airborne (c .before .before .args .b)) traffic _ (c .before .airborne-fits .ensures) (c .if1 .taken))
-
-altitude-of-requires : tie.Need-altitude-of-requires
-altitude-of-requires c κs = search needs
 
 returns-2 : tie.Need-returns-2
 returns-2 c traffic = rw (read (Airborne (c .before .before .before .before .args .b)) traffic _ (c .before .before .before .airborne-fits .ensures) (c .before .before .if1 .left), c .before .altitude-of .ensures)
 
 pub airborne-readings-spec : {M : Type 1} → statement M
-airborne-readings-spec =
-    tie.close
-    (tie.spec
-    airborne-fits-requires
-    returns
-    altitude-of-requires
-    returns-2)
+airborne-readings-spec = tie.close (tie.spec (λ c κs. search needs) returns (λ c κs. search needs) returns-2)

@@ -7,20 +7,8 @@ use borrow.Author.Needs.{needs}
 use Rattle.readings.proofs.bodies.coarse_readings.Statement.{statement}
 use Rattle.readings.proofs.bodies.coarse_readings.Tie as tie
 
-coarse-fits-requires : tie.Need-coarse-fits-requires
-coarse-fits-requires c κs = search needs
-
 returns : tie.Need-returns
 returns c traffic = rw (unread (Coarse (c .before .before .args .b)) traffic _ (c .before .coarse-fits .ensures ∙ always _) (c .if1 .taken))
-
-altitude-of-requires : tie.Need-altitude-of-requires
-altitude-of-requires c κs = search needs
-
-angle-of-requires : tie.Need-angle-of-requires
-angle-of-requires c κs = search needs
-
-coarse-speed-of-requires : tie.Need-coarse-speed-of-requires
-coarse-speed-of-requires c κs = search needs
 
 returns-2 : tie.Need-returns-2
 returns-2 c traffic =
@@ -29,11 +17,4 @@ returns-2 c traffic =
 
 pub coarse-readings-spec : {M : Type 1} → statement M
 coarse-readings-spec =
-    tie.close
-    (tie.spec
-    coarse-fits-requires
-    returns
-    altitude-of-requires
-    angle-of-requires
-    coarse-speed-of-requires
-    returns-2)
+    tie.close (tie.spec (λ c κs. search needs) returns (λ c κs. search needs) (λ c κs. search needs) (λ c κs. search needs) returns-2)

@@ -6,23 +6,8 @@ use borrow.Author.Needs.{needs}
 use Rattle.readings.proofs.bodies.ground_readings.Statement.{statement}
 use Rattle.readings.proofs.bodies.ground_readings.Tie as tie
 
-ground-fits-requires : tie.Need-ground-fits-requires
-ground-fits-requires c κs = search needs
-
 returns : tie.Need-returns
 returns c = rw (unread (Ground (c .before .before .args .b)) (c .before .before .args .traffic) _ (c .before .ground-fits .ensures) (c .if1 .taken))
-
-speed-of-requires : tie.Need-speed-of-requires
-speed-of-requires c κs = search needs
-
-speed-of-requires-2 : tie.Need-speed-of-requires-2
-speed-of-requires-2 c κs = search needs
-
-rate-of-requires : tie.Need-rate-of-requires
-rate-of-requires c κs = search needs
-
-height-difference-requires : tie.Need-height-difference-requires
-height-difference-requires c κs = search needs
 
 returns-2 : tie.Need-returns-2
 returns-2 c = rw (read (Ground (c .before .before .before .before .before .before .before .args .b)) (c .before .before .before .before .before .before .before .args .traffic) _ (c .before .before .before .before .before .before .ground-fits .ensures) (c .before .before .before .before .before .if1 .left), c .before .before .before .speed-of .ensures, c .before .before .speed-of2 .ensures, c .before .rate-of .ensures, c .height-difference .ensures)
@@ -31,10 +16,10 @@ pub ground-readings-spec : {M : Type 1} → statement M
 ground-readings-spec =
     tie.close
     (tie.spec
-    ground-fits-requires
+    (λ c κs. search needs)
     returns
-    speed-of-requires
-    speed-of-requires-2
-    rate-of-requires
-    height-difference-requires
+    (λ c κs. search needs)
+    (λ c κs. search needs)
+    (λ c κs. search needs)
+    (λ c κs. search needs)
     returns-2)

@@ -9,12 +9,9 @@ returns : tie.Need-returns
 unfolding heightDifference
 returns c = rw (c .if1 .taken)
 
-difference-of-requires : tie.Need-difference-of-requires
-difference-of-requires c κs = search needs
-
 returns-2 : tie.Need-returns-2
 unfolding heightDifference
 returns-2 c = rw (c .before .if1 .left, c .difference-of .ensures)
 
 pub height-difference-spec : {M : Type 1} → statement M
-height-difference-spec = tie.close (tie.spec returns difference-of-requires returns-2)
+height-difference-spec = tie.close (tie.spec returns (λ c κs. search needs) returns-2)

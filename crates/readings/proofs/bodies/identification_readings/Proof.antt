@@ -6,27 +6,12 @@ use borrow.Author.Needs.{needs}
 use Rattle.readings.proofs.bodies.identification_readings.Statement.{statement}
 use Rattle.readings.proofs.bodies.identification_readings.Tie as tie
 
-identification-fits-requires : tie.Need-identification-fits-requires
-identification-fits-requires c κs = search needs
-
 returns : tie.Need-returns
 returns c traffic = rw (unread (Identification (c .before .before .args .b)) traffic _ (c .before .identification-fits .ensures) (c .if1 .taken))
-
-category-set-of-requires : tie.Need-category-set-of-requires
-category-set-of-requires c κs = search needs
-
-text-of-requires : tie.Need-text-of-requires
-text-of-requires c κs = search needs
 
 returns-2 : tie.Need-returns-2
 returns-2 c traffic = rw (read (Identification (c .before .before .before .before .args .b)) traffic _ (c .before .before .before .identification-fits .ensures) (c .before .before .if1 .left), c .before .category-set-of .ensures, c .text-of .ensures)
 
 pub identification-readings-spec : {M : Type 1} → statement M
 identification-readings-spec =
-    tie.close
-    (tie.spec
-    identification-fits-requires
-    returns
-    category-set-of-requires
-    text-of-requires
-    returns-2)
+    tie.close (tie.spec (λ c κs. search needs) returns (λ c κs. search needs) (λ c κs. search needs) returns-2)

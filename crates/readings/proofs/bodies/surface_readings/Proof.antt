@@ -6,27 +6,12 @@ use borrow.Author.Needs.{needs}
 use Rattle.readings.proofs.bodies.surface_readings.Statement.{statement}
 use Rattle.readings.proofs.bodies.surface_readings.Tie as tie
 
-surface-fits-requires : tie.Need-surface-fits-requires
-surface-fits-requires c κs = search needs
-
 returns : tie.Need-returns
 returns c traffic = rw (unread (Surface (c .before .before .args .b)) traffic _ (c .before .surface-fits .ensures) (c .if1 .taken))
-
-movement-of-requires : tie.Need-movement-of-requires
-movement-of-requires c κs = search needs
-
-surface-heading-of-requires : tie.Need-surface-heading-of-requires
-surface-heading-of-requires c κs = search needs
 
 returns-2 : tie.Need-returns-2
 returns-2 c traffic = rw (read (Surface (c .before .before .before .before .args .b)) traffic _ (c .before .before .before .surface-fits .ensures) (c .before .before .if1 .left), c .before .movement-of .ensures, c .surface-heading-of .ensures)
 
 pub surface-readings-spec : {M : Type 1} → statement M
 surface-readings-spec =
-    tie.close
-    (tie.spec
-    surface-fits-requires
-    returns
-    movement-of-requires
-    surface-heading-of-requires
-    returns-2)
+    tie.close (tie.spec (λ c κs. search needs) returns (λ c κs. search needs) (λ c κs. search needs) returns-2)

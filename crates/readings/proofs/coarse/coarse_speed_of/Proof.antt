@@ -18,12 +18,6 @@ returns-3 : tie.Need-returns-3
 unfolding coarseSpeedOf
 returns-3 c = simp (lt-leb _ _ (c .before .before .if1 .left), ne-eqb _ _ (c .before .if2 .left), eq-eqb _ _ (c .if3 .taken))
 
-mul-t5 : tie.Need-mul-t5
-mul-t5 c = search needs
-
-sub-t6 : tie.Need-sub-t6
-sub-t6 c = search needs
-
 returns-4 : tie.Need-returns-4
 unfolding coarseSpeedOf
 returns-4 c = simp (lt-leb _ _ (c .before .before .before .if1 .left), ne-eqb _ _ (c .before .before .if2 .left), ne-eqb _ _ (c .before .if3 .left), le-leb _ _ (c .if4 .taken))
@@ -33,4 +27,5 @@ unfolding coarseSpeedOf
 returns-5 c = simp (lt-leb _ _ (c .before .before .before .if1 .left), ne-eqb _ _ (c .before .before .if2 .left), ne-eqb _ _ (c .before .if3 .left), lt-leb _ _ (c .if4 .left))
 
 pub coarse-speed-of-spec : {M : Type 1} → statement M
-coarse-speed-of-spec = tie.close (tie.spec returns returns-2 returns-3 mul-t5 sub-t6 returns-4 returns-5)
+coarse-speed-of-spec =
+    tie.close (tie.spec returns returns-2 returns-3 (λ c. search needs) (λ c. search needs) returns-4 returns-5)

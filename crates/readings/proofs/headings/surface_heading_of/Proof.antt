@@ -8,11 +8,8 @@ use Rattle.readings.proofs.headings.surface_heading_of.Tie as tie
 returns : tie.Need-returns
 returns c = simp (le-leb _ _ (c .if1 .taken))
 
-mul-t5 : tie.Need-mul-t5
-mul-t5 c = search needs
-
 returns-2 : tie.Need-returns-2
 returns-2 c = simp (lt-leb _ _ (c .if1 .left))
 
 pub surface-heading-of-spec : {M : Type 1} → statement M
-surface-heading-of-spec = tie.close (tie.spec returns mul-t5 returns-2)
+surface-heading-of-spec = tie.close (tie.spec returns (λ c. search needs) returns-2)

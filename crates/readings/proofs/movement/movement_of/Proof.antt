@@ -20,9 +20,6 @@ returns-3 : tie.Need-returns-3
 unfolding movementOf
 returns-3 c = simp (lt-leb _ _ (c .before .before .if1 .left), ne-eqb _ _ (c .before .if2 .left), eq-eqb _ _ (c .if3 .taken))
 
-lower-edge-requires : tie.Need-lower-edge-requires
-lower-edge-requires c κs = search needs
-
 returns-4 : tie.Need-returns-4
 unfolding movementOf
 returns-4 c = simp (lt-leb _ _ (c .before .before .before .before .if1 .left), ne-eqb _ _ (c .before .before .before .if2 .left), ne-eqb _ _ (c .before .before .if3 .left), le-leb _ _ (c .before .if4 .taken)) (ap LowerEdge (c .lower-edge .ensures))
@@ -36,6 +33,4 @@ unfolding movementOf
 returns-6 c = simp (lt-leb _ _ (c .before .before .before .before .if1 .left), ne-eqb _ _ (c .before .before .before .if2 .left), ne-eqb _ _ (c .before .before .if3 .left), lt-leb _ _ (c .before .if4 .left), ne-eqb _ _ (c .if5 .left))
 
 pub movement-of-spec : {M : Type 1} → statement M
-movement-of-spec =
-    tie.close
-    (tie.spec returns returns-2 returns-3 lower-edge-requires returns-4 returns-5 returns-6)
+movement-of-spec = tie.close (tie.spec returns returns-2 returns-3 (λ c κs. search needs) returns-4 returns-5 returns-6)

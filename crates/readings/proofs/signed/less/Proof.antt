@@ -8,12 +8,6 @@ use Rattle.readings.proofs.BelowZero.{less-fits}
 use Rattle.readings.proofs.signed.less.Statement.{statement}
 use Rattle.readings.proofs.signed.less.Tie as tie
 
-cast-result : tie.Need-cast-result
-cast-result c = search needs
-
-cast-result-2 : tie.Need-cast-result-2
-cast-result-2 c = search needs
-
 sub-result : tie.Need-sub-result
 sub-result c =
     let n = c .args .n in
@@ -27,4 +21,4 @@ returns c =
     rw (toZ-pos w32 {n = n} (omega arith), toZ-pos w32 {n = k} (omega arith)) (toZ-ofZ (less-fits n k (omega arith) (omega arith)))
 
 pub less-spec : {M : Type 1} → statement M
-less-spec = tie.close (tie.spec cast-result cast-result-2 sub-result returns)
+less-spec = tie.close (tie.spec (λ c. search needs) (λ c. search needs) sub-result returns)

@@ -5,19 +5,11 @@ use borrow.Author.Needs.{needs}
 use Rattle.readings.proofs.status.supplement_c_of.Statement.{statement}
 use Rattle.readings.proofs.status.supplement_c_of.Tie as tie
 
-supplement-of-requires : tie.Need-supplement-of-requires
-supplement-of-requires c κs = search needs
-
 returns : tie.Need-returns
 returns c = rw (eq-eqb _ 1 (c .before .if1 .taken)) (c .supplement-of .ensures)
-
-supplement-of-requires-2 : tie.Need-supplement-of-requires-2
-supplement-of-requires-2 c κs = search needs
 
 returns-2 : tie.Need-returns-2
 returns-2 c = rw (ne-eqb _ 1 (c .before .if1 .left)) (c .supplement-of2 .ensures)
 
 pub supplement-c-of-spec : {M : Type 1} → statement M
-supplement-c-of-spec =
-    tie.close
-    (tie.spec supplement-of-requires returns supplement-of-requires-2 returns-2)
+supplement-c-of-spec = tie.close (tie.spec (λ c κs. search needs) returns (λ c κs. search needs) returns-2)

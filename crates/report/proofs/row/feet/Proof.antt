@@ -15,17 +15,8 @@ narrow c = record { sfits = c .known-told .given .0 .1 }
 wide : (c : tie.After-known-told) → SFits w64 (c .before .a .given .0 .0)
 wide c = sfits-widen tt (narrow c)
 
-enum-known-a : tie.Need-enum-known-a
-enum-known-a c = search needs
-
 cast-t4 : tie.Need-cast-t4
 cast-t4 c = rw (toZ-ofZ (narrow c)) (wide c)
-
-enum-told : tie.Need-enum-told
-enum-told c = search needs
-
-enum-told-2 : tie.Need-enum-told-2
-enum-told-2 c = search needs
 
 returns : tie.Need-returns
 unfolding feet
@@ -41,4 +32,4 @@ returns-3 c = sym (ap feet (c .enum-told2 .given .1))
 
 pub feet-spec : {M : Type 1} → statement M
 feet-spec =
-    tie.close (tie.spec enum-known-a cast-t4 enum-told enum-told-2 returns returns-2 returns-3)
+    tie.close (tie.spec (λ c. search needs) cast-t4 (λ c. search needs) (λ c. search needs) returns returns-2 returns-3)

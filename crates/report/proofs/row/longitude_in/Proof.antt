@@ -8,9 +8,6 @@ use Rattle.report.specs.Listing.{longitudeIn}
 use Rattle.report.proofs.row.longitude_in.Statement.{statement}
 use Rattle.report.proofs.row.longitude_in.Tie as tie
 
-cast-t4 : tie.Need-cast-t4
-cast-t4 c = search needs
-
 returns : tie.Need-returns
 unfolding longitudeIn
 returns c = rw (toZ-pos w64 {n = c .before .before .args .p .spot .longitude} (omega (arith, c .struct-known .given)), c .before .if1 .taken)
@@ -20,4 +17,4 @@ unfolding longitudeIn
 returns-2 c = rw (c .if1 .left)
 
 pub longitude-in-spec : {M : Type 1} → statement M
-longitude-in-spec = tie.close (tie.spec cast-t4 returns returns-2)
+longitude-in-spec = tie.close (tie.spec (λ c. search needs) returns returns-2)

@@ -5,12 +5,9 @@ use borrow.Author.Needs.{needs}
 use Rattle.report.proofs.row.row_of.Statement.{statement}
 use Rattle.report.proofs.row.row_of.Tie as tie
 
-row-from-requires : tie.Need-row-from-requires
-row-from-requires c κs = search needs
-
 returns : tie.Need-returns
 unfolding rowOf
 returns c = c .row-from .ensures
 
 pub row-of-spec : {M : Type 1} → statement M
-row-of-spec = tie.close (tie.spec row-from-requires returns)
+row-of-spec = tie.close (tie.spec (λ c κs. search needs) returns)

@@ -9,18 +9,6 @@ use borrow.Author.Needs.{needs}
 use Rattle.report.proofs.row.step_in.Statement.{statement}
 use Rattle.report.proofs.row.step_in.Tie as tie
 
-enum-known-a : tie.Need-enum-known-a
-enum-known-a c = search needs
-
-cast-t4 : tie.Need-cast-t4
-cast-t4 c = search needs
-
-enum-told : tie.Need-enum-told
-enum-told c = search needs
-
-enum-told-2 : tie.Need-enum-told-2
-enum-told-2 c = search needs
-
 returns : tie.Need-returns
 unfolding stepIn
 returns c = rw (toZ-pos w64 {n = c .before .a .given .0 .1 .0} (omega (arith, c .known-told .given))) (sym (ap stepIn (c .before .a .given .1)))
@@ -35,4 +23,4 @@ returns-3 c = sym (ap stepIn (c .enum-told2 .given .1))
 
 pub step-in-spec : {M : Type 1} → statement M
 step-in-spec =
-    tie.close (tie.spec enum-known-a cast-t4 enum-told enum-told-2 returns returns-2 returns-3)
+    tie.close (tie.spec (λ c. search needs) (λ c. search needs) (λ c. search needs) (λ c. search needs) returns returns-2 returns-3)

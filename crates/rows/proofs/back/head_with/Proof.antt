@@ -21,9 +21,6 @@ cast-layout-with-2 c = let a = c .before .args in omega (arith, ltb-true (a .con
 cast-layout-with-3 : tie.Need-cast-layout-with-3
 cast-layout-with-3 c = let a = c .before .args in omega (arith, ltb-true (a .address) 16777216 (each (ltb (a .format) 32 && ltb (a .control) 8) (ltb (a .address) 16777216) (c .if1 .taken) .1))
 
-layout-with-requires : tie.Need-layout-with-requires
-layout-with-requires c κs = search needs
-
 returns : tie.Need-returns
 unfolding headWith
 returns c = c .layout-with .ensures ∙ sym (chosen _ _ _ (c .before .if1 .taken))
@@ -34,11 +31,4 @@ returns-2 c = rw (c .if1 .left)
 
 pub head-with-spec : {M : Type 1} → statement M
 head-with-spec =
-    tie.close
-    (tie.spec
-    cast-layout-with
-    cast-layout-with-2
-    cast-layout-with-3
-    layout-with-requires
-    returns
-    returns-2)
+    tie.close (tie.spec cast-layout-with cast-layout-with-2 cast-layout-with-3 (λ c κs. search needs) returns returns-2)

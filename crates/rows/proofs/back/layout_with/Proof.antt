@@ -11,15 +11,6 @@ use borrow.Author.Needs.{needs}
 use Rattle.rows.proofs.back.layout_with.Statement.{statement}
 use Rattle.rows.proofs.back.layout_with.Tie as tie
 
-coarse-by-requires : tie.Need-coarse-by-requires
-coarse-by-requires c κs = search needs
-
-layout-by-requires : tie.Need-layout-by-requires
-layout-by-requires c κs = search needs
-
-number-of-requires : tie.Need-number-of-requires
-number-of-requires c κs = search needs
-
 returns : tie.Need-returns
 unfolding layoutWith
 returns c =
@@ -27,12 +18,6 @@ returns c =
     let a = p .before .args in
     let e = c .before .number-of .ensures ∙ ap layoutNumber (c .before .before .layout-by .ensures ∙ ap (λ (t : Bool). layoutBy t (a .me)) (p .coarse-by .ensures)) in
     rw (ne-eqb (layoutNumber (layoutBy (coarseBy (a .format) (a .control)) (a .me))) (a .number) (λ z. c .if1 .taken (e ∙ z)))
-
-body-by-requires : tie.Need-body-by-requires
-body-by-requires c κs = search needs
-
-message-with-requires : tie.Need-message-with-requires
-message-with-requires c κs = search needs
 
 returns-2 : tie.Need-returns-2
 unfolding layoutWith
@@ -47,10 +32,10 @@ pub layout-with-spec : {M : Type 1} → statement M
 layout-with-spec =
     tie.close
     (tie.spec
-    coarse-by-requires
-    layout-by-requires
-    number-of-requires
+    (λ c κs. search needs)
+    (λ c κs. search needs)
+    (λ c κs. search needs)
     returns
-    body-by-requires
-    message-with-requires
+    (λ c κs. search needs)
+    (λ c κs. search needs)
     returns-2)

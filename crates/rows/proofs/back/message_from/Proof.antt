@@ -7,24 +7,6 @@ use borrow.Author.Needs.{needs}
 use Rattle.rows.proofs.back.message_from.Statement.{statement}
 use Rattle.rows.proofs.back.message_from.Tie as tie
 
-entry-requires : tie.Need-entry-requires
-entry-requires c κs = search needs
-
-layout-at-requires : tie.Need-layout-at-requires
-layout-at-requires c κs = search needs
-
-packed-as-requires : tie.Need-packed-as-requires
-packed-as-requires c κs = search needs
-
-enum-known-written : tie.Need-enum-known-written
-enum-known-written c = search needs
-
-with-me-requires : tie.Need-with-me-requires
-with-me-requires c κs = search needs
-
-enum-known-written-2 : tie.Need-enum-known-written-2
-enum-known-written-2 c = search needs
-
 returns : tie.Need-returns
 unfolding messageFrom
 returns c =
@@ -44,11 +26,11 @@ pub message-from-spec : {M : Type 1} → statement M
 message-from-spec =
     tie.close
     (tie.spec
-    entry-requires
-    layout-at-requires
-    packed-as-requires
-    enum-known-written
-    with-me-requires
-    enum-known-written-2
+    (λ c κs. search needs)
+    (λ c κs. search needs)
+    (λ c κs. search needs)
+    (λ c. search needs)
+    (λ c κs. search needs)
+    (λ c. search needs)
     returns
     returns-2)

@@ -6,12 +6,6 @@ use borrow.Author.Needs.{needs}
 use Rattle.rows.proofs.back.message_with.Statement.{statement}
 use Rattle.rows.proofs.back.message_with.Tie as tie
 
-enum-known-taken : tie.Need-enum-known-taken
-enum-known-taken c = search needs
-
-enum-told : tie.Need-enum-told
-enum-told c = search needs
-
 returns : tie.Need-returns
 returns c =
     let a = c .before .before .before .args in
@@ -23,4 +17,4 @@ returns-2 c =
     sym (ap (messageWith (a .format) (a .control) (a .address)) (c .enum-told .given .1))
 
 pub message-with-spec : {M : Type 1} → statement M
-message-with-spec = tie.close (tie.spec enum-known-taken enum-told returns returns-2)
+message-with-spec = tie.close (tie.spec (λ c. search needs) (λ c. search needs) returns returns-2)

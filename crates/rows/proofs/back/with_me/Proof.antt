@@ -5,21 +5,6 @@ use borrow.Author.Needs.{needs}
 use Rattle.rows.proofs.back.with_me.Statement.{statement}
 use Rattle.rows.proofs.back.with_me.Tie as tie
 
-entry-requires : tie.Need-entry-requires
-entry-requires c κs = search needs
-
-entry-requires-2 : tie.Need-entry-requires-2
-entry-requires-2 c κs = search needs
-
-entry-requires-3 : tie.Need-entry-requires-3
-entry-requires-3 c κs = search needs
-
-entry-requires-4 : tie.Need-entry-requires-4
-entry-requires-4 c κs = search needs
-
-head-with-requires : tie.Need-head-with-requires
-head-with-requires c κs = search needs
-
 returns : tie.Need-returns
 unfolding messageBy
 returns c =
@@ -30,9 +15,9 @@ pub with-me-spec : {M : Type 1} → statement M
 with-me-spec =
     tie.close
     (tie.spec
-    entry-requires
-    entry-requires-2
-    entry-requires-3
-    entry-requires-4
-    head-with-requires
+    (λ c κs. search needs)
+    (λ c κs. search needs)
+    (λ c κs. search needs)
+    (λ c κs. search needs)
+    (λ c κs. search needs)
     returns)

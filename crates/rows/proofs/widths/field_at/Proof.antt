@@ -9,12 +9,6 @@ use borrow.Author.Needs.{needs}
 use Rattle.rows.proofs.widths.field_at.Statement.{statement}
 use Rattle.rows.proofs.widths.field_at.Tie as tie
 
-shr-result : tie.Need-shr-result
-shr-result c = search needs
-
-shl-result : tie.Need-shl-result
-shl-result c = search needs
-
 rem-result : tie.Need-rem-result
 rem-result c = let w = c .args .width in omega (arith, one-up w (search needs), pow-pos w)
 
@@ -22,4 +16,4 @@ returns : tie.Need-returns
 returns c = let a = c .args in ap (λ (n : ℕ). a .me / 2 ^ a .below % n) (one-up (a .width) (search needs))
 
 pub field-at-spec : {M : Type 1} → statement M
-field-at-spec = tie.close (tie.spec shr-result shl-result rem-result returns)
+field-at-spec = tie.close (tie.spec (λ c. search needs) (λ c. search needs) rem-result returns)

@@ -8,11 +8,8 @@ use borrow.Author.Needs.{needs}
 use Rattle.rows.proofs.widths.is_wider.Statement.{statement}
 use Rattle.rows.proofs.widths.is_wider.Tie as tie
 
-shl-result : tie.Need-shl-result
-shl-result c = search needs
-
 returns : tie.Need-returns
 returns c = let a = c .args in ap (λ (n : ℕ). leb n (a .code)) (one-up (a .width) (search needs))
 
 pub is-wider-spec : {M : Type 1} → statement M
-is-wider-spec = tie.close (tie.spec shl-result returns)
+is-wider-spec = tie.close (tie.spec (λ c. search needs) returns)

@@ -7,21 +7,9 @@ use borrow.Author.Needs.{needs}
 use Rattle.rows.proofs.widths.put_cut.Statement.{statement}
 use Rattle.rows.proofs.widths.put_cut.Tie as tie
 
-cut-requires : tie.Need-cut-requires
-cut-requires c κs = search needs
-
-slice-aggregate-fill : tie.Need-slice-aggregate-fill
-slice-aggregate-fill c = search needs
-
-fill-requires : tie.Need-fill-requires
-fill-requires c κs = search needs
-
-same-length : tie.Need-same-length
-same-length c = search needs
-
 returns : tie.Need-returns
 returns c = c .before .before .fill .ensures ∙ ap (filled (length (c .before .before .before .before .before .before .before .before .args .out .now))) (c .before .before .before .before .before .cut .ensures)
 
 pub put-cut-spec : {M : Type 1} → statement M
 put-cut-spec =
-    tie.close (tie.spec cut-requires slice-aggregate-fill fill-requires same-length returns)
+    tie.close (tie.spec (λ c κs. search needs) (λ c. search needs) (λ c κs. search needs) (λ c. search needs) returns)

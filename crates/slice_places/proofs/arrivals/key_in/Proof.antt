@@ -4,20 +4,9 @@ use borrow.Author.Needs.{needs}
 use Rattle.slice_places.proofs.arrivals.key_in.Statement.{statement}
 use Rattle.slice_places.proofs.arrivals.key_in.Tie as tie
 
-enum-known-answer : tie.Need-enum-known-answer
-enum-known-answer c = search needs
-
-enum-told : tie.Need-enum-told
-enum-told c = search needs
-
-returns : tie.Need-returns
-returns c = search needs
-
-key-of-requires : tie.Need-key-of-requires
-key-of-requires c κs = search needs
-
 returns-2 : tie.Need-returns-2
 returns-2 c = rw (c .before .before .answer .given .1, c .key-of .ensures)
 
 pub key-in-spec : {M : Type 1} → statement M
-key-in-spec = tie.close (tie.spec enum-known-answer enum-told returns key-of-requires returns-2)
+key-in-spec =
+    tie.close (tie.spec (λ c. search needs) (λ c. search needs) (λ c. search needs) (λ c κs. search needs) returns-2)

@@ -4,20 +4,9 @@ use borrow.Author.Needs.{needs}
 use Rattle.slice_places.proofs.arrivals.starts_in.Statement.{statement}
 use Rattle.slice_places.proofs.arrivals.starts_in.Tie as tie
 
-enum-known-answer : tie.Need-enum-known-answer
-enum-known-answer c = search needs
-
-enum-told : tie.Need-enum-told
-enum-told c = search needs
-
-returns : tie.Need-returns
-returns c = search needs
-
-starts-requires : tie.Need-starts-requires
-starts-requires c κs = search needs
-
 returns-2 : tie.Need-returns-2
 returns-2 c = rw (c .before .before .answer .given .1, c .starts .ensures)
 
 pub starts-in-spec : {M : Type 1} → statement M
-starts-in-spec = tie.close (tie.spec enum-known-answer enum-told returns starts-requires returns-2)
+starts-in-spec =
+    tie.close (tie.spec (λ c. search needs) (λ c. search needs) (λ c. search needs) (λ c κs. search needs) returns-2)

@@ -5,15 +5,6 @@ use borrow.Author.Needs.{needs}
 use Rattle.slice_places.proofs.arrivals.track_in.Statement.{statement}
 use Rattle.slice_places.proofs.arrivals.track_in.Tie as tie
 
-has-key-requires : tie.Need-has-key-requires
-has-key-requires c κs = search needs
-
-meant-requires : tie.Need-meant-requires
-meant-requires c κs = search needs
-
-new-track-requires : tie.Need-new-track-requires
-new-track-requires c κs = search needs
-
 returns : tie.Need-returns
 unfolding trackIn
 returns c = rw (← c .before .before .before .has-key .ensures, c .before .before .if1 .taken, c .meant .ensures)
@@ -23,4 +14,5 @@ unfolding trackIn
 returns-2 c = rw (← c .before .before .has-key .ensures, c .before .if1 .left, c .new-track .ensures)
 
 pub track-in-spec : {M : Type 1} → statement M
-track-in-spec = tie.close (tie.spec has-key-requires meant-requires new-track-requires returns returns-2)
+track-in-spec =
+    tie.close (tie.spec (λ c κs. search needs) (λ c κs. search needs) (λ c κs. search needs) returns returns-2)

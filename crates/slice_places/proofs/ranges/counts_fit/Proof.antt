@@ -5,12 +5,9 @@ use borrow.Author.Needs.{needs}
 use Rattle.slice_places.proofs.ranges.counts_fit.Statement.{statement}
 use Rattle.slice_places.proofs.ranges.counts_fit.Tie as tie
 
-count-size-requires : tie.Need-count-size-requires
-count-size-requires c κs = search needs
-
 returns : tie.Need-returns
 unfolding countsFit
 returns c = rw (c .before .before .count-size .ensures)
 
 pub counts-fit-spec : {M : Type 1} → statement M
-counts-fit-spec = tie.close (tie.spec count-size-requires returns)
+counts-fit-spec = tie.close (tie.spec (λ c κs. search needs) returns)

@@ -6,9 +6,6 @@ use borrow.Author.Needs.{needs}
 use Rattle.slice_places.proofs.ranges.has_key.Statement.{statement}
 use Rattle.slice_places.proofs.ranges.has_key.Tie as tie
 
-is-held-requires : tie.Need-is-held-requires
-is-held-requires c κs = search needs
-
 returns : tie.Need-returns
 unfolding holds
 returns c = rw (eq-eqb _ _ (c .before .if1 .taken), c .is-held .ensures)
@@ -18,4 +15,4 @@ unfolding holds
 returns-2 c = rw (ne-eqb _ _ (c .if1 .left))
 
 pub has-key-spec : {M : Type 1} → statement M
-has-key-spec = tie.close (tie.spec is-held-requires returns returns-2)
+has-key-spec = tie.close (tie.spec (λ c κs. search needs) returns returns-2)

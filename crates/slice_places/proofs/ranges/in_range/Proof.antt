@@ -5,15 +5,9 @@ use borrow.Author.Needs.{needs}
 use Rattle.slice_places.proofs.ranges.in_range.Statement.{statement}
 use Rattle.slice_places.proofs.ranges.in_range.Tie as tie
 
-is-key-requires : tie.Need-is-key-requires
-is-key-requires c κs = search needs
-
-track-fits-requires : tie.Need-track-fits-requires
-track-fits-requires c κs = search needs
-
 returns : tie.Need-returns
 unfolding inRange
 returns c = rw (c .before .is-key .ensures, c .track-fits .ensures)
 
 pub in-range-spec : {M : Type 1} → statement M
-in-range-spec = tie.close (tie.spec is-key-requires track-fits-requires returns)
+in-range-spec = tie.close (tie.spec (λ c κs. search needs) (λ c κs. search needs) returns)

@@ -6,15 +6,9 @@ use borrow.Author.Needs.{needs}
 use Rattle.slice_places.proofs.ranges.is_held.Statement.{statement}
 use Rattle.slice_places.proofs.ranges.is_held.Tie as tie
 
-in-range-requires : tie.Need-in-range-requires
-in-range-requires c κs = search needs
-
-is-in-date-requires : tie.Need-is-in-date-requires
-is-in-date-requires c κs = search needs
-
 returns : tie.Need-returns
 unfolding isHeld meant
 returns c = rw (c .is-in-date .ensures, c .before .in-range .ensures)
 
 pub is-held-spec : {M : Type 1} → statement M
-is-held-spec = tie.close (tie.spec in-range-requires is-in-date-requires returns)
+is-held-spec = tie.close (tie.spec (λ c κs. search needs) (λ c κs. search needs) returns)

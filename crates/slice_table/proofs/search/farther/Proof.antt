@@ -9,9 +9,6 @@ use Rattle.slice_table.proofs.search.farther.Tie as tie
 returns : tie.Need-returns
 returns c = rw (lt-ltb _ _ (c .if1 .taken))
 
-add-result : tie.Need-add-result
-add-result c = search needs
-
 returns-2 : tie.Need-returns-2
 returns-2 c = rw (le-ltb _ _ (c .before .if1 .left), c .if2 .taken)
 
@@ -19,4 +16,4 @@ returns-3 : tie.Need-returns-3
 returns-3 c = rw (le-ltb _ _ (c .before .if1 .left), c .if2 .left, add-one)
 
 pub farther-spec : {M : Type 1} → statement M
-farther-spec = tie.close (tie.spec returns add-result returns-2 returns-3)
+farther-spec = tie.close (tie.spec returns (λ c. search needs) returns-2 returns-3)

@@ -5,15 +5,9 @@ use borrow.Author.Needs.{needs}
 use Rattle.table_bytes.proofs.layout.move_clock.Statement.{statement}
 use Rattle.table_bytes.proofs.layout.move_clock.Tie as tie
 
-put8-requires : tie.Need-put8-requires
-put8-requires c κs = search needs
-
-same-length : tie.Need-same-length
-same-length c = search needs
-
 returns : tie.Need-returns
 unfolding moved
 returns c = search needs
 
 pub move-clock-spec : {M : Type 1} → statement M
-move-clock-spec = tie.close (tie.spec put8-requires same-length returns)
+move-clock-spec = tie.close (tie.spec (λ c κs. search needs) (λ c. search needs) returns)

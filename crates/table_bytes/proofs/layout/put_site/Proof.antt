@@ -14,26 +14,11 @@ use borrow.Author.Needs.{needs}
 use Rattle.table_bytes.proofs.layout.put_site.Statement.{statement}
 use Rattle.table_bytes.proofs.layout.put_site.Tie as tie
 
-above-pole-requires : tie.Need-above-pole-requires
-above-pole-requires c κs = search needs
-
-cast-put4 : tie.Need-cast-put4
-cast-put4 c = search needs
-
 add-put4 : tie.Need-add-put4
 add-put4 c =
     let a = c .before .before .before .before .args in
     let up = c .above-pole .ensures ∙ ap abovePole (toZ-ofZ {w = w32} {z = a .site .latitude} (record { sfits = omega (arith, c .before .struct-told .given) })) in
     rw up (omega (arith, above-pole-small (a .site .latitude) (c .before .before .before .before .pre .1)))
-
-put4-requires : tie.Need-put4-requires
-put4-requires c κs = search needs
-
-put4-requires-2 : tie.Need-put4-requires-2
-put4-requires-2 c κs = search needs
-
-same-length : tie.Need-same-length
-same-length c = search needs
 
 returns : tie.Need-returns
 returns c =
@@ -45,4 +30,11 @@ returns c =
 pub put-site-spec : {M : Type 1} → statement M
 put-site-spec =
     tie.close
-    (tie.spec above-pole-requires cast-put4 add-put4 put4-requires put4-requires-2 same-length returns)
+    (tie.spec
+    (λ c κs. search needs)
+    (λ c. search needs)
+    add-put4
+    (λ c κs. search needs)
+    (λ c κs. search needs)
+    (λ c. search needs)
+    returns)

@@ -14,12 +14,6 @@ use Rattle.table_bytes.proofs.layout.site_from.Tie as tie
 sub-latitude-of : tie.Need-sub-latitude-of
 sub-latitude-of c = omega (arith, leb-true 1 (c .before .args .n) (and-left (leb 1 (c .before .args .n)) (leb (c .before .args .n) 2147483649) (c .if1 .taken)))
 
-latitude-of-requires : tie.Need-latitude-of-requires
-latitude-of-requires c κs = search needs
-
-no-site-requires : tie.Need-no-site-requires
-no-site-requires c κs = search needs
-
 returns : tie.Need-returns
 unfolding siteFrom
 returns c = rw (c .before .if1 .taken, toZ-ofZ {w = w32} (record { sfits = c .latitude-of .ok }), c .latitude-of .ensures)
@@ -29,5 +23,4 @@ unfolding siteFrom
 returns-2 c = rw (c .before .if1 .left, c .no-site .ensures)
 
 pub site-from-spec : {M : Type 1} → statement M
-site-from-spec =
-    tie.close (tie.spec sub-latitude-of latitude-of-requires no-site-requires returns returns-2)
+site-from-spec = tie.close (tie.spec sub-latitude-of (λ c κs. search needs) (λ c κs. search needs) returns returns-2)

@@ -17,27 +17,15 @@ Inv-loop s n clock i₀ i = (i ≤ n) × (lowest (λ j. not (isHeld clock (place
 abbrev μ-loop : tie.MeasureT-loop
 μ-loop s n clock i₀ i = n - i
 
-skip-held-requires : tie.Need-skip-held-requires Inv-loop μ-loop
-skip-held-requires c κs = search needs
-
 loop-holds : tie.Need-loop-holds Inv-loop μ-loop
 loop-holds c =
     let a = c .before .before .args in
     (c .skip-held .ensures .0, none-free (placeAt (a .s .now) (a .n)) (a .clock) _ (c .skip-held .ensures .1 .0))
 
-is-held-requires : tie.Need-is-held-requires Inv-loop μ-loop
-is-held-requires c κs = search needs
-
 returns : tie.Need-returns Inv-loop μ-loop
 returns c =
     let a = c .before .before .before .before .before .before .args in
     sym (lowest-found (λ j. not (isHeld (a .clock) (placeAt (a .s .now) (a .n) j))) (c .before .before .before .loop .i) (c .before .before .before .loop .inv .1) (ap not (c .before .is-held .ensures)) (c .if1 .taken) (a .n) (c .before .before .loop-test .taken))
-
-add-i : tie.Need-add-i Inv-loop μ-loop
-add-i c = search needs
-
-loop-less : tie.Need-loop-less Inv-loop μ-loop
-loop-less c = search needs
 
 loop-again : tie.Need-loop-again Inv-loop μ-loop
 loop-again c =
@@ -55,11 +43,11 @@ find-free-spec =
     (tie.spec
     Inv-loop
     μ-loop
-    skip-held-requires
+    (λ c κs. search needs)
     loop-holds
-    is-held-requires
+    (λ c κs. search needs)
     returns
-    add-i
-    loop-less
+    (λ c. search needs)
+    (λ c. search needs)
     loop-again
     returns-2)

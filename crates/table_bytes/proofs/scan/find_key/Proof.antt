@@ -16,25 +16,13 @@ Inv-loop s n clock key i₀ i = (i ≤ n) × (lowest (λ j. holds clock key (pla
 abbrev μ-loop : tie.MeasureT-loop
 μ-loop s n clock key i₀ i = n - i
 
-skip-requires : tie.Need-skip-requires Inv-loop μ-loop
-skip-requires c κs = search needs
-
 loop-holds : tie.Need-loop-holds Inv-loop μ-loop
 loop-holds c = (c .skip .ensures .0, skipped _ _ _ _ _ (c .skip .ensures .1))
-
-has-key-requires : tie.Need-has-key-requires Inv-loop μ-loop
-has-key-requires c κs = search needs
 
 returns : tie.Need-returns Inv-loop μ-loop
 returns c =
     let a = c .before .before .before .before .before .before .args in
     sym (lowest-found (λ j. holds (a .clock) (a .key) (placeAt (a .s .now) (a .n) j)) (c .before .before .before .loop .i) (c .before .before .before .loop .inv .1) (c .before .has-key .ensures) (c .if1 .taken) (a .n) (c .before .before .loop-test .taken))
-
-add-i : tie.Need-add-i Inv-loop μ-loop
-add-i c = search needs
-
-loop-less : tie.Need-loop-less Inv-loop μ-loop
-loop-less c = search needs
 
 loop-again : tie.Need-loop-again Inv-loop μ-loop
 loop-again c =
@@ -52,11 +40,11 @@ find-key-spec =
     (tie.spec
     Inv-loop
     μ-loop
-    skip-requires
+    (λ c κs. search needs)
     loop-holds
-    has-key-requires
+    (λ c κs. search needs)
     returns
-    add-i
-    loop-less
+    (λ c. search needs)
+    (λ c. search needs)
     loop-again
     returns-2)

@@ -6,27 +6,6 @@ use borrow.Author.Needs.{needs}
 use Rattle.table_bytes.proofs.scan.held_4.Statement.{statement}
 use Rattle.table_bytes.proofs.scan.held_4.Tie as tie
 
-is-held-requires : tie.Need-is-held-requires
-is-held-requires c κs = search needs
-
-add-is-held : tie.Need-add-is-held
-add-is-held c = search needs
-
-is-held-requires-2 : tie.Need-is-held-requires-2
-is-held-requires-2 c κs = search needs
-
-add-is-held-2 : tie.Need-add-is-held-2
-add-is-held-2 c = search needs
-
-is-held-requires-3 : tie.Need-is-held-requires-3
-is-held-requires-3 c κs = search needs
-
-add-is-held-3 : tie.Need-add-is-held-3
-add-is-held-3 c = search needs
-
-is-held-requires-4 : tie.Need-is-held-requires-4
-is-held-requires-4 c κs = search needs
-
 returns : tie.Need-returns
 returns c =
     let a = c .before .before .before .before .before .args in
@@ -36,11 +15,11 @@ pub held-4-spec : {M : Type 1} → statement M
 held-4-spec =
     tie.close
     (tie.spec
-    is-held-requires
-    add-is-held
-    is-held-requires-2
-    add-is-held-2
-    is-held-requires-3
-    add-is-held-3
-    is-held-requires-4
+    (λ c κs. search needs)
+    (λ c. search needs)
+    (λ c κs. search needs)
+    (λ c. search needs)
+    (λ c κs. search needs)
+    (λ c. search needs)
+    (λ c κs. search needs)
     returns)

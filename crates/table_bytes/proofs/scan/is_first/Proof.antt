@@ -5,21 +5,6 @@ use borrow.Author.Needs.{needs}
 use Rattle.table_bytes.proofs.scan.is_first.Statement.{statement}
 use Rattle.table_bytes.proofs.scan.is_first.Tie as tie
 
-is-held-requires : tie.Need-is-held-requires
-is-held-requires c κs = search needs
-
-mul-get4 : tie.Need-mul-get4
-mul-get4 c = search needs
-
-add-get4 : tie.Need-add-get4
-add-get4 c = search needs
-
-get4-requires : tie.Need-get4-requires
-get4-requires c κs = search needs
-
-find-key-requires : tie.Need-find-key-requires
-find-key-requires c κs = search needs
-
 returns : tie.Need-returns
 returns c =
     let a = c .before .before .before .before .before .args in
@@ -33,4 +18,11 @@ returns-2 c =
 pub is-first-spec : {M : Type 1} → statement M
 is-first-spec =
     tie.close
-    (tie.spec is-held-requires mul-get4 add-get4 get4-requires find-key-requires returns returns-2)
+    (tie.spec
+    (λ c κs. search needs)
+    (λ c. search needs)
+    (λ c. search needs)
+    (λ c κs. search needs)
+    (λ c κs. search needs)
+    returns
+    returns-2)

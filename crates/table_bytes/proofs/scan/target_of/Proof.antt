@@ -6,16 +6,10 @@ use borrow.Author.Needs.{needs}
 use Rattle.table_bytes.proofs.scan.target_of.Statement.{statement}
 use Rattle.table_bytes.proofs.scan.target_of.Tie as tie
 
-find-key-requires : tie.Need-find-key-requires
-find-key-requires c κs = search needs
-
 returns : tie.Need-returns
 returns c =
     let a = c .before .before .before .args in
     target-held (placeAt (a .s .now) (a .n)) (a .n) (a .clock) (a .key) (c .before .find-key .ensures) (c .if1 .taken)
-
-find-free-requires : tie.Need-find-free-requires
-find-free-requires c κs = search needs
 
 returns-2 : tie.Need-returns-2
 returns-2 c =
@@ -23,4 +17,4 @@ returns-2 c =
     target-free (placeAt (a .s .now) (a .n)) (a .n) (a .clock) (a .key) (c .before .before .find-key .ensures) (c .before .if1 .left) (c .find-free .ensures)
 
 pub target-of-spec : {M : Type 1} → statement M
-target-of-spec = tie.close (tie.spec find-key-requires returns find-free-requires returns-2)
+target-of-spec = tie.close (tie.spec (λ c κs. search needs) returns (λ c κs. search needs) returns-2)

@@ -5,21 +5,6 @@ use borrow.Author.Needs.{needs}
 use Rattle.table_bytes.proofs.walk.better_of.Statement.{statement}
 use Rattle.table_bytes.proofs.walk.better_of.Tie as tie
 
-mul-at : tie.Need-mul-at
-mul-at c = search needs
-
-add-at : tie.Need-add-at
-add-at c = search needs
-
-is-better-requires : tie.Need-is-better-requires
-is-better-requires c κs = search needs
-
-is-held-requires : tie.Need-is-held-requires
-is-held-requires c κs = search needs
-
-get4-requires : tie.Need-get4-requires
-get4-requires c κs = search needs
-
 returns : tie.Need-returns
 returns c =
     let a = c .before .before .before .before .before .before .args in
@@ -39,11 +24,11 @@ pub better-of-spec : {M : Type 1} → statement M
 better-of-spec =
     tie.close
     (tie.spec
-    mul-at
-    add-at
-    is-better-requires
-    is-held-requires
-    get4-requires
+    (λ c. search needs)
+    (λ c. search needs)
+    (λ c κs. search needs)
+    (λ c κs. search needs)
+    (λ c κs. search needs)
     returns
     returns-2
     returns-3)

@@ -6,13 +6,10 @@ use borrow.Author.Needs.{needs}
 use Rattle.table_bytes.proofs.walk.is_better.Statement.{statement}
 use Rattle.table_bytes.proofs.walk.is_better.Tie as tie
 
-get4-requires : tie.Need-get4-requires
-get4-requires c κs = search needs
-
 returns : tie.Need-returns
 returns c =
     let a = c .before .before .args in
     ap (beats (a .above) (a .best)) (c .get4 .ensures)
 
 pub is-better-spec : {M : Type 1} → statement M
-is-better-spec = tie.close (tie.spec get4-requires returns)
+is-better-spec = tie.close (tie.spec (λ c κs. search needs) returns)

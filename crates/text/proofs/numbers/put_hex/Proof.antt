@@ -6,27 +6,6 @@ use borrow.Author.Needs.{needs}
 use Rattle.text.proofs.numbers.put_hex.Statement.{statement}
 use Rattle.text.proofs.numbers.put_hex.Tie as tie
 
-put-digit-requires : tie.Need-put-digit-requires
-put-digit-requires c κs = search needs
-
-put-digit-requires-2 : tie.Need-put-digit-requires-2
-put-digit-requires-2 c κs = search needs
-
-put-digit-requires-3 : tie.Need-put-digit-requires-3
-put-digit-requires-3 c κs = search needs
-
-put-digit-requires-4 : tie.Need-put-digit-requires-4
-put-digit-requires-4 c κs = search needs
-
-put-digit-requires-5 : tie.Need-put-digit-requires-5
-put-digit-requires-5 c κs = search needs
-
-put-digit-requires-6 : tie.Need-put-digit-requires-6
-put-digit-requires-6 c κs = search needs
-
-same-length : tie.Need-same-length
-same-length c = search needs
-
 returns : tie.Need-returns
 unfolding hex
 returns c =
@@ -42,11 +21,11 @@ pub put-hex-spec : {M : Type 1} → statement M
 put-hex-spec =
     tie.close
     (tie.spec
-    put-digit-requires
-    put-digit-requires-2
-    put-digit-requires-3
-    put-digit-requires-4
-    put-digit-requires-5
-    put-digit-requires-6
-    same-length
+    (λ c κs. search needs)
+    (λ c κs. search needs)
+    (λ c κs. search needs)
+    (λ c κs. search needs)
+    (λ c κs. search needs)
+    (λ c κs. search needs)
+    (λ c. search needs)
     returns)

@@ -5,20 +5,9 @@ use borrow.Author.Needs.{needs}
 use Rattle.text.proofs.write.put_cut.Statement.{statement}
 use Rattle.text.proofs.write.put_cut.Tie as tie
 
-put-byte-requires : tie.Need-put-byte-requires
-put-byte-requires c κs = search needs
-
-same-length : tie.Need-same-length
-same-length c = search needs
-
-returns : tie.Need-returns
-returns c = search needs
-
-add-result : tie.Need-add-result
-add-result c = search needs
-
 returns-2 : tie.Need-returns-2
 returns-2 c = wrote-past _ _ _ (c .if1 .left)
 
 pub put-cut-spec : {M : Type 1} → statement M
-put-cut-spec = tie.close (tie.spec put-byte-requires same-length returns add-result returns-2)
+put-cut-spec =
+    tie.close (tie.spec (λ c κs. search needs) (λ c. search needs) (λ c. search needs) (λ c. search needs) returns-2)

@@ -22,18 +22,6 @@ abbrev μ-loop : tie.MeasureT-loop
 loop-holds : tie.Need-loop-holds Inv-loop μ-loop
 loop-holds c = (search needs, refl, search needs, wrote-none _ _)
 
-shared-slice-read-put-cut : tie.Need-shared-slice-read-put-cut Inv-loop μ-loop
-shared-slice-read-put-cut c = search needs
-
-put-cut-requires : tie.Need-put-cut-requires Inv-loop μ-loop
-put-cut-requires c κs = search needs
-
-add-i : tie.Need-add-i Inv-loop μ-loop
-add-i c = search needs
-
-loop-less : tie.Need-loop-less Inv-loop μ-loop
-loop-less c = search needs
-
 loop-again : tie.Need-loop-again Inv-loop μ-loop
 loop-again c =
     let l = c .before .before .before .before .before .before .loop in
@@ -41,9 +29,6 @@ loop-again c =
     let e : take (l .i) s ++ (getD s (l .i) 0 ∷ []) ≡ take (l .i + 1) s = sym (rw add-one (take-suc s (l .i) 0 (omega arith))) in
     let p = c .before .before .put-cut .ensures in
     (search needs, search needs, omega (arith, p .next), wrote-as (wrote-then (l .inv .3) p) e)
-
-same-length : tie.Need-same-length Inv-loop μ-loop
-same-length c = search needs
 
 returns : tie.Need-returns Inv-loop μ-loop
 returns c =
@@ -57,10 +42,10 @@ put-text-spec =
     Inv-loop
     μ-loop
     loop-holds
-    shared-slice-read-put-cut
-    put-cut-requires
-    add-i
-    loop-less
+    (λ c. search needs)
+    (λ c κs. search needs)
+    (λ c. search needs)
+    (λ c. search needs)
     loop-again
-    same-length
+    (λ c. search needs)
     returns)

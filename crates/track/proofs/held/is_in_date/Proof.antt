@@ -17,11 +17,8 @@ in-date clock time = by-test (leb (clock - 124999) time) refl
     by-test true e = rw (lt-ltb (clock - time) 125000 (omega (arith, leb-true (clock - 124999) time e)))
     by-test false e = rw (le-ltb (clock - time) 125000 (omega (arith, leb-false (clock - 124999) time e)))
 
-earliest-requires : tie.Need-earliest-requires
-earliest-requires c κs = search needs
-
 returns : tie.Need-returns
 returns c = rw (c .earliest .ensures, in-date)
 
 pub is-in-date-spec : {M : Type 1} → statement M
-is-in-date-spec = tie.close (tie.spec earliest-requires returns)
+is-in-date-spec = tie.close (tie.spec (λ c κs. search needs) returns)

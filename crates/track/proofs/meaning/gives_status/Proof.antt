@@ -34,11 +34,8 @@ module _ (n : ℕ) where
       ends : (t s : ℕ) → t ≡ 31 → s ≤ 1 → t * 4 + s / 2 ≡ 124
       ends t s p q = omega arith
 
-mul-result : tie.Need-mul-result
-mul-result c = search needs
-
 returns : tie.Need-returns
 returns c = alike _ _ (within (c .args .me)) (without (c .args .me))
 
 pub gives-status-spec : {M : Type 1} → statement M
-gives-status-spec = tie.close (tie.spec mul-result returns)
+gives-status-spec = tie.close (tie.spec (λ c. search needs) returns)

@@ -47,20 +47,9 @@ module _ (n : ℕ) where
       (λ (a : isAir (me 1 5 n) (me 6 8 n) ≡ true). let w = velocity-in 3 4 (me 1 5 n) (me 6 8 n) a in back _ _ refl refl (w .0) (omega (arith, w .1 .0)) (w .1 .1))
       (either (isGround (me 1 5 n) (me 6 8 n)) (isAir (me 1 5 n) (me 6 8 n)) e)
 
-mul-result : tie.Need-mul-result
-mul-result c = search needs
-
-add-result : tie.Need-add-result
-add-result c = search needs
-
-mul-result-2 : tie.Need-mul-result-2
-mul-result-2 c = search needs
-
-add-result-2 : tie.Need-add-result-2
-add-result-2 c = search needs
-
 returns : tie.Need-returns
 returns c = ap (λ (x : Bool). c .args .coarse || x) (alike _ _ (within (c .args .me)) (without (c .args .me)))
 
 pub gives-velocity-spec : {M : Type 1} → statement M
-gives-velocity-spec = tie.close (tie.spec mul-result add-result mul-result-2 add-result-2 returns)
+gives-velocity-spec =
+    tie.close (tie.spec (λ c. search needs) (λ c. search needs) (λ c. search needs) (λ c. search needs) returns)

@@ -18,15 +18,6 @@ by-values : (p : Position) (k : Bool) → p .known ≡ k
 by-values p true e = rw (← e)
 by-values p false e = refl
 
-or-zero-i32-requires : tie.Need-or-zero-i32-requires
-or-zero-i32-requires c κs = search needs
-
-or-zero-u32-requires : tie.Need-or-zero-u32-requires
-or-zero-u32-requires c κs = search needs
-
-or-zero-requires : tie.Need-or-zero-requires
-or-zero-requires c κs = search needs
-
 returns : tie.Need-returns
 unfolding meantPosition
 returns c =
@@ -37,5 +28,4 @@ returns c =
     rw (toZ-ofZ {w = w32} (record { sfits = latitude .ok }), c .or-zero .ensures, c .before .or-zero-u32 .ensures, latitude .ensures, whole) (by-values p (p .known) refl)
 
 pub meant-position-spec : {M : Type 1} → statement M
-meant-position-spec =
-    tie.close (tie.spec or-zero-i32-requires or-zero-u32-requires or-zero-requires returns)
+meant-position-spec = tie.close (tie.spec (λ c κs. search needs) (λ c κs. search needs) (λ c κs. search needs) returns)

@@ -9,12 +9,9 @@ returns : tie.Need-returns
 unfolding meantSaved
 returns c = rw (c .if1 .taken)
 
-no-saved-requires : tie.Need-no-saved-requires
-no-saved-requires c κs = search needs
-
 returns-2 : tie.Need-returns-2
 unfolding meantSaved
 returns-2 c = rw (c .before .if1 .left) (c .no-saved .ensures)
 
 pub meant-saved-spec : {M : Type 1} → statement M
-meant-saved-spec = tie.close (tie.spec returns no-saved-requires returns-2)
+meant-saved-spec = tie.close (tie.spec returns (λ c κs. search needs) returns-2)

@@ -10,9 +10,6 @@ returns : tie.Need-returns
 unfolding onGround
 returns c = rw (c .if1 .taken)
 
-array-read-if2 : tie.Need-array-read-if2
-array-read-if2 c = search needs
-
 returns-2 : tie.Need-returns-2
 unfolding onGround
 returns-2 c = rw (c .before .if1 .left, eq-eqb _ _ (c .if2 .taken))
@@ -22,4 +19,4 @@ unfolding onGround
 returns-3 c = rw (c .before .if1 .left, ne-eqb _ _ (c .if2 .left))
 
 pub ground-by-spec : {M : Type 1} → statement M
-ground-by-spec = tie.close (tie.spec returns array-read-if2 returns-2 returns-3)
+ground-by-spec = tie.close (tie.spec returns (λ c. search needs) returns-2 returns-3)

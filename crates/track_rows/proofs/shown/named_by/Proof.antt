@@ -6,24 +6,6 @@ use borrow.Author.Needs.{needs}
 use Rattle.track_rows.proofs.shown.named_by.Statement.{statement}
 use Rattle.track_rows.proofs.shown.named_by.Tie as tie
 
-array-read-if1 : tie.Need-array-read-if1
-array-read-if1 c = search needs
-
-array-read-t9 : tie.Need-array-read-t9
-array-read-t9 c = search needs
-
-array-read-t12 : tie.Need-array-read-t12
-array-read-t12 c = search needs
-
-array-read-t15 : tie.Need-array-read-t15
-array-read-t15 c = search needs
-
-array-read-t18 : tie.Need-array-read-t18
-array-read-t18 c = search needs
-
-array-read-t21 : tie.Need-array-read-t21
-array-read-t21 c = search needs
-
 returns : tie.Need-returns
 unfolding named
 returns c = rw (eq-eqb _ _ (c .if1 .taken))
@@ -36,11 +18,11 @@ pub named-by-spec : {M : Type 1} → statement M
 named-by-spec =
     tie.close
     (tie.spec
-    array-read-if1
-    array-read-t9
-    array-read-t12
-    array-read-t15
-    array-read-t18
-    array-read-t21
+    (λ c. search needs)
+    (λ c. search needs)
+    (λ c. search needs)
+    (λ c. search needs)
+    (λ c. search needs)
+    (λ c. search needs)
     returns
     returns-2)

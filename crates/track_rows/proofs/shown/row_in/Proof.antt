@@ -7,20 +7,10 @@ use borrow.Author.Needs.{needs}
 use Rattle.track_rows.proofs.shown.row_in.Statement.{statement}
 use Rattle.track_rows.proofs.shown.row_in.Tie as tie
 
-slice-aggregate-put-me : tie.Need-slice-aggregate-put-me
-slice-aggregate-put-me c = search needs
-
-layout-by-requires : tie.Need-layout-by-requires
-layout-by-requires c κs = search needs
-
-put-me-requires : tie.Need-put-me-requires
-put-me-requires c κs = search needs
-
 returns : tie.Need-returns
 returns c =
     let a = c .before .before .before .before .args in
     c .before .put-me .ensures .1 ∙ ap (λ (l : Layout). meRow l (a .me) (a .traffic)) (c .before .before .layout-by .ensures)
 
 pub row-in-spec : {M : Type 1} → statement M
-row-in-spec =
-    tie.close (tie.spec slice-aggregate-put-me layout-by-requires put-me-requires returns)
+row-in-spec = tie.close (tie.spec (λ c. search needs) (λ c κs. search needs) (λ c κs. search needs) returns)

@@ -9,12 +9,9 @@ returns : tie.Need-returns
 unfolding source
 returns c = rw (c .if1 .taken)
 
-array-read-t7 : tie.Need-array-read-t7
-array-read-t7 c = search needs
-
 returns-2 : tie.Need-returns-2
 unfolding source
 returns-2 c = rw (c .if1 .left)
 
 pub source-by-spec : {M : Type 1} → statement M
-source-by-spec = tie.close (tie.spec returns array-read-t7 returns-2)
+source-by-spec = tie.close (tie.spec returns (λ c. search needs) returns-2)

@@ -5,19 +5,10 @@ use borrow.Author.Needs.{needs}
 use Rattle.whole.proofs.lines.is_shown.Statement.{statement}
 use Rattle.whole.proofs.lines.is_shown.Tie as tie
 
-place-of-requires : tie.Need-place-of-requires
-place-of-requires c κs = search needs
-
-body-requires : tie.Need-body-requires
-body-requires c κs = search needs
-
-get4-requires : tie.Need-get4-requires
-get4-requires c κs = search needs
-
 returns : tie.Need-returns
 returns c =
     let a = c .before .before .before .before .args in
     shown-read (a .all) (a .table .now) (a .n) (a .e) (c .before .before .place-of .ensures) (c .before .body .ensures .0) (c .get4 .ensures)
 
 pub is-shown-spec : {M : Type 1} → statement M
-is-shown-spec = tie.close (tie.spec place-of-requires body-requires get4-requires returns)
+is-shown-spec = tie.close (tie.spec (λ c κs. search needs) (λ c κs. search needs) (λ c κs. search needs) returns)

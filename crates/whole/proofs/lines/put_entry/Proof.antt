@@ -11,28 +11,16 @@ use borrow.Author.Needs.{needs}
 use Rattle.whole.proofs.lines.put_entry.Statement.{statement}
 use Rattle.whole.proofs.lines.put_entry.Tie as tie
 
-is-shown-requires : tie.Need-is-shown-requires
-is-shown-requires c κs = search needs
-
 returns : tie.Need-returns
 returns c =
     let a = c .before .before .before .before .args in
     (omega arith, added-as (texts-hidden (a .all) (a .table .now) (a .n) (a .e) (sym (c .before .is-shown .ensures) ∙ not-true _ (c .if1 .taken))) (added-none (a .at) (a .out .now)))
-
-row-at-requires : tie.Need-row-at-requires
-row-at-requires c κs = search needs
-
-row-line-requires : tie.Need-row-line-requires
-row-line-requires c κs = search needs
 
 put-line-requires : tie.Need-put-line-requires
 put-line-requires c κs =
     let row = c .before .before .row-at .result in
     let most = row-most row in
     (search needs, line-bytes (rowText row) (omega (arith, most)) (c .before .row-line .ensures), omega (arith, line-len (rowText row) (c .before .row-line .ensures), most))
-
-same-length : tie.Need-same-length
-same-length c = search needs
 
 returns-2 : tie.Need-returns-2
 returns-2 c =
@@ -55,10 +43,10 @@ pub put-entry-spec : {M : Type 1} → statement M
 put-entry-spec =
     tie.close
     (tie.spec
-    is-shown-requires
+    (λ c κs. search needs)
     returns
-    row-at-requires
-    row-line-requires
+    (λ c κs. search needs)
+    (λ c κs. search needs)
     put-line-requires
-    same-length
+    (λ c. search needs)
     returns-2)

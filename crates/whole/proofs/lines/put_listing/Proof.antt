@@ -11,15 +11,6 @@ use borrow.Author.Needs.{needs}
 use Rattle.whole.proofs.lines.put_listing.Statement.{statement}
 use Rattle.whole.proofs.lines.put_listing.Tie as tie
 
-count-requires : tie.Need-count-requires
-count-requires c κs = search needs
-
-clock-of-requires : tie.Need-clock-of-requires
-clock-of-requires c κs = search needs
-
-header-line-requires : tie.Need-header-line-requires
-header-line-requires c κs = search needs
-
 put-line-requires : tie.Need-put-line-requires
 put-line-requires c κs =
     let a = c .before .before .before .before .before .before .before .args in
@@ -34,9 +25,6 @@ put-lines-requires c κs =
     let rows = c .before .before .before .before .before .before .before .count .result in
     let len = line-len (headerText clock rows (s .args .bad)) (c .before .before .before .before .before .header-line .ensures) in
     (s .pre .0, s .pre .1, omega (arith, len, header-most clock rows (s .args .bad), c .before .before .before .put-line .ensures .1, s .pre .2))
-
-same-length : tie.Need-same-length
-same-length c = search needs
 
 returns : tie.Need-returns
 returns c =
@@ -54,10 +42,10 @@ pub put-listing-spec : {M : Type 1} → statement M
 put-listing-spec =
     tie.close
     (tie.spec
-    count-requires
-    clock-of-requires
-    header-line-requires
+    (λ c κs. search needs)
+    (λ c κs. search needs)
+    (λ c κs. search needs)
     put-line-requires
     put-lines-requires
-    same-length
+    (λ c. search needs)
     returns)

@@ -5,18 +5,6 @@ use borrow.Author.Needs.{needs}
 use Rattle.whole.proofs.sorted.in_order.Statement.{statement}
 use Rattle.whole.proofs.sorted.in_order.Tie as tie
 
-gather-requires : tie.Need-gather-requires
-gather-requires c κs = search needs
-
-sort-requires : tie.Need-sort-requires
-sort-requires c κs = search needs
-
-once-requires : tie.Need-once-requires
-once-requires c κs = search needs
-
-same-length : tie.Need-same-length
-same-length c = search needs
-
 returns : tie.Need-returns
 returns c =
     let o = c .before .before in
@@ -27,4 +15,4 @@ returns c =
 
 pub in-order-spec : {M : Type 1} → statement M
 in-order-spec =
-    tie.close (tie.spec gather-requires sort-requires once-requires same-length returns)
+    tie.close (tie.spec (λ c κs. search needs) (λ c κs. search needs) (λ c κs. search needs) (λ c. search needs) returns)
