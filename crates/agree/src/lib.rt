@@ -1,4 +1,6 @@
 // Whether a line of another listing agrees with a row of ours.
+#![tactic(auto)]
+
 ghost use Rattle.std.specs.Prelude.{◌≡◌};
 ghost use Rattle.agree.specs.Near.{shows as showsOf, along as alongOf, agrees_of, stepped as steppedOf, moved};
 ghost use Rattle.agree.specs.Near.{up as upOf, down as downOf, east as eastOf, west as westOf};
@@ -6,7 +8,7 @@ ghost use Rattle.agree.specs.Near.{up as upOf, down as downOf, east as eastOf, w
 use text::{Figure, Row};
 
 // Where a neighbour lies, one unit away.
-#[derive(Drop)]
+#[derive(Clone, Copy)]
 enum Way {
     North,
     South,

@@ -1,4 +1,6 @@
 // Addercoil for C, the function by which another decoder's listing is checked, in a table of its own. It is an object of its own in the archive: what it calls of the table has one caller in each, and stays in its place.
+#![tactic(auto)]
+
 ghost use Rattle.std.specs.Prelude.{◌≡◌};
 ghost use Rattle.compare.specs.Compared.{checked};
 ghost use Rattle.entries.specs.Sent.{sent, into};

@@ -1,18 +1,20 @@
 // Captures: the rules of a block, its records, and a reader that gives one record at a time.
+#![tactic(auto)]
+
 ghost use Rattle.std.specs.Prelude.{◌≡◌, ◌<◌};
 ghost use Rattle.capture.specs.Block.{zeros, block_of, record_of, message_of};
 ghost use Rattle.capture.specs.Reader.{begun, after_of, gives, turned, turns};
 
 use refusals::Refusal;
 
-#[derive(Drop)]
+#[derive(Clone, Copy)]
 pub enum Block {
     // how many records it has
     Good(usize),
     Refused(Refusal),
 }
 
-#[derive(Drop)]
+#[derive(Clone, Copy)]
 pub enum Record {
     // its time, and where the 14 bytes of its message start in the block
     At { time: u64, start: usize },
@@ -96,7 +98,7 @@ pub fn message_of(b: &[u8], i: usize) -> &[u8]
 }
 
 // A reader of the block that it was lent: it gives one record at a time.
-#[derive(Drop)]
+#[derive(Clone, Copy)]
 pub struct Reader<'a> {
     block: &'a [u8],
     // the record that it stands at

@@ -1,11 +1,13 @@
 // Identification: the category set of a TYPE, and the characters.
+#![tactic(auto)]
+
 ghost use Rattle.std.specs.Prelude.{◌≡◌, ◌<◌};
 ghost use Rattle.characters.specs.Text.{category_set_of, character_of, text_of};
 ghost use Rattle.characters.specs.Text.{shown as Text·shown};
 
 use refusals::Refusal;
 
-#[derive(Drop)]
+#[derive(Clone, Copy)]
 pub enum CategorySet {
     A,
     B,
@@ -16,14 +18,14 @@ pub enum CategorySet {
     Refused(Refusal),
 }
 
-#[derive(Drop)]
+#[derive(Clone, Copy)]
 pub enum Character {
     // in ASCII
     Shown(u8),
     Refused(Refusal),
 }
 
-#[derive(Drop)]
+#[derive(Clone, Copy)]
 pub enum Text {
     // eight bytes of ASCII, the first the highest
     Shown(u64),

@@ -1,4 +1,6 @@
 // Another decoder's listing against ours: yes, or the first line at fault. Ours is what the program `listing` prints of the capture with all tracks asked for.
+#![tactic(auto)]
+
 ghost use Rattle.std.specs.Prelude.{◌≡◌, true, ◌≤◌, length};
 ghost use Rattle.memory.specs.Offsets.{whole_places};
 ghost use Rattle.table.specs.Table.{next_above};
@@ -11,7 +13,7 @@ use feed::Fed;
 use refusals::Refusal;
 use rules::NextKey;
 
-#[derive(Drop)]
+#[derive(Clone, Copy)]
 pub enum Checked {
     Yes,
     // the number of the line, the header's being 1

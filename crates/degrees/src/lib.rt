@@ -1,5 +1,7 @@
 // Places in degrees, as doubles, and back. Nothing is rounded: n units of 2^-32 of a turn are n * 360 / 2^32 degrees, and for every n of 32 bits that
 // is a double.
+#![tactic(auto)]
+
 ghost use Rattle.std.specs.Prelude.{◌≡◌, ◌<◌, negsuc};
 ghost use Rattle.degrees.specs.Value.{degrees_of};
 ghost use Rattle.degrees.specs.Ways.{centred, in_degrees, from_degrees};
@@ -9,20 +11,20 @@ use positions::{Found, Spot};
 use refusals::Refusal;
 
 // A place in degrees: latitude from the equator, longitude from -180 up to below 180.
-#[derive(Drop)]
+#[derive(Clone, Copy)]
 pub struct Degrees {
     pub latitude: f64,
     pub longitude: f64,
 }
 
-#[derive(Drop)]
+#[derive(Clone, Copy)]
 pub enum InDegrees {
     Degrees(Degrees),
     Refused(Refusal),
 }
 
 // The units of which a double is the figure.
-#[derive(Drop)]
+#[derive(Clone, Copy)]
 enum Whole {
     Units(i32),
     None,

@@ -1,4 +1,6 @@
 // Messages encoded: the 14 bytes that say a message's fields.
+#![tactic(auto)]
+
 ghost use Rattle.std.specs.Prelude.{◌≡◌, ◌&&◌, ◌++◌, length};
 ghost use Rattle.fields.specs.Packing.{pack, fits};
 ghost use Rattle.fields.specs.Bytes.{bytes_of};
@@ -10,7 +12,7 @@ use layouts::Written;
 use messages::Message;
 use refusals::Refusal;
 
-#[derive(Drop)]
+#[derive(Clone, Copy)]
 pub enum Encoded {
     Written,
     Refused(Refusal),

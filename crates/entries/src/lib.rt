@@ -1,4 +1,6 @@
 // The entries of a row: numbers in arrays that another language lends (`arrays`), and a reading as two of them: what it is (0 unknown, 1 known, 2 over, 3 reserved, 4 stopped, 5 refused), and its value.
+#![tactic(auto)]
+
 mod arrays;
 
 ghost use Rattle.std.specs.Prelude.{◌≡◌};
@@ -11,7 +13,7 @@ use readings::{
     Altitude, CoarseSpeed, Difference, Heading, Movement, Rate, Speed, Supplement, Version,
 };
 
-#[derive(Drop)]
+#[derive(Clone, Copy)]
 pub struct Reading {
     pub what: u64,
     pub value: u64,

@@ -1,4 +1,6 @@
 // A capture into a lent table, block by block: the records of each good block are received in their order, and the bad blocks are counted.
+#![tactic(auto)]
+
 ghost use Rattle.std.specs.Prelude.{◌≡◌, ◌*◌, ◌≤◌, ◌<◌, length};
 ghost use Rattle.capture.specs.Block.{good, time_of, message_of};
 ghost use Rattle.table.specs.Table.{after, received};
@@ -8,7 +10,7 @@ use capture::{Block, Record};
 use refusals::Refusal;
 use rules::Clock;
 
-#[derive(Drop)]
+#[derive(Clone, Copy)]
 pub enum Fed {
     // how many blocks are bad
     Bad(u64),

@@ -1,4 +1,6 @@
 // Bytes as one number, high byte first, and a number as bytes.
+#![tactic(auto)]
+
 ghost use Rattle.std.specs.Prelude.{◌≡◌, ◌%◌, ◌^◌, length};
 ghost use Rattle.fields.specs.Bytes.{number, bytes_of};
 

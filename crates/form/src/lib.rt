@@ -1,4 +1,6 @@
 // Whether a text is in the form of a listing, whoever made it, and its lines.
+#![tactic(auto)]
+
 mod words;
 
 ghost use Rattle.std.specs.Prelude.{◌≡◌, ◌≤◌, length};

@@ -1,4 +1,6 @@
 // What the TYPE of a position message says of its integrity, which goes by the version of the standard: NUC of version 0, NIC of versions 1 and 2.
+#![tactic(auto)]
+
 mod numbers;
 mod standard;
 
@@ -9,7 +11,7 @@ use keys::Kind;
 use refusals::Refusal;
 pub use standard::{Bits, Supplements, Version, supplements_of, version_of};
 
-#[derive(Drop)]
+#[derive(Clone, Copy)]
 pub enum Integrity {
     // of a version above 2, of C, or no position message was heard
     Unknown,

@@ -6,7 +6,7 @@ use keys::Kind;
 use layouts::Layout;
 use refusals::Refusal;
 
-#[derive(Drop)]
+#[derive(Clone, Copy)]
 pub enum Version {
     // 0 to 7
     Number(u8),
@@ -14,14 +14,14 @@ pub enum Version {
 }
 
 // The supplements; one that the version does not have is 0.
-#[derive(Drop)]
+#[derive(Clone, Copy)]
 pub struct Bits {
     pub a: bool,
     pub b: bool,
     pub c: bool,
 }
 
-#[derive(Drop)]
+#[derive(Clone, Copy)]
 pub enum Supplements {
     Bits(Bits),
     Refused(Refusal),

@@ -1,5 +1,7 @@
 // Runs `integrity` on each question of standard input and writes the answers, a line each: the version, the supplements A, B and C, and the integrity.
 // A question is a byte with a kind in its low three bits, 1 to 6, and above them of C the flag and the station; one with TYPE, one that is 1 where bit 8 is set, and a status ME of eight bytes.
+#![tactic(auto)]
+
 use integrity::{Bits, Integrity, Supplements, Version};
 use keys::Kind;
 use libc::{STDIN_FILENO, STDOUT_FILENO};

@@ -1,9 +1,11 @@
 // A track's key: AA with its kind, in one number, the kind above the 24 bits of the address; of C a flag and a station below them. The order of the numbers is the listing's: by kind, then by address, flag and station.
+#![tactic(auto)]
+
 ghost use Rattle.std.specs.Prelude.{◌≡◌};
 ghost use Rattle.keys.specs.Keys.{letter_of, kind_at, is_kind, key_for, kind_in, letter_in, is_traffic, is_coarse, traffic_in, coarse_in, flag_in, station_in, address_in, is_key};
 
 // The kinds in the order of their keys.
-#[derive(Drop)]
+#[derive(Clone, Copy)]
 pub enum Kind {
     I,
     O,

@@ -5,7 +5,7 @@ ghost use Rattle.layouts.specs.Layouts.{airborne_of, airborne_fields, airborne_w
 
 use counts::{LatitudeCount, LongitudeCount};
 
-#[derive(Drop)]
+#[derive(Clone, Copy)]
 pub struct Airborne {
     pub typecode: u8,
     pub surveillance: u8,

@@ -13,7 +13,7 @@ use crate::surface::{Surface, surface_fits, surface_me, surface_of};
 use crate::velocity::{Air, Ground, air_fits, air_me, air_of, ground_fits, ground_me, ground_of};
 use refusals::Refusal;
 
-#[derive(Drop)]
+#[derive(Clone, Copy)]
 pub enum Body {
     Identification(Identification),
     Surface(Surface),
@@ -28,13 +28,13 @@ pub enum Body {
     Coarse(Coarse),
 }
 
-#[derive(Drop)]
+#[derive(Clone, Copy)]
 pub enum Taken {
     Body(Body),
     Refused(Refusal),
 }
 
-#[derive(Drop)]
+#[derive(Clone, Copy)]
 pub enum Written {
     // 56 bits
     Me(u64),
@@ -42,7 +42,7 @@ pub enum Written {
 }
 
 // Which layout ME has: the two of TYPE 19 and the one of TYPE 31 by their subtypes, and a coarse message's by no TYPE.
-#[derive(Drop)]
+#[derive(Clone, Copy)]
 pub enum Layout {
     Identification,
     Surface,

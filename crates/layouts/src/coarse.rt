@@ -5,7 +5,7 @@ ghost use Rattle.layouts.specs.Coarse.{coarse_of, coarse_fields, position_widths
 
 use counts::{LatitudeCount, LongitudeCount};
 
-#[derive(Drop)]
+#[derive(Clone, Copy)]
 pub struct Coarse {
     // of the address: 0 ICAO, 1 Mode A code and track number
     pub flag: u8,

@@ -3,7 +3,7 @@ ghost use Rattle.std.specs.Prelude.{◌≡◌, ◌<◌, ◌^◌, ◌&&◌};
 ghost use Rattle.fields.specs.Packing.{pack, fits};
 ghost use Rattle.layouts.specs.Layouts.{identification_of, identification_fields, identification_widths, is_identification};
 
-#[derive(Drop)]
+#[derive(Clone, Copy)]
 pub struct Identification {
     pub typecode: u8,
     pub category: u8,

@@ -1,4 +1,6 @@
 // ME, bits 33-88 of a message: one struct for each layout with all its fields, read from the bits and written back.
+#![tactic(auto)]
+
 mod airborne;
 mod bodies;
 mod coarse;

@@ -3,7 +3,7 @@ ghost use Rattle.std.specs.Prelude.{◌≡◌, ◌<◌, ◌^◌, ◌&&◌, [], �
 ghost use Rattle.fields.specs.Packing.{pack, fits};
 ghost use Rattle.layouts.specs.Status.{status_of, end_widths, status_fields, status_widths, is_status};
 
-#[derive(Drop)]
+#[derive(Clone, Copy)]
 pub struct Status {
     pub typecode: u8,
     pub subtype: u8,

@@ -5,7 +5,7 @@ ghost use Rattle.layouts.specs.Layouts.{surface_of, surface_fields, surface_widt
 
 use counts::{LatitudeCount, LongitudeCount};
 
-#[derive(Drop)]
+#[derive(Clone, Copy)]
 pub struct Surface {
     pub typecode: u8,
     pub movement: u8,

@@ -4,7 +4,7 @@ ghost use Rattle.fields.specs.Packing.{pack, fits};
 ghost use Rattle.layouts.specs.Velocity.{vertical_of, vertical_fields, vertical_widths, ground_of, ground_fields, air_of, air_fields, velocity_widths, is_ground, is_air};
 
 // Vertical rate, and the difference of the two heights.
-#[derive(Drop)]
+#[derive(Clone, Copy)]
 pub struct Vertical {
     // of the rate: 0 geometric, 1 barometric
     pub source: u8,
@@ -18,7 +18,7 @@ pub struct Vertical {
     pub difference: u8,
 }
 
-#[derive(Drop)]
+#[derive(Clone, Copy)]
 pub struct Ground {
     pub typecode: u8,
     pub subtype: u8,
@@ -34,7 +34,7 @@ pub struct Ground {
     pub vertical: Vertical,
 }
 
-#[derive(Drop)]
+#[derive(Clone, Copy)]
 pub struct Air {
     pub typecode: u8,
     pub subtype: u8,

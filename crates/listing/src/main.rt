@@ -1,4 +1,6 @@
 // Reads a capture on standard input to its end and prints the listing: 256 places, no site. The word `all` asks for every track, no word for those with a position. It keeps one block at a time, so that memory does not grow with the capture.
+#![tactic(auto)]
+
 mod words;
 
 ghost use Rattle.std.specs.Prelude.{◌≡◌, length};

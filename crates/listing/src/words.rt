@@ -2,7 +2,7 @@
 ghost use Rattle.std.specs.Prelude.{◌≡◌};
 ghost use Rattle.listing.specs.Words.{is_all, asked_by};
 
-#[derive(Drop)]
+#[derive(Clone, Copy)]
 pub(crate) enum Asked {
     // the tracks with a position
     Positioned,

@@ -1,5 +1,7 @@
 // The memory map of a lent table: a head, a column of keys, then a body for each place. Numbers are low byte first: `words` reads and writes them, and `held` says by them when a place is held.
 // Each offset is that of the thing before it and its width, so that what is put in between moves all behind it. A value has any number that its bytes can hold, unless a range is named.
+#![tactic(auto)]
+
 mod held;
 mod words;
 

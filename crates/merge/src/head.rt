@@ -8,14 +8,14 @@ ghost use Rattle.merge.specs.Code.{FieldAt, HeadOf};
 const MOST: u64 = 0xffff_ffff_ffff_ffff;
 
 // A number, and where the text goes on behind it.
-#[derive(Drop)]
+#[derive(Clone, Copy)]
 pub(crate) struct Field {
     pub(crate) value: u64,
     pub(crate) end: usize,
 }
 
 // What a header says.
-#[derive(Drop)]
+#[derive(Clone, Copy)]
 pub(crate) struct Head {
     // whether the text is a listing
     pub(crate) right: bool,

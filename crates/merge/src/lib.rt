@@ -1,4 +1,6 @@
 // Two listings as one, into a lent buffer. The texts are read where they are, and a line goes from its text to the buffer as it is.
+#![tactic(auto)]
+
 mod head;
 mod key;
 mod lines;
@@ -8,7 +10,7 @@ ghost use Rattle.merge.specs.Merged.{left, merged_into};
 
 use refusals::Refusal;
 
-#[derive(Drop)]
+#[derive(Clone, Copy)]
 pub enum Merged {
     // how many the text has
     Bytes(usize),

@@ -8,7 +8,7 @@ ghost use Rattle.merge.specs.Code.{NextOf};
 use crate::key::key_in;
 
 // The next line: where both texts go on behind it, and its key.
-#[derive(Drop)]
+#[derive(Clone, Copy)]
 struct Next {
     more: bool,
     i: usize,

@@ -1,6 +1,8 @@
 // Decodes each byte string of standard input, a byte of length and then the bytes, and writes its fields in the order of their
 // bits with the message encoded again, or the number that it earns. Where the length is 254 the fields of a status follow, and
 // where it is 253 those of a coarse message, eight bytes each, and what they are encoded to is written.
+#![tactic(auto)]
+
 use counts::{LatitudeCount, LongitudeCount};
 use encoder::Encoded;
 use layouts::{Air, Airborne, Body, Coarse, Ground, Identification, Status, Surface, Vertical};

@@ -1,4 +1,6 @@
 // Messages of 14 bytes: whether they are acceptable, and decoded.
+#![tactic(auto)]
+
 ghost use Rattle.std.specs.Prelude.{◌≡◌, eqb, length};
 ghost use Rattle.parity.specs.Parity.{remainder};
 ghost use Rattle.messages.specs.Message.{format_taken, coarse_by, is_reserved, agree, head_taken, with_body, decoded, kind_by, kind_of, key_by, key_of, traffic_by, traffic, starts_by, starts};
@@ -8,7 +10,7 @@ use keys::Kind;
 use layouts::{Body, Taken};
 use refusals::Refusal;
 
-#[derive(Drop)]
+#[derive(Clone, Copy)]
 pub struct Message {
     // DF
     pub format: u8,
@@ -19,14 +21,14 @@ pub struct Message {
     pub body: Body,
 }
 
-#[derive(Drop)]
+#[derive(Clone, Copy)]
 pub enum Decoded {
     Message(Message),
     Refused(Refusal),
 }
 
 // A message's bits before PI, ME as one number.
-#[derive(Drop)]
+#[derive(Clone, Copy)]
 pub struct Frame {
     pub format: u8,
     pub control: u8,
@@ -34,7 +36,7 @@ pub struct Frame {
     pub me: u64,
 }
 
-#[derive(Drop)]
+#[derive(Clone, Copy)]
 pub enum Accepted {
     Frame(Frame),
     Refused(Refusal),

@@ -1,4 +1,6 @@
 // The parity of a byte string of any length: its remainder on division by x^24 plus the terms of 0xFFF409.
+#![tactic(auto)]
+
 mod division;
 mod lookup;
 

@@ -1,4 +1,6 @@
 // Runs `parity_words` on each byte string of standard input, two bytes of length and then the bytes, and writes its remainder and its seal.
+#![tactic(auto)]
+
 use libc::{STDIN_FILENO, STDOUT_FILENO};
 
 fn say(n: u32) {

@@ -1,4 +1,6 @@
 // The parity of a byte string of any length, four bytes at a time.
+#![tactic(auto)]
+
 mod tables;
 
 ghost use Rattle.std.specs.Prelude.{◌≡◌, ◌+◌, ◌<◌, ◌≤◌, length, take, drop};

@@ -6,6 +6,8 @@
 //   encode and to degrees: latitude and longitude; pair: the even counts, then the odd ones; single: the counts, then the
 //   reference; from degrees: the bit patterns of latitude and longitude, of two numbers each.
 // A latitude of a spot is signed, in two's complement. Degrees are written as bit patterns in hex.
+#![tactic(auto)]
+
 ghost use Rattle.std.specs.Prelude.{◌≤◌, ◌<◌};
 
 use counts::{LatitudeCount, LongitudeCount};

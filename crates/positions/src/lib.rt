@@ -2,6 +2,8 @@
 //
 // The definitions speak of whole numbers of either sign. The code holds what can be below zero one whole turn up, in u64:
 // a turn is a multiple of every divisor that occurs, so division rounds down and the remainder is right also in the south.
+#![tactic(auto)]
+
 ghost use Rattle.std.specs.Prelude.{◌≡◌, ◌&&◌, ◌+◌, ◌-◌, ◌*◌, ◌%◌, ◌<◌, ◌≤◌, leb, pos};
 ghost use Rattle.std.proofs.Math.IntN.{sub_ℕ};
 ghost use Rattle.positions.specs.Whole.{modulo};
@@ -42,47 +44,47 @@ const EVEN_NORTH: u64 = 39321600;
 const ODD_NORTH: u64 = 38666240;
 
 // A spot on the earth, in 2^-32 of 360 degrees: latitude from the equator, longitude from 0.
-#[derive(Drop)]
+#[derive(Clone, Copy)]
 pub struct Spot {
     pub latitude: i32,
     pub longitude: u32,
 }
 
 // Of a message: an airborne turn is 360 degrees, a surface turn 90.
-#[derive(Drop)]
+#[derive(Clone, Copy)]
 pub enum Turn {
     Airborne,
     Surface,
 }
 
 // F of a message: 0 is even, 1 is odd.
-#[derive(Drop)]
+#[derive(Clone, Copy)]
 pub enum Format {
     Even,
     Odd,
 }
 
 // How many counts a zone has: 2^17, or 2^12 of a coarse message.
-#[derive(Drop)]
+#[derive(Clone, Copy)]
 pub enum Size {
     Fine,
     Coarse,
 }
 
 // The two counts of one message.
-#[derive(Drop)]
+#[derive(Clone, Copy)]
 pub struct Counts {
     pub latitude: LatitudeCount,
     pub longitude: LongitudeCount,
 }
 
-#[derive(Drop)]
+#[derive(Clone, Copy)]
 pub enum Encoded {
     As(Counts),
     Refused(Refusal),
 }
 
-#[derive(Drop)]
+#[derive(Clone, Copy)]
 pub enum Found {
     At(Spot),
     Refused(Refusal),

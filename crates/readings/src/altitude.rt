@@ -7,7 +7,7 @@ ghost use Rattle.readings.specs.Altitude.{five_hundreds, hundreds as Altitude·h
 use crate::signed::less;
 use refusals::Refusal;
 
-#[derive(Drop)]
+#[derive(Clone, Copy)]
 pub enum Altitude {
     Unknown,
     // the step says how coarse it is: 25 or 100 feet

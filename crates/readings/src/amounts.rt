@@ -6,7 +6,7 @@ use crate::signed::less;
 use refusals::Refusal;
 
 // West and south are below zero.
-#[derive(Drop)]
+#[derive(Clone, Copy)]
 pub enum Speed {
     Unknown,
     Knots(i32),
@@ -15,7 +15,7 @@ pub enum Speed {
 }
 
 // Down is below zero.
-#[derive(Drop)]
+#[derive(Clone, Copy)]
 pub enum Rate {
     Unknown,
     FeetPerMinute(i32),
@@ -24,7 +24,7 @@ pub enum Rate {
 }
 
 // GNSS height less pressure altitude.
-#[derive(Drop)]
+#[derive(Clone, Copy)]
 pub enum Difference {
     Unknown,
     Feet(i32),

@@ -13,26 +13,26 @@ use characters::{CategorySet, Text, category_set_of, text_of};
 use layouts::{Air, Airborne, Body, Coarse, Ground, Identification, Layout, Status, Surface};
 use refusals::Refusal;
 
-#[derive(Drop)]
+#[derive(Clone, Copy)]
 pub struct IdentificationReadings {
     pub set: CategorySet,
     pub text: Text,
 }
 
-#[derive(Drop)]
+#[derive(Clone, Copy)]
 pub struct SurfaceReadings {
     pub movement: Movement,
     pub heading: Heading,
 }
 
-#[derive(Drop)]
+#[derive(Clone, Copy)]
 pub struct AirborneReadings {
     pub altitude: Altitude,
     // GNSS height, else pressure altitude
     pub gnss: bool,
 }
 
-#[derive(Drop)]
+#[derive(Clone, Copy)]
 pub struct GroundReadings {
     pub east: Speed,
     pub north: Speed,
@@ -40,7 +40,7 @@ pub struct GroundReadings {
     pub difference: Difference,
 }
 
-#[derive(Drop)]
+#[derive(Clone, Copy)]
 pub struct AirReadings {
     pub heading: Heading,
     pub airspeed: Speed,
@@ -48,21 +48,21 @@ pub struct AirReadings {
     pub difference: Difference,
 }
 
-#[derive(Drop)]
+#[derive(Clone, Copy)]
 pub struct StatusReadings {
     pub version: Version,
     pub supplementa: Supplement,
     pub supplementc: Supplement,
 }
 
-#[derive(Drop)]
+#[derive(Clone, Copy)]
 pub struct CoarseReadings {
     pub altitude: Altitude,
     pub angle: Heading,
     pub speed: CoarseSpeed,
 }
 
-#[derive(Drop)]
+#[derive(Clone, Copy)]
 pub enum Readings {
     Identification(IdentificationReadings),
     Surface(SurfaceReadings),

@@ -4,7 +4,7 @@ ghost use Rattle.readings.specs.Coarse.{coarse_speed_of};
 
 use refusals::Refusal;
 
-#[derive(Drop)]
+#[derive(Clone, Copy)]
 pub enum CoarseSpeed {
     Unknown,
     // the speed is from here to the next code's edge

@@ -4,7 +4,7 @@ ghost use Rattle.readings.specs.Headings.{heading_of};
 
 use refusals::Refusal;
 
-#[derive(Drop)]
+#[derive(Clone, Copy)]
 pub enum Heading {
     // in 2^-32 of a turn, clockwise from north
     Turn(u32),

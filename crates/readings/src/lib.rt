@@ -1,4 +1,6 @@
 // What codes mean: each reading takes a code as the message has it and answers a value, or refuses what is wider than its bits; and so of a whole body.
+#![tactic(auto)]
+
 mod altitude;
 mod amounts;
 mod bodies;

@@ -4,7 +4,7 @@ ghost use Rattle.readings.specs.Movement.{lower_edge, movement_of};
 
 use refusals::Refusal;
 
-#[derive(Drop)]
+#[derive(Clone, Copy)]
 pub enum Movement {
     Unknown,
     Stopped,

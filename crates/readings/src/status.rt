@@ -2,7 +2,7 @@
 ghost use Rattle.std.specs.Prelude.{◌≡◌};
 ghost use Rattle.readings.specs.Status.{has_a, has_c, bit_c, version_of, supplement_of};
 
-#[derive(Drop)]
+#[derive(Clone, Copy)]
 pub enum Version {
     Number(u8),
     // 3 to 7
@@ -10,7 +10,7 @@ pub enum Version {
 }
 
 // One bit, or none where the version has no such supplement.
-#[derive(Drop)]
+#[derive(Clone, Copy)]
 pub enum Supplement {
     Unknown,
     Bit(u8),

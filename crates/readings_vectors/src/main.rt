@@ -1,4 +1,6 @@
 // Runs `readings` on each question of standard input, five bytes each, and writes the answers, a line each. Behind a question of a whole body stand its fields, eight bytes each.
+#![tactic(auto)]
+
 use characters::{CategorySet, Character, Text};
 use counts::{LatitudeCount, LongitudeCount};
 use layouts::{Air, Airborne, Body, Coarse, Ground, Identification, Status, Surface, Vertical};

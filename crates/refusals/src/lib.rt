@@ -1,8 +1,10 @@
 // The numbers that come back: one case for each reason to refuse, and its number in RULES 3.2.
+#![tactic(auto)]
+
 ghost use Rattle.std.specs.Prelude.{◌≡◌};
 ghost use Rattle.refusals.specs.Numbers.{number_of};
 
-#[derive(Drop)]
+#[derive(Clone, Copy)]
 pub enum Refusal {
     // a message or an output buffer that is not of 14 bytes
     Length,

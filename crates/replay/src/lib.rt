@@ -1,4 +1,6 @@
 // One aircraft's track worked out again from a log of what was received. The plain method: the records in order, the clock and this aircraft's track by value, and no table.
+#![tactic(auto)]
+
 ghost use Rattle.std.specs.Prelude.{◌≡◌, true, cond, eqb, length, take, ◌%◌, ◌/◌, ◌^◌};
 ghost use Rattle.fields.specs.Bytes.{number};
 ghost use Rattle.keys.specs.Keys.{address_in};
@@ -17,7 +19,7 @@ use track::{Holding, Looked, Track};
 use whereabouts::Site;
 
 // What is kept between two records: the clock, whether the aircraft is held at it, and its track, which counts where it is.
-#[derive(Drop)]
+#[derive(Clone, Copy)]
 struct Own {
     clock: u64,
     held: bool,

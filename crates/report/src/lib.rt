@@ -1,4 +1,6 @@
 // The listing of a lent table, line by line: the header with its counts, and the line of a key; of all tracks, or of those with a position. A caller walks the keys by `table::next`.
+#![tactic(auto)]
+
 mod row;
 
 ghost use Rattle.std.specs.Prelude.{◌≡◌, ◌<◌, true, [], length};
@@ -17,7 +19,7 @@ use text::{Line, Row};
 use track::{Holding, Track};
 use whereabouts::Position;
 
-#[derive(Drop)]
+#[derive(Clone, Copy)]
 pub enum Printed {
     Text,
     // the key is not held, or not shown
@@ -26,7 +28,7 @@ pub enum Printed {
 }
 
 // The answer, and the line beside it, which is empty where there is none.
-#[derive(Drop)]
+#[derive(Clone, Copy)]
 pub struct Report {
     pub answer: Printed,
     pub line: Line,

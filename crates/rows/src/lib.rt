@@ -1,4 +1,6 @@
 // An ME as numbers in a row, each at its own place, for another language, and a message back from such numbers.
+#![tactic(auto)]
+
 mod back;
 mod message;
 mod widths;

@@ -18,7 +18,7 @@ use readings::{
 };
 
 // The readings of a layout.
-#[derive(Drop)]
+#[derive(Clone, Copy)]
 pub struct Four {
     pub first: Reading,
     pub second: Reading,

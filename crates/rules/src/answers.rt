@@ -6,33 +6,33 @@ ghost use Rattle.rules.specs.Rules.{turned_away};
 use refusals::Refusal;
 use whereabouts::Site;
 
-#[derive(Drop)]
+#[derive(Clone, Copy)]
 pub enum SetUp {
     Done,
     Refused(Refusal),
 }
 
 // Of a received message, where nobody asks what it says.
-#[derive(Drop)]
+#[derive(Clone, Copy)]
 pub enum Heard {
     Done,
     Refused(Refusal),
 }
 
-#[derive(Drop)]
+#[derive(Clone, Copy)]
 pub enum NextKey {
     Key(u32),
     End,
     Refused(Refusal),
 }
 
-#[derive(Drop)]
+#[derive(Clone, Copy)]
 pub enum Clock {
     At(u64),
     Refused(Refusal),
 }
 
-#[derive(Drop)]
+#[derive(Clone, Copy)]
 pub enum Sited {
     Site(Site),
     Refused(Refusal),

@@ -1,4 +1,6 @@
 // The rules of the table, once over any form of it, and the laws that follow from them: definitions and theorems. In code there is what a table of any form answers with.
+#![tactic(auto)]
+
 mod answers;
 
 pub use answers::{Clock, Heard, NextKey, SetUp, Sited, key_or_end, turned_away};

@@ -1,5 +1,7 @@
 // A number that can be below zero: its sign and its size, of 64 bits, for a longitude has 32 and no sign; and the number
 // raised so that none is below zero.
+#![tactic(auto)]
+
 ghost use Rattle.std.specs.Prelude.{◌≡◌, pos, nat_abs};
 ghost use Rattle.std.specs.Int.Signed.{lt_z};
 ghost use Rattle.signs.specs.Raised.{raised};

@@ -1,4 +1,6 @@
 // A table of four places on the stack: a message is received in it, and a key is looked up. It prints what each answers.
+#![tactic(auto)]
+
 use libc::STDOUT_FILENO;
 use messages::Decoded;
 use positions::Spot;
@@ -6,7 +8,7 @@ use slice_table::{Head, Place, Received};
 use track::{Holding, Looked};
 use whereabouts::Site;
 
-#[derive(Drop)]
+#[derive(Clone, Copy)]
 struct Heard {
     pub received: Received,
     pub look: Looked,

@@ -8,14 +8,14 @@ use refusals::Refusal;
 use track::Track;
 
 // What a message earned, and the head to go on with.
-#[derive(Drop)]
+#[derive(Clone, Copy)]
 pub struct Received {
     pub answer: Decoded,
     pub head: Head,
 }
 
 // What a step answers, and what it puts at its place.
-#[derive(Drop)]
+#[derive(Clone, Copy)]
 pub struct Renewal {
     pub received: Received,
     pub place: Place,

@@ -10,6 +10,8 @@
 // all else                               any
 //
 // A place with any value out of its range is free. An ME whose TYPE is not of its group says 'none heard', and what has no mark is none. A site whose latitude is out of its range counts as none.
+#![tactic(auto)]
+
 mod arrivals;
 mod ranges;
 
@@ -32,28 +34,28 @@ use track::{Holding, Looked, Track};
 use whereabouts::Site;
 
 // A track and its key; the key 0 is nobody's.
-#[derive(Drop)]
+#[derive(Clone, Copy)]
 pub struct Place {
     pub key: u32,
     pub track: Track,
 }
 
 // What a table has beside its places.
-#[derive(Drop)]
+#[derive(Clone, Copy)]
 pub struct Head {
     pub clock: u64,
     pub site: Site,
 }
 
 // What set-up answers, and the head to go on with.
-#[derive(Drop)]
+#[derive(Clone, Copy)]
 pub struct Started {
     pub answer: SetUp,
     pub head: Head,
 }
 
 // A key, sought at a clock, and whether a free place is wanted too.
-#[derive(Drop)]
+#[derive(Clone, Copy)]
 pub struct Sought {
     pub clock: u64,
     pub key: u32,

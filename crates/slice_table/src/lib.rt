@@ -1,6 +1,8 @@
 // The lent table as a slice of places, 1 to 1,024 of them, with its head by value. The calls are those of the bytes form, and both answer the same.
 // A place is a struct of `slice_places`, where the range of each of its values stands, and all that is decided of one.
 // The functions below are thin, since their proofs follow each step by hand: they read, call by value and store.
+#![tactic(auto)]
+
 mod search;
 
 ghost use Rattle.std.specs.Prelude.{◌≡◌, length};
@@ -14,7 +16,7 @@ use track::Looked;
 use whereabouts::Site;
 
 // The lowest place held with the key and the lowest free one, each the number of places if there is none.
-#[derive(Drop)]
+#[derive(Clone, Copy)]
 pub(crate) struct Found {
     pub own: usize,
     pub free: usize,

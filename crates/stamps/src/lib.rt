@@ -1,4 +1,6 @@
 // Receivers with a short clock: a millisecond counter of 32 bits that starts again from 0, extended to the table's clock of 64.
+#![tactic(auto)]
+
 ghost use Rattle.std.specs.Prelude.{◌≡◌};
 ghost use Rattle.table.specs.Bytes.{bytes};
 ghost use Rattle.table.specs.Table.{after};
@@ -10,27 +12,27 @@ use refusals::Refusal;
 use rules::{Clock, Heard};
 
 // Whether a stamp has been accepted, and the last one that was. The caller keeps it, beside the table.
-#[derive(Drop)]
+#[derive(Clone, Copy)]
 pub struct Stamps {
     pub started: bool,
     pub last: u32,
 }
 
-#[derive(Drop)]
+#[derive(Clone, Copy)]
 pub enum Extended {
     At(u64),
     Refused(Refusal),
 }
 
 // Of a message received with a stamp: the answer, and the state to go on with.
-#[derive(Drop)]
+#[derive(Clone, Copy)]
 pub struct Stamped {
     pub answer: Decoded,
     pub state: Stamps,
 }
 
 // The same where nobody asks what the message says.
-#[derive(Drop)]
+#[derive(Clone, Copy)]
 pub struct Noted {
     pub answer: Heard,
     pub state: Stamps,

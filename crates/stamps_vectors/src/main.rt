@@ -4,6 +4,8 @@
 //   S length: set up, with a fresh state. L length: lent as it is. K flag last: another state.
 //   T stamp count bytes: receive with the stamp. R time count bytes: receive at the time. E clock stamp: extend.
 // `reference/vectors/stamps_vectors.py` has what each writes.
+#![tactic(auto)]
+
 use libc::{STDIN_FILENO, STDOUT_FILENO};
 use messages::Decoded;
 use refusals::Refusal;
@@ -11,7 +13,7 @@ use rules::{Clock, SetUp};
 use stamps::{Extended, Stamps};
 
 // How many bytes are lent, and the state beside them.
-#[derive(Drop)]
+#[derive(Clone, Copy)]
 struct Lent {
     length: usize,
     state: Stamps,

@@ -1,4 +1,6 @@
 // The lent table: 1 to 1,024 places in bytes that the caller lends, laid out as `memory` says.
+#![tactic(auto)]
+
 ghost use Rattle.std.specs.Prelude.{◌≡◌, ◌<◌, true, cond, length};
 ghost use Rattle.memory.specs.Offsets.{Room, whole_places};
 ghost use Rattle.messages.specs.declared.Accepted.TheVariants as accept;

@@ -1,4 +1,6 @@
 // The bytes that a user lends: what is read and written at the offsets that `memory` names, and the search among them. A track is held while it is in date, which is read by the clock: nothing sweeps.
+#![tactic(auto)]
+
 mod layout;
 mod scan;
 mod walk;

@@ -9,7 +9,7 @@ use crate::layout;
 use memory::{HEAD, KEY, get4};
 
 // A place, and whether it holds the key.
-#[derive(Drop)]
+#[derive(Clone, Copy)]
 pub struct Target {
     pub held: bool,
     pub at: usize,

@@ -6,6 +6,8 @@
 //   W: the clock, the site and each key with its track. B: the parity remainder of the whole table.
 //   J length kind flag station address known latitude longitude: the first bytes of the buffer replayed as a log; kind, flag, station and known have one byte.
 // `reference/vectors/bench.py` has what each writes.
+#![tactic(auto)]
+
 use encoder::Encoded;
 use keys::Kind;
 use libc::{STDIN_FILENO, STDOUT_FILENO};

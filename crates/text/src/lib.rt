@@ -1,4 +1,6 @@
 // A line of the listing as text, by value: every line fits, so that no buffer can be too small.
+#![tactic(auto)]
+
 mod numbers;
 mod write;
 
@@ -10,20 +12,20 @@ ghost use Rattle.text.specs.Lines.{space, field, figure, sender_text, key_text, 
 pub const LINE: usize = 128;
 
 // A line in ASCII, the newline its last byte, then zeros.
-#[derive(Drop)]
+#[derive(Clone, Copy)]
 pub struct Line {
     pub bytes: [u8; LINE],
     pub len: usize,
 }
 
-#[derive(Drop)]
+#[derive(Clone, Copy)]
 pub enum Figure {
     Unknown,
     Known(i64),
 }
 
 // What a line says of a track.
-#[derive(Drop)]
+#[derive(Clone, Copy)]
 pub struct Row {
     pub key: u32,
     pub heard: u64,

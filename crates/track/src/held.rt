@@ -5,7 +5,7 @@ ghost use Rattle.track.specs.Held.{in_date};
 use crate::Track;
 use refusals::Refusal;
 
-#[derive(Drop)]
+#[derive(Clone, Copy)]
 pub enum Holding {
     Held,
     Unheld,
@@ -13,7 +13,7 @@ pub enum Holding {
 }
 
 // Whether a key is held, and its track; where it is not, one that has heard nothing.
-#[derive(Drop)]
+#[derive(Clone, Copy)]
 pub struct Looked {
     pub answer: Holding,
     pub track: Track,

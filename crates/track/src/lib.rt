@@ -1,4 +1,6 @@
 // One aircraft's track by value, and its step by one message.
+#![tactic(auto)]
+
 mod held;
 mod meaning;
 mod replaced;
@@ -21,7 +23,7 @@ use whereabouts::{Placed, Position, Saved, Site};
 
 // What was last heard of each group: of four the ME that gave it, 0 where none did; of two the code of 12 bits, 0 where it is unknown. Of the latest position message its TYPE, 0 where none was heard,
 // and bit 8 of ME, which one on the surface does not have; a coarse one has neither, and leaves both. Whether the velocity is a coarse message, which its bits do not tell.
-#[derive(Drop)]
+#[derive(Clone, Copy)]
 pub struct Groups {
     pub identification: u64,
     pub velocity: u64,
@@ -34,7 +36,7 @@ pub struct Groups {
     pub coarse: bool,
 }
 
-#[derive(Drop)]
+#[derive(Clone, Copy)]
 pub struct Track {
     pub heard: u64,
     pub groups: Groups,
@@ -44,7 +46,7 @@ pub struct Track {
 }
 
 // What a message from the air says: its F and counts, and the groups after it.
-#[derive(Drop)]
+#[derive(Clone, Copy)]
 struct Aloft {
     groups: Groups,
     coarse: bool,
@@ -53,7 +55,7 @@ struct Aloft {
 }
 
 // The decoder's answer passed on, and the track after it: a refusal leaves the track.
-#[derive(Drop)]
+#[derive(Clone, Copy)]
 pub struct Stepped {
     pub answer: Decoded,
     pub track: Track,

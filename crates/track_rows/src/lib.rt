@@ -1,4 +1,6 @@
 // A track as numbers in a row, each at its own place, for another language; one that was asked for handed out so.
+#![tactic(auto)]
+
 mod held;
 mod shown;
 mod standard;

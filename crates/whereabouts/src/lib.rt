@@ -1,4 +1,6 @@
 // Where a message puts its aircraft: by its partner, or by one reference, or nowhere new. What is read and is out of its range earns 8, which is passed on.
+#![tactic(auto)]
+
 ghost use Rattle.std.specs.Prelude.{◌≡◌};
 ghost use Rattle.positions.specs.Positions.{pole_to_pole};
 ghost use Rattle.whereabouts.specs.Located.{no_position, no_site, is_within, is_fresh, found_at, passed_on, settled, read_near, read_singly, after_pair, paired_with, same_size, is_partner, airborne_position, surface_position};
@@ -8,7 +10,7 @@ use positions::{Counts, Format, Found, Size, Spot, Turn};
 use refusals::Refusal;
 
 // An encoded position, airborne, with its time; whether its counts are coarse.
-#[derive(Drop)]
+#[derive(Clone, Copy)]
 pub struct Saved {
     pub known: bool,
     pub coarse: bool,
@@ -16,7 +18,7 @@ pub struct Saved {
     pub time: u64,
 }
 
-#[derive(Drop)]
+#[derive(Clone, Copy)]
 pub struct Position {
     pub known: bool,
     pub spot: Spot,
@@ -24,14 +26,14 @@ pub struct Position {
 }
 
 // Where the receiver stands, if that is known.
-#[derive(Drop)]
+#[derive(Clone, Copy)]
 pub struct Site {
     pub known: bool,
     pub spot: Spot,
 }
 
 // The position after a message, or 8.
-#[derive(Drop)]
+#[derive(Clone, Copy)]
 pub enum Placed {
     At(Position),
     Refused(Refusal),

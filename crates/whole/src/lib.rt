@@ -1,4 +1,6 @@
 // The whole listing of a lent table in one call. The keys held are gathered once, with their places, and sorted in place, so that each line is written from its place without a search.
+#![tactic(auto)]
+
 mod lines;
 mod sorted;
 
@@ -8,7 +10,7 @@ ghost use Rattle.whole.specs.Whole.{room_for, left, listed};
 
 use refusals::Refusal;
 
-#[derive(Drop)]
+#[derive(Clone, Copy)]
 pub enum Listed {
     // how many the text has
     Bytes(usize),

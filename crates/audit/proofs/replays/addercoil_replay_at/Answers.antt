@@ -1,0 +1,13 @@
+-- `audit::replays::addercoil_replay_at` meets its contract: an array of a wrong length, or what is worked out with the site.
+use mir.Facts.{to_z-of_z}
+use Rattle.entries.proofs.Ways.{into_wrong, into_given}
+use borrow.Author.Rules.{rules}
+use Rattle.audit.proofs.replays.addercoil_replay_at.Goals as goal
+
+pub returns-then-out-ne-TRACK : goal.returns-then-out-ne-TRACK
+returns-then-out-ne-TRACK c = into_wrong 72 _ _ c.if-out-ne-TRACK.true
+
+pub returns : goal.returns
+returns c =
+    let a = c.args in
+    into_given 72 a.out.now _ c.if-out-ne-TRACK.false (rw (to_z-of_z c.ranges.latitude) at c.give_replay.ensures)

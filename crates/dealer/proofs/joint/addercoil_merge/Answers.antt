@@ -1,0 +1,16 @@
+-- `dealer::joint::addercoil_merge` meets its contract: an array of a wrong length, or what the crate below answers.
+use mathlib.Core.Path.{refl}
+use Rattle.dealer.proofs.Joining.{not_one, text_joint, number_joint}
+use borrow.Author.Rules.{rules}
+use Rattle.dealer.proofs.joint.addercoil_merge.Goals as goal
+
+pub returns-then-written-ne1 : goal.returns-then-written-ne1
+returns-then-written-ne1 c = not_one _ _ _ _ c.if-written-ne1.true
+
+pub returns-in-Bytes : goal.returns-in-Bytes
+returns-in-Bytes c =
+    text_joint _ _ _ _ c.if-written-ne1.false c.merge-merged.ensures c.in-Bytes.is refl
+
+pub returns-in-Refused : goal.returns-in-Refused
+returns-in-Refused c =
+    number_joint _ _ _ _ c.if-written-ne1.false c.merge-merged.ensures c.in-Refused.is c.number.ensures

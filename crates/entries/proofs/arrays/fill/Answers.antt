@@ -1,0 +1,21 @@
+-- `entries::arrays::fill` meets its contract: what the loop has passed is filled.
+use Prim.Native.Nat.{◌-◌, ◌≤◌}
+use native.Mathlib.Omega.{arith}
+use mathlib.Core.Path.{◌≡◌, refl}
+use lib.ListN.{length, take, length-set}
+use Rattle.entries.specs.Arrays.{filled}
+use Rattle.entries.proofs.Filling.{fill_more, fill_whole}
+use borrow.Author.Rules.{rules}
+use Rattle.entries.proofs.arrays.fill.Goals as goal
+
+pub loop-i-init : goal.loop-i-init
+loop-i-init c = (search rules, refl, refl)
+
+pub loop-i-smaller : goal.loop-i-smaller
+loop-i-smaller c = simp length-set (omega arith)
+
+pub loop-i-preserved : goal.loop-i-preserved
+loop-i-preserved c = (simp length-set (omega arith), simp length-set (search rules), fill_more _ _ _ _ c.loop-i-test.true c.entry.ensures c.loop-i.invariant.2)
+
+pub returns : goal.returns
+returns c = fill_whole c.loop-i.out _ c.loop-i.i (length c.args.out.now) (omega arith) (omega arith) c.loop-i.invariant.2

@@ -1,0 +1,15 @@
+-- `entries::arrays::fill_bytes` meets its contract: what the loop has passed is filled.
+use Prim.Native.Nat.{◌-◌, ◌≤◌}
+use native.Mathlib.Omega.{arith}
+use mathlib.Core.Path.{◌≡◌, refl}
+use lib.ListN.{length, take, length-set}
+use Rattle.entries.specs.Arrays.{filled}
+use Rattle.entries.proofs.Filling.{fill_more, fill_whole}
+use borrow.Author.Rules.{rules}
+use Rattle.entries.proofs.arrays.fill_bytes.Given as goal
+
+abbrev pub invariant-loop-i : goal.invariant-loop-i
+invariant-loop-i l = (l.i ≤ length l.out) × (length l.out ≡ length l.initial.out) × (take l.i l.out ≡ filled l.i l.values)
+
+abbrev pub decreases-loop-i : goal.decreases-loop-i
+decreases-loop-i l = length l.out - l.i

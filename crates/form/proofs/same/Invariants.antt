@@ -1,0 +1,15 @@
+-- `form::same` meets its contract: the bytes passed are equal, so all are if the rest is.
+use Prim.Native.Nat.{◌-◌, ◌≤◌}
+use mathlib.Core.Path.{◌≡◌, refl, sym, ◌∙◌}
+use native.Mathlib.Omega.{arith}
+use lib.ListN.{length, drop}
+use Rattle.form.specs.Form.{same}
+use Rattle.form.proofs.Loops.{same_length, same_stops, same_on, same_ends}
+use borrow.Author.Rules.{rules}
+use Rattle.form.proofs.same.Given as goal
+
+abbrev pub invariant-loop-i : goal.invariant-loop-i
+invariant-loop-i l = (l.i ≤ length l.a) × (length l.a ≡ length l.b) × (same l.a l.b ≡ same (drop l.i l.a) (drop l.i l.b))
+
+abbrev pub decreases-loop-i : goal.decreases-loop-i
+decreases-loop-i l = length l.a - l.i

@@ -1,0 +1,42 @@
+-- `listing::read_all` meets its contract: before each turn whole blocks of one capture have been fed, and fewer bad ones counted than there were turns.
+use Prim.Native.Nat.{◌+◌, ◌-◌, ◌^◌, ◌≤◌}
+use mathlib.Core.Path.{◌≡◌, refl, sym, ap, ◌∙◌}
+use native.Mathlib.Omega.{arith}
+use lib.ListN.{length, take, length-take}
+use Rattle.table.specs.Table.{after}
+use Rattle.feed.specs.declared.Fed.{Fed}
+use Rattle.listing.specs.Code.{WholeFed}
+use Rattle.listing.proofs.Reading.{set_up_empties, none_read, from_empty, so_far, refused_read, last_read, one_more, whole_read}
+use borrow.Author.Rules.{rules}
+use Rattle.listing.proofs.read_all.Goals as goal
+
+pub loop-turns-init : goal.loop-turns-init
+loop-turns-init c = (refl, search rules, search rules, none_read _ (search rules))
+
+pub returns-then-n-eq0 : goal.returns-then-n-eq0
+returns-then-n-eq0 c =
+    from_empty (set_up_empties _ c.requires.0 c.set_up.ensures) (so_far c.loop-turns.invariant.3)
+
+pub returns-in_default : goal.returns-in_default
+returns-in_default c =
+    from_empty (set_up_empties _ c.requires.0 c.set_up.ensures) (refused_read _ c.loop-turns.invariant.3 _ (ap (λ (x : Fed). after x c.feed_block.new.table) (sym c.in_default.is) ∙ c.feed_block.ensures))
+
+pub returns-then-n-lt512 : goal.returns-then-n-lt512
+returns-then-n-lt512 c =
+    let b = take c.read_full-n.result c.read_full-n.new.buf in
+    let z = length-take c.read_full-n.result c.read_full-n.new.buf in
+    from_empty (set_up_empties _ c.requires.0 c.set_up.ensures)
+    (last_read b c.loop-turns.invariant.3 (omega arith) (ap (λ (x : Fed). after x c.feed_block.new.table) (sym c.in-Bad.is) ∙ c.feed_block.ensures) (omega arith) (omega arith))
+
+pub loop-turns-preserved : goal.loop-turns-preserved
+loop-turns-preserved c =
+    let b = take c.read_full-n.result c.read_full-n.new.buf in
+    let z = length-take c.read_full-n.result c.read_full-n.new.buf in
+    let q = ap (λ (x : Fed). after x c.feed_block.new.table) (sym c.in-Bad.is) ∙ c.feed_block.ensures in
+    let w = whole_read b c.loop-turns.invariant.3 (omega arith) q (omega arith) in
+    let g = one_more b c.loop-turns.invariant.3 (omega arith) q (omega arith) (omega arith) in
+    (search rules, search rules, omega arith, w)
+
+pub returns : goal.returns
+returns c =
+    from_empty (set_up_empties _ c.requires.0 c.set_up.ensures) (so_far c.loop-turns.invariant.3)

@@ -1,0 +1,17 @@
+-- `merge::head::head_of` meets its contract: its fields, the number of its lines, and the comparison with the header of these.
+use native.Mathlib.Omega.{arith}
+use Rattle.agree.proofs.Shown.{line_holds}
+use Rattle.merge.proofs.Heads.{end_high, headed}
+use borrow.Author.Rules.{rules}
+use Rattle.merge.proofs.head.head_of.Goals as goal
+
+pub count-tracks-requires : goal.count-tracks-requires
+count-tracks-requires c = end_high _ c.line_end-end.ensures.1
+
+pub slice_bounds-same-end-2 : goal.slice_bounds-same-end-2
+slice_bounds-same-end-2 c = line_holds _ c.header_line-line.ensures
+
+pub returns : goal.returns
+returns c =
+    let n = c.count-tracks.ensures in
+    headed c.args.s.now c.line_end-end.ensures.1 n.0 (omega (arith, n.1)) c.field_in-clock.ensures c.field_in-middle.ensures c.field_in-bad.ensures c.header_line-line.ensures c.in_form.ensures c.same.ensures

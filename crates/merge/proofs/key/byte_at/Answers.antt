@@ -1,0 +1,8 @@
+-- `merge::key::byte_at` meets its contract: past the end the default is 0.
+use mathlib.Core.Path.{sym}
+use lib.ListN.{get_or-eq_default}
+use borrow.Author.Rules.{rules}
+use Rattle.merge.proofs.key.byte_at.Goals as goal
+
+pub returns-else-i-line : goal.returns-else-i-line
+returns-else-i-line c = sym (get_or-eq_default c.args.line.now 0 c.if-i-line.false)

@@ -1,0 +1,18 @@
+-- `merge::lines::put_part` meets its contract: so many bytes as the loop has passed are copied.
+use borrow.Author.Rules.{rules}
+use Prim.Native.Nat.{ℕ, ◌+◌, ◌-◌, ◌≤◌}
+use mathlib.Core.Path.{◌≡◌, refl, sym, ap, ◌∙◌}
+use native.Mathlib.Omega.{arith}
+use lib.ListN.{length, get_or, length-set}
+use Rattle.text.specs.Code.{Wrote}
+use Rattle.text.proofs.Buffer.{wrote_none, wrote_byte, wrote_then, wrote_as}
+use Rattle.form.specs.Scan.{part}
+use Rattle.merge.proofs.Walking.{part_none, part_more}
+use Rattle.merge.proofs.lines.put_part.Given as goal
+
+abbrev pub invariant-loop-i : goal.invariant-loop-i
+invariant-loop-i l =
+    (l.from ≤ l.i) × (l.i ≤ l.to) × (l.k ≡ l.at + (l.i - l.from)) × (length l.out ≡ length l.initial.out) × Wrote l.initial.out l.at (part l.from l.i l.s) l.k l.out
+
+abbrev pub decreases-loop-i : goal.decreases-loop-i
+decreases-loop-i l = l.to - l.i

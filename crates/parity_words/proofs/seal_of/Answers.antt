@@ -1,0 +1,20 @@
+-- `parity_words::seal_of` meets its contract: the seal is what three zero bytes leave of the remainder.
+use Prim.Native.Nat.{ℕ, ◌/◌, ◌%◌, ◌^◌}
+use mathlib.Core.Path.{◌≡◌, ap, ◌∙◌}
+use mathlib.Core.List.{[], ◌∷◌, ◌++◌}
+use native.Mathlib.Omega.{arith}
+use Rattle.fields.specs.Bytes.{bytes_of}
+use Rattle.parity.specs.Parity.{remainder}
+use Rattle.parity_words.proofs.Words.{seal_left}
+use borrow.Author.Rules.{rules}
+use Rattle.parity_words.proofs.seal_of.Goals as goal
+
+pub returns : goal.returns
+returns c =
+    let s = c.args.s.now in
+    let r = c.remainder_of-r.result in
+    let e : r % 256 ≡ r / 1 % 2 ^ 8 = omega arith in
+    c.remainder_of.ensures
+    ∙ ap (λ (b : ℕ). remainder (r / 2 ^ 16 % 2 ^ 8 ∷ r / 2 ^ 8 % 2 ^ 8 ∷ b ∷ 0 ∷ 0 ∷ 0 ∷ [])) e
+    ∙ ap (λ (q : ℕ). remainder (bytes_of 3 q ++ 0 ∷ 0 ∷ 0 ∷ [])) c.remainder_of-r.ensures
+    ∙ seal_left s

@@ -1,0 +1,18 @@
+-- `rows::widths::packed` meets its contract: what is left to pack behind the fields that the loop has passed is the same all the way.
+use Prim.Native.Nat.{ℕ, ◌+◌, ◌-◌, ◌^◌, ◌≤◌, ◌<◌}
+use mathlib.Core.Path.{◌≡◌, sym, ap, subst⁻¹, ◌∙◌}
+use native.Mathlib.Omega.{arith}
+use lib.ListN.{length, drop}
+use lib.Pow.{pow_pos}
+use Rattle.fields.specs.Packing.{total}
+use Rattle.rows.specs.From.{packed_by}
+use Rattle.rows.proofs.Cutting.{left, left_first, small, total_next, refuses, me_next, me_fits, left_more, left_none}
+use borrow.Author.Rules.{rules}
+use Rattle.rows.proofs.widths.packed.Given as goal
+
+abbrev pub invariant-loop-i : goal.invariant-loop-i
+invariant-loop-i l =
+    (l.i ≤ length l.widths) × (total (drop l.i l.widths) ≤ 56) × (l.me < 2 ^ (56 - total (drop l.i l.widths))) × (packed_by l.widths l.fields ≡ left l.fields l.me (5 + l.i) (drop l.i l.widths))
+
+abbrev pub decreases-loop-i : goal.decreases-loop-i
+decreases-loop-i l = length l.widths - l.i

@@ -1,0 +1,6 @@
+-- `slice_places::misfits` meets its contract: by `places_fit`.
+use borrow.Author.Rules.{rules}
+use Rattle.slice_places.proofs.misfits.Goals as goal
+
+pub returns : goal.returns
+returns c = rw c.places_fit.ensures

@@ -1,0 +1,8 @@
+-- `table::start_of` meets its contract: the arm is the definition's.
+use mathlib.Core.Path.{ap, ◌∙◌}
+use Rattle.place.specs.Place.{track_of}
+use borrow.Author.Rules.{rules}
+use Rattle.table.proofs.start_of.Goals as goal
+
+pub returns-then-target : goal.returns-then-target
+returns-then-target c = rw c.if-target.true (c.load.ensures ∙ ap track_of c.body.ensures.0)

@@ -1,0 +1,15 @@
+-- `table_bytes::layout::clear` meets its contract: what the loop has passed is 0.
+use Prim.Native.Nat.{◌-◌, ◌≤◌}
+use native.Mathlib.Omega.{arith}
+use mathlib.Core.Path.{◌≡◌, refl}
+use lib.ListN.{length, take, replicate, length-set}
+use Rattle.table_bytes.specs.Layout.{emptied}
+use Rattle.table_bytes.proofs.Parts.{clear_more, cleared}
+use borrow.Author.Rules.{rules}
+use Rattle.table_bytes.proofs.layout.clear.Given as goal
+
+abbrev pub invariant-loop-i : goal.invariant-loop-i
+invariant-loop-i l = (l.i ≤ length l.s) × ((length l.s ≡ length l.initial.s) × (take l.i l.s ≡ replicate l.i 0))
+
+abbrev pub decreases-loop-i : goal.decreases-loop-i
+decreases-loop-i l = length l.s - l.i

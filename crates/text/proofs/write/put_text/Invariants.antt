@@ -1,0 +1,18 @@
+-- `text::write::put_text` meets its contract: after i bytes the first i of the text are written.
+use Prim.Native.Nat.{◌+◌, ◌-◌, ◌≤◌}
+use mathlib.Core.Path.{◌≡◌, refl, sym}
+use mathlib.Core.List.{[], ◌∷◌, ◌++◌}
+use native.Mathlib.Omega.{arith}
+use native.Mathlib.Numerals.{add-one}
+use borrow.Author.Rules.{rules}
+use lib.ListN.{length, take, get_or}
+use lib.Seq.{take-suc, take_all}
+use Rattle.text.specs.Code.{Wrote}
+use Rattle.text.proofs.Buffer.{wrote_none, wrote_then, wrote_as}
+use Rattle.text.proofs.write.put_text.Given as goal
+
+abbrev pub invariant-loop-i : goal.invariant-loop-i
+invariant-loop-i l = (l.i ≤ length l.text) × (length l.out ≡ length l.initial.out) × (l.a ≡ l.at + l.i) × Wrote l.initial.out l.at (take l.i l.text) l.a l.out
+
+abbrev pub decreases-loop-i : goal.decreases-loop-i
+decreases-loop-i l = length l.text - l.i

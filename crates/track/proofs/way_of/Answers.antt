@@ -1,0 +1,6 @@
+-- `track::way_of` meets its contract: its test is the definition's.
+use borrow.Author.Rules.{rules}
+use Rattle.track.proofs.way_of.Goals as goal
+
+pub returns : goal.returns
+returns c = rw c.if-coarse.false c.layout_of.ensures
