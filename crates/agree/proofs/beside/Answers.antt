@@ -11,4 +11,4 @@ pub returns-in-Known : goal.returns-in-Known
 returns-in-Known c =
     let way = c.args.way in
     let e = to_z-of_z {w = w64} {z = c.in-Known.z} (record { sfits = c.in-Known.given.0.1 }) in
-    ap Known (to_z-of_z {w = w64} (record { sfits = c.stepped.type-inv }) ∙ c.stepped.ensures ∙ ap (stepped way) e) ∙ sym (ap (moved way) c.in-Known.is)
+    ap Known (to_z-of_z {w = w64} (record { sfits = c.stepped.type_inv }) ∙ c.stepped.ensures ∙ ap (stepped way) e) ∙ sym (ap (moved way) c.in-Known.is)

@@ -12,7 +12,7 @@ use Rattle.agree.proofs.west.Goals as goal
 pub returns-then-z-gt0 : goal.returns-then-z-gt0
 returns-then-z-gt0 c =
     let e : lt_z (pos 0) c.args.z ≡ true = rw (to_z-of_z c.ranges.z) at c.if-z-gt0.true in
-    to_z-of_z {w = w64} (record { sfits = c.down.type-inv }) ∙ c.down.ensures ∙ ap down (to_z-of_z c.ranges.z) ∙ rw e
+    to_z-of_z {w = w64} (record { sfits = c.down.type_inv }) ∙ c.down.ensures ∙ ap down (to_z-of_z c.ranges.z) ∙ rw e
 
 pub returns-else-z-gt0 : goal.returns-else-z-gt0
 returns-else-z-gt0 c =

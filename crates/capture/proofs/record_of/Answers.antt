@@ -43,6 +43,6 @@ pub returns : goal.returns
 returns c =
     let a = c.args in
     let e : length a.b.now ≡ 512 = c.if-b-ne512.false in
-    let y : Bytes a.b.now = λ i. omega (arith, c.type_inv.b i) in
+    let y : Bytes a.b.now = λ i. omega (arith, c.shared_slice_known-1.given i) in
     ap (λ (t : ℕ). At t (start_of a.i + 8)) (c.number_of.ensures ∙ time_whole a.b.now a.i y (omega (arith, e, c.if-i-ge23.false)))
     ∙ sym (there a.b.now a.i e (omega (arith, c.size.ensures.0, c.if-size-i.false)) (omega (arith, c.if-i-ge23.false)))

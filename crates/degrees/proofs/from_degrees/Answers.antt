@@ -49,4 +49,4 @@ returns c =
     (back_is d (At (record { latitude = c.in-Units.latitude; longitude = c.taken_out-longitude.result }))
     (found_is d c.in-Units.latitude c.in-Units-b.n c.taken_out-longitude.result (latitude_is a).1 (longitude_is b).1
     (pole-is p true (not-false c.pole_to_pole.result c.if-not-pole_to_pole.false))
-    (c.taken_out-longitude.ensures ∙ to_z-of_z (record { sfits = (longitude_is b).0 })) c.taken_out-longitude.type-inv))
+    (c.taken_out-longitude.ensures ∙ to_z-of_z (record { sfits = (longitude_is b).0 })) c.taken_out-longitude.type_inv))

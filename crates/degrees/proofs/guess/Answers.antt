@@ -15,7 +15,7 @@ pub returns-then-k-le2147483648 : goal.returns-then-k-le2147483648
 unfolding of_bits
 returns-then-k-le2147483648 c n h e =
     let s = south c.args.x c.count-k.result c.if-y.true c.count-k.ensures n h e in
-    to_z-of_z (record { sfits = c.minus.type-inv }) ∙ c.minus.ensures ∙ sym s.0
+    to_z-of_z (record { sfits = c.minus.type_inv }) ∙ c.minus.ensures ∙ sym s.0
 
 pub returns-then-y : goal.returns-then-y
 unfolding of_bits

@@ -21,7 +21,7 @@ returns-then-pole_to_pole c =
     given_is c.args.spot c.figure-latitude.result c.figure-longitude.result
     (pole-is p true c.if-pole_to_pole.true)
     (c.figure-latitude.ensures ∙ ap degrees_of (to_z-of_z (ranged told)))
-    (c.figure-longitude.ensures ∙ ap degrees_of (to_z-of_z (record { sfits = c.taken_in.type-inv }) ∙ c.taken_in.ensures))
+    (c.figure-longitude.ensures ∙ ap degrees_of (to_z-of_z (record { sfits = c.taken_in.type_inv }) ∙ c.taken_in.ensures))
 
 pub returns-else-pole_to_pole : goal.returns-else-pole_to_pole
 returns-else-pole_to_pole c = refused_is c.args.spot (pole-is c.before false c.if-pole_to_pole.false)

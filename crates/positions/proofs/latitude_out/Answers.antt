@@ -17,5 +17,5 @@ lower-requires c =
 pub returns : goal.returns
 returns c =
     let a = c.args in
-    to_z-of_z {w = w32} (record { sfits = c.lower.type-inv }) ∙ c.lower.ensures ∙ ap (λ (x : ℕ). sub_ℕ x 4294967296) c.nearest.ensures
+    to_z-of_z {w = w32} (record { sfits = c.lower.type_inv }) ∙ c.lower.ensures ∙ ap (λ (x : ℕ). sub_ℕ x 4294967296) c.nearest.ensures
     ∙ sym (rounded_is a.up (a.n * 131072) (omega arith))

@@ -17,5 +17,5 @@ returns c =
     let a = c.args in
     pair_spot_lem a.format a.up a.nl a.even.0 a.odd.0 c.latitude_zones.result c.longitude_zones-n.result c.pair_longitude_zone-zone.result.0 c.own_longitude.result.0
     c.latitude_zones.ensures.0 c.longitude_zones-n.ensures.0 c.pair_longitude_zone-zone.ensures.0 c.own_longitude.ensures
-    (to_z-of_z {w = w32} (record { sfits = c.latitude_out-latitude.type-inv }) ∙ c.latitude_out-latitude.ensures)
+    (to_z-of_z {w = w32} (record { sfits = c.latitude_out-latitude.type_inv }) ∙ c.latitude_out-latitude.ensures)
     c.longitude_out-longitude.ensures

@@ -13,5 +13,5 @@ wide z h = sfits_widen tt h
 pub returns : goal.returns
 returns c =
     let z = c.args.spot.latitude in
-    let h : SFits w32 z = record { sfits = omega (arith, c.type_inv.spot) } in
+    let h : SFits w32 z = record { sfits = omega (arith, c.struct_told-1.given) } in
     rw (c.size_of.ensures, c.widen.ensures, to_z-of_z h, to_z-of_z (wide z h))

@@ -7,4 +7,4 @@ use borrow.Author.Rules.{rules}
 use Rattle.addercoil.proofs.spots.give_at.Goals as goal
 
 pub returns : goal.returns
-returns c = c.give.ensures ∙ rw (c.twos_of-latitude.ensures, to_z-of_z {w = w32} {z = c.args.spot.latitude} (record { sfits = omega (arith, c.type_inv.spot) }))
+returns c = c.give.ensures ∙ rw (c.twos_of-latitude.ensures, to_z-of_z {w = w32} {z = c.args.spot.latitude} (record { sfits = omega (arith, c.struct_told-1.given) }))

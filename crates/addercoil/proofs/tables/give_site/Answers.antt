@@ -7,4 +7,4 @@ use borrow.Author.Rules.{rules}
 use Rattle.addercoil.proofs.tables.give_site.Goals as goal
 
 pub returns : goal.returns
-returns c = c.give.ensures ∙ rw (c.bit-known.ensures, c.twos_of-latitude.ensures, to_z-of_z {w = w32} {z = c.args.site.spot.latitude} (record { sfits = omega (arith, c.type_inv.site) }))
+returns c = c.give.ensures ∙ rw (c.bit-known.ensures, c.twos_of-latitude.ensures, to_z-of_z {w = w32} {z = c.args.site.spot.latitude} (record { sfits = omega (arith, c.struct_told-1.given) }))

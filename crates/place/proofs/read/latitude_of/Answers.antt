@@ -7,4 +7,4 @@ use Rattle.place.proofs.read.latitude_of.Goals as goal
 
 pub returns : goal.returns
 unfolding lowered
-returns c = rw (to_z-of_z {w = w32} (record { sfits = c.lower.type-inv }), c.lower.ensures, c.capped.ensures.0)
+returns c = rw (to_z-of_z {w = w32} (record { sfits = c.lower.type_inv }), c.lower.ensures, c.capped.ensures.0)

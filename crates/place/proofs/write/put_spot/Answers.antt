@@ -14,6 +14,6 @@ pub returns : goal.returns
 unfolding spot_bytes
 returns c =
     let a = c.args in
-    let up = c.above_pole.ensures ∙ ap above_pole (to_z-of_z {w = w32} {z = a.p.spot.latitude} (record { sfits = omega (arith, c.type_inv.p) })) in
+    let up = c.above_pole.ensures ∙ ap above_pole (to_z-of_z {w = w32} {z = a.p.spot.latitude} (record { sfits = omega (arith, c.struct_told-1.given) })) in
     put_then _ _ 4 _ _ (low_length 4 _) (put_same _ _ (low_cut c.above_pole.result ∙ ap (low_bytes 4) up) c.put4.ensures)
     (put_after _ _ 4 4 _ _ (low_length 4 _) c.put4-2.ensures c.put8.ensures)

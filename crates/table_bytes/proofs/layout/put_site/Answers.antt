@@ -21,5 +21,5 @@ overflow_add-above_pole c =
 pub returns : goal.returns
 returns c =
     let a = c.args in
-    let up = c.above_pole.ensures ∙ ap above_pole (to_z-of_z {w = w32} {z = a.site.latitude} (record { sfits = omega (arith, c.type_inv.site) })) in
+    let up = c.above_pole.ensures ∙ ap above_pole (to_z-of_z {w = w32} {z = a.site.latitude} (record { sfits = omega (arith, c.struct_told-1.given) })) in
     put_then _ _ 4 _ _ (low_length 4 _) (put_same _ _ (ap (λ (n : ℕ). low_bytes 4 (n % 4294967296 + 1)) up) c.put4.ensures) c.put4-2.ensures

@@ -14,7 +14,7 @@ overflow_sub-n c = omega (arith, leb-true 1 c.args.n (and_left (leb 1 c.args.n) 
 
 pub returns-then-n : goal.returns-then-n
 unfolding site_from
-returns-then-n c = rw (c.if-n.true, to_z-of_z {w = w32} (record { sfits = c.latitude_of.type-inv }), c.latitude_of.ensures)
+returns-then-n c = rw (c.if-n.true, to_z-of_z {w = w32} (record { sfits = c.latitude_of.type_inv }), c.latitude_of.ensures)
 
 pub returns-else-n : goal.returns-else-n
 unfolding site_from

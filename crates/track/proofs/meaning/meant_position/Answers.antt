@@ -20,5 +20,5 @@ pub returns : goal.returns
 unfolding meant_position
 returns c =
     let p = c.args.p in
-    let whole = to_z-of_z {w = w32} {z = p.spot.latitude} (record { sfits = omega (arith, c.type_inv.p) }) in
-    rw (to_z-of_z {w = w32} (record { sfits = c.or_zero_i32.type-inv }), c.or_zero.ensures, c.or_zero_u32.ensures, c.or_zero_i32.ensures, whole) (by_values p p.known refl)
+    let whole = to_z-of_z {w = w32} {z = p.spot.latitude} (record { sfits = omega (arith, c.struct_told-1.given) }) in
+    rw (to_z-of_z {w = w32} (record { sfits = c.or_zero_i32.type_inv }), c.or_zero.ensures, c.or_zero_u32.ensures, c.or_zero_i32.ensures, whole) (by_values p p.known refl)

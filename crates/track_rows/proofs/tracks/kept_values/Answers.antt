@@ -17,7 +17,7 @@ returns c =
     keeps a.t _ _ _ _ _ _ _ _ _
     c.bit.ensures
     c.bit-2.ensures
-    (c.twos_of.ensures ∙ ap twos (to_z-of_z {w = w32} {z = a.t.position.spot.latitude} (record { sfits = omega (arith, c.type_inv.p) })))
+    (c.twos_of.ensures ∙ ap twos (to_z-of_z {w = w32} {z = a.t.position.spot.latitude} (record { sfits = omega (arith, c.struct_told-1.given) })))
     c.bit-3.ensures
     c.bit-4.ensures
     (c.altitude_reading-altitude.ensures ∙ ap altitude_reading pressure)

@@ -13,7 +13,7 @@ returns c =
     let a = c.args in
     rw (
       c.row_from.ensures,
-      to_z-of_z {w = w32} (record { sfits = c.latitude_of.type-inv }),
+      to_z-of_z {w = w32} (record { sfits = c.latitude_of.type_inv }),
       c.get8.ensures,
       c.get4-2.ensures,
       c.latitude_of.ensures,
