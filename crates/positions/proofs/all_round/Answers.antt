@@ -1,7 +1,6 @@
 -- `positions::all_round` meets its contract, by the turn: 360 degrees are one airborne turn and four surface turns.
 use native.Mathlib.Omega.{arith}
 use Rattle.positions.specs.Positions.{all_round}
-use borrow.Author.Rules.{rules}
 use Rattle.positions.proofs.all_round.Goals as goal
 
 pub returns-in-Airborne : goal.returns-in-Airborne

@@ -3,7 +3,6 @@ use mathlib.Core.Path.{sym, ap}
 use Prim.Native.Nat.{◌%◌}
 use Rattle.positions.specs.declared.Size.{Size}
 use Rattle.positions.specs.Positions.{count_size}
-use borrow.Author.Rules.{rules}
 use Rattle.positions.proofs.count_of.Goals as goal
 
 pub returns-in-Fine : goal.returns-in-Fine

@@ -1,25 +1,17 @@
 -- `positions::encode_raised` meets its contract: each part is the one that the definition names; NL is asked of the latitude in counts of 2^17.
-use Prim.Native.Nat.{ℕ, ◌*◌, ◌%◌, ◌≤◌}
+use Prim.Native.Nat.{ℕ, ◌*◌, ◌%◌}
 use mathlib.Core.Path.{◌≡◌, sym, ap, ap₂, ◌∙◌}
 use native.Mathlib.Omega.{arith}
-use native.Mathlib.Nat.{mul-le-mul}
 use lib.IntN.{sub_ℕ}
 use Rattle.positions.specs.declared.Counts.{Counts}
 use Rattle.positions.specs.Positions.{count_size, counts_of}
 use Rattle.positions.proofs.Answers.{counts, spot}
 use Rattle.positions.proofs.Latitudes.{zoned}
 use Rattle.positions.proofs.Scaled.{polar_fine, zones_fine}
-use borrow.Author.Rules.{rules}
 use Rattle.positions.proofs.encode_raised.Goals as goal
-
-product : (c : tie.After-latitude-whole) → c.latitude-whole.result * c.before.before.before.factor-of.result ≤ 39321600 * 32
-product c = mul-le-mul {n₂ = 39321600} {m₂ = 32} c.latitude-whole.ensures.1.1 c.before.before.before.factor-of.ensures.1
 
 abbrev both : ℕ → ℕ → Counts
 both y x = record { latitude = record { 0 = y }; longitude = record { 0 = x } }
-
-pub overflow_mul-y : goal.overflow_mul-y
-overflow_mul-y c = omega (arith, product c.before)
 
 pub zone_count_at-requires : goal.zone_count_at-requires
 zone_count_at-requires c =

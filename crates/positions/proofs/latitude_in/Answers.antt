@@ -2,7 +2,6 @@
 use Prim.Native.Nat.{◌+◌, ◌*◌}
 use native.Mathlib.Omega.{arith}
 use Rattle.positions.proofs.Naturals.{less_high, less_low}
-use borrow.Author.Rules.{rules}
 use Rattle.positions.proofs.latitude_in.Goals as goal
 
 pub returns-then-m-v : goal.returns-then-m-v

@@ -6,7 +6,6 @@ use lib.IntN.{sub_ℕ}
 use mir.Facts.{to_z-of_z}
 use mir.Syntax.{w32}
 use Rattle.positions.proofs.Naturals.{rounded_is, rounded_low, rounded_high}
-use borrow.Author.Rules.{rules}
 use Rattle.positions.proofs.latitude_out.Goals as goal
 
 pub lower-requires : goal.lower-requires

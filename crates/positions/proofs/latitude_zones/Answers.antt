@@ -1,7 +1,6 @@
 -- `positions::latitude_zones` meets its contract, by the format.
 use mathlib.Core.Path.{refl}
 use native.Mathlib.Omega.{arith}
-use borrow.Author.Rules.{rules}
 use Rattle.positions.proofs.latitude_zones.Goals as goal
 
 pub returns-in-Even : goal.returns-in-Even

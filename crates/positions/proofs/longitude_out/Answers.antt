@@ -4,7 +4,6 @@ use mathlib.Core.Path.{sym, ◌∙◌}
 use native.Mathlib.Omega.{arith}
 use Rattle.positions.proofs.Naturals.{rounded_turn_lem}
 use Rattle.positions.proofs.Short.{never_a_turn}
-use borrow.Author.Rules.{rules}
 use Rattle.positions.proofs.longitude_out.Goals as goal
 
 pub overflow_cast-result : goal.overflow_cast-result

@@ -1,6 +1,5 @@
 -- `positions::longitude_zones` meets its contract, by the format; at NL 1 the odd message has one zone too.
 use native.Mathlib.Omega.{arith}
-use borrow.Author.Rules.{rules}
 use Rattle.positions.proofs.longitude_zones.Goals as goal
 
 pub returns-in-Even : goal.returns-in-Even

@@ -5,37 +5,23 @@ use native.Mathlib.Omega.{arith}
 use native.Mathlib.Nat.{mul-le-mul}
 use Rattle.positions.specs.Code.{nearestℕ}
 use Rattle.positions.proofs.Naturals.{near_zone_latitude}
-use borrow.Author.Rules.{rules}
 use Rattle.positions.proofs.near_latitude_zone.Goals as goal
 
-most : (c : tie.Start) → c.args.up * (c.args.n * 131072) ≤ 5368709120 * 31457280
-most c = mul-le-mul {n₂ = 5368709120} {m₂ = 31457280} (omega arith) (omega arith)
-
-least : (c : tie.Start) → 3221225472 * 7733248 ≤ c.args.up * (c.args.n * 131072)
-least c = mul-le-mul {n₁ = 3221225472} {m₁ = 7733248} (omega arith) (omega arith)
-
-small : (c : tie.After-nearest) → c.nearest.result ≤ 400
-unfolding nearestℕ
-small c =
-    let a = c.before.before.args in
-    let e : c.nearest.result ≡ nearestℕ (a.up * (a.n * 131072) - a.count.0 * 4294967296) 562949953421312 = c.nearest.ensures in
-    omega (arith, most c.before.before)
-
-pub overflow_mul-x-2 : goal.overflow_mul-x-2
-overflow_mul-x-2 c = omega (arith, most c)
-
-pub overflow_sub-x : goal.overflow_sub-x
-overflow_sub-x c = omega (arith, least c.before)
-
-pub nearest-requires : goal.nearest-requires
-nearest-requires c = omega (arith, most c.before)
-
 pub overflow_cast-result : goal.overflow_cast-result
-overflow_cast-result c = omega (arith, small c)
+unfolding nearestℕ
+overflow_cast-result c =
+    let a = c.args in
+    let most : a.up * (a.n * 131072) ≤ 5368709120 * 31457280 = mul-le-mul {n₂ = 5368709120} {m₂ = 31457280} (omega arith) (omega arith) in
+    let e : c.nearest.result ≡ nearestℕ (a.up * (a.n * 131072) - a.count.0 * 4294967296) 562949953421312 = c.nearest.ensures in
+    omega arith
 
 pub returns : goal.returns
+unfolding nearestℕ
 returns c =
-    let a = c.args in (
-      rw c.nearest.ensures (near_zone_latitude 131072 a.n a.up a.count.0 (omega arith) (omega arith) (omega (arith, least c.before.before))),
-      small c,
+    let a = c.args in
+    let most : a.up * (a.n * 131072) ≤ 5368709120 * 31457280 = mul-le-mul {n₂ = 5368709120} {m₂ = 31457280} (omega arith) (omega arith) in
+    let least : 3221225472 * 7733248 ≤ a.up * (a.n * 131072) = mul-le-mul {n₁ = 3221225472} {m₁ = 7733248} (omega arith) (omega arith) in
+    let e : c.nearest.result ≡ nearestℕ (a.up * (a.n * 131072) - a.count.0 * 4294967296) 562949953421312 = c.nearest.ensures in (
+      rw c.nearest.ensures (near_zone_latitude 131072 a.n a.up a.count.0 (omega arith) (omega arith) (omega arith)),
+      omega arith,
     )

@@ -4,7 +4,6 @@ use native.Mathlib.Omega.{arith}
 use mir.Facts.{to_z-of_z}
 use mir.Syntax.{w32}
 use Rattle.positions.proofs.Answers.{near_spot_lem}
-use borrow.Author.Rules.{rules}
 use Rattle.positions.proofs.near_spot.Goals as goal
 
 pub returns : goal.returns

@@ -1,6 +1,5 @@
 -- `positions::nearest` meets its contract, which is its formula.
 use mathlib.Core.Path.{refl}
-use borrow.Author.Rules.{rules}
 use Rattle.positions.specs.Code.{nearestℕ}
 use Rattle.positions.proofs.nearest.Goals as goal
 

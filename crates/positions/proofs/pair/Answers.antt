@@ -2,7 +2,6 @@
 use mathlib.Core.Path.{sym, ap, ◌∙◌}
 use Rattle.positions.specs.declared.Size.{Size}
 use Rattle.positions.specs.Positions.{count_size, paired}
-use borrow.Author.Rules.{rules}
 use Rattle.positions.proofs.pair.Goals as goal
 
 pub returns-in-Fine : goal.returns-in-Fine

@@ -1,10 +1,8 @@
 -- `positions::pair_fitting` meets its contract: each return is an answer of the definition, by the tests that lead there.
 use mathlib.Core.Logic.{inl, inr}
 use mathlib.Core.Path.{refl}
-use native.Mathlib.Omega.{arith}
 use Rattle.positions.specs.declared.Format.TheVariants.{Even, Odd}
 use Rattle.positions.proofs.Answers.{pair_far, even_north, odd_north, pair_apart_lem, pair_found_lem}
-use borrow.Author.Rules.{rules}
 use Rattle.positions.proofs.pair_fitting.Goals as goal
 
 pub returns-then-r-s : goal.returns-then-r-s
@@ -30,18 +28,6 @@ returns-then-nl-zone_count_at c =
     pair_apart_lem a.even a.odd c.pair_latitude-r.result c.pair_latitude-s.result c.pair_latitude-r.ensures c.pair_latitude-s.ensures
     c.if-r-s.false c.zone_count_at-nl.result c.zone_count_at.result c.zone_count_at-nl.ensures.0 c.zone_count_at.ensures.0
     a.later c.if-nl-zone_count_at.true
-
-pub pair_spot-requires : goal.pair_spot-requires
-pair_spot-requires c =
-    let a = c.args in
-    let e = even_north a.even a.odd c.pair_latitude-r.result c.pair_latitude-s.result c.pair_latitude-r.ensures c.pair_latitude-s.ensures c.if-r-s.false in
-    (record { south = c.pair_latitude-r.ensures.south; north = e }, (c.zone_count_at-nl.ensures.1, (omega arith, omega arith)))
-
-pub pair_spot-requires-in-Odd : goal.pair_spot-requires-in-Odd
-pair_spot-requires-in-Odd c =
-    let a = c.args in
-    let e = odd_north a.even a.odd c.pair_latitude-r.result c.pair_latitude-s.result c.pair_latitude-r.ensures c.pair_latitude-s.ensures c.if-r-s.false in
-    (record { south = c.pair_latitude-s.ensures.south; north = e }, (c.zone_count_at-nl.ensures.1, (omega arith, omega arith)))
 
 pub returns-in-Even : goal.returns-in-Even
 returns-in-Even c =

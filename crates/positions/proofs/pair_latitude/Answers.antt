@@ -1,7 +1,6 @@
 -- `positions::pair_latitude` meets its contract: each part is the one that the definition names.
 use native.Mathlib.Omega.{arith}
 use Rattle.positions.proofs.Answers.{own_small, pair_latitude_lem}
-use borrow.Author.Rules.{rules}
 use Rattle.positions.proofs.pair_latitude.Goals as goal
 
 pub latitude_in-requires : goal.latitude_in-requires

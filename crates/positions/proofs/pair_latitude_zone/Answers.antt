@@ -1,7 +1,6 @@
 -- `positions::pair_latitude_zone` meets its contract: 60 z zones up the numerator is never below zero, and the remainder by z is the same.
 use mathlib.Core.Path.{sym, ◌∙◌}
 use native.Mathlib.Omega.{arith}
-use borrow.Author.Rules.{rules}
 use Rattle.positions.proofs.Naturals.{pair_zone_is}
 use Rattle.positions.proofs.pair_latitude_zone.Goals as goal
 

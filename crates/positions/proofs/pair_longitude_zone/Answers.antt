@@ -3,7 +3,6 @@ use Prim.Native.Nat.{ℕ, ◌-◌, ◌*◌, ◌≤◌, ◌<◌}
 use mathlib.Core.Path.{sym, ◌∙◌}
 use native.Mathlib.Nat.{mul-le-mul, mul-le-mul_left}
 use native.Mathlib.Omega.{arith}
-use borrow.Author.Rules.{rules}
 use Rattle.positions.proofs.Naturals.{pair_zone_is}
 use Rattle.positions.proofs.pair_longitude_zone.Goals as goal
 
@@ -22,33 +21,6 @@ bounds m n a b h =
       mb = mul-le-mul {n₂ = 131071} {m₂ = 59} (omega arith) (omega arith);
       over = mul-le-mul_left m (omega arith);
     }
-
-at : (c : tie.Start) → Bounds c.args.nl c.args.n c.args.even.0 c.args.odd.0
-at c = bounds c.args.nl c.args.n c.args.even.0 c.args.odd.0 c.requires
-
-pub overflow_mul-x : goal.overflow_mul-x
-overflow_mul-x c = omega (arith, at c.before)
-
-pub overflow_mul-x-2 : goal.overflow_mul-x-2
-overflow_mul-x-2 c = omega (arith, at c.before)
-
-pub overflow_mul-x-3 : goal.overflow_mul-x-3
-overflow_mul-x-3 c = omega (arith, at c.before)
-
-pub overflow_add-x : goal.overflow_add-x
-overflow_add-x c = omega (arith, at c.before)
-
-pub overflow_mul-x-4 : goal.overflow_mul-x-4
-overflow_mul-x-4 c = omega (arith, at c.before.before)
-
-pub overflow_sub-x-2 : goal.overflow_sub-x-2
-overflow_sub-x-2 c = omega (arith, at c.before.before)
-
-pub zone_by-requires : goal.zone_by-requires
-zone_by-requires c =
-    let a = c.args in
-    let b = at c.before.before in
-    (omega arith, (omega arith, omega arith))
 
 pub returns : goal.returns
 returns c =

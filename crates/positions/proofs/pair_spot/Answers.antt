@@ -4,7 +4,6 @@ use native.Mathlib.Omega.{arith}
 use mir.Facts.{to_z-of_z}
 use mir.Syntax.{w32}
 use Rattle.positions.proofs.Answers.{own_small, pair_spot_lem}
-use borrow.Author.Rules.{rules}
 use Rattle.positions.proofs.pair_spot.Goals as goal
 
 pub longitude_out-longitude-requires : goal.longitude_out-longitude-requires

@@ -2,7 +2,6 @@
 use mathlib.Core.Path.{sym, ap, ◌∙◌}
 use Rattle.positions.specs.declared.Size.{Size}
 use Rattle.positions.specs.Positions.{count_size, singly}
-use borrow.Author.Rules.{rules}
 use Rattle.positions.proofs.single.Goals as goal
 
 pub returns-in-Fine : goal.returns-in-Fine

@@ -1,7 +1,6 @@
 -- `positions::units_in` meets its contract: each of the four is multiplied out.
 use mathlib.Core.Logic.{⊎_elim}
 use native.Mathlib.Omega.{arith}
-use borrow.Author.Rules.{rules}
 use Rattle.positions.proofs.units_in.Goals as goal
 
 pub returns-in_default : goal.returns-in_default

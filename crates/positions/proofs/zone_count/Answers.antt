@@ -1,14 +1,13 @@
 -- `positions::zone_count` meets its contract. The invariant: the entries before `low` are below the latitude, so the search from `low` on is
 -- the whole search, and that at `high`, if there is one, is not below it. The measure is what lies between.
-use Prim.Native.Nat.{ℕ, ◌+◌, ◌-◌, ◌*◌, ◌/◌, ◌≤◌, ◌<◌}
+use Prim.Native.Nat.{ℕ, ◌+◌, ◌*◌, ◌/◌, ◌<◌}
 use mathlib.Core.Path.{◌≡◌, refl, sym, ap, ◌∙◌}
 use mathlib.Core.List.{List}
 use native.Mathlib.Numerals.{add-one}
 use native.Mathlib.Omega.{arith}
 use lib.ListN.{get_or}
 use Rattle.positions.specs.Code.{edges}
-use Rattle.positions.specs.Zones.{first}
-use Rattle.positions.proofs.Latitudes.{edges_rise, left, passed, reached}
+use Rattle.positions.proofs.Latitudes.{edges_rise, passed, reached}
 use Rattle.positions.proofs.zone_count.Goals as goal
 
 -- an entry of the array that was lent is the table's

@@ -7,7 +7,6 @@ use Rattle.positions.specs.Code.{edges}
 use Rattle.positions.specs.Zones.{first}
 use Rattle.positions.proofs.Latitudes.{zone_count_is, some_units, all_units, units_fit, zoned_most}
 use Rattle.positions.proofs.Shift.{abs_is}
-use borrow.Author.Rules.{rules}
 use Rattle.positions.proofs.zone_count_at.Goals as goal
 
 pub overflow_cast-z : goal.overflow_cast-z
