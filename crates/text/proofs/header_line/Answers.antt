@@ -1,7 +1,6 @@
 -- `text::header_line` meets its contract: what is written into zeros is the line, since its text fits.
 use native.Mathlib.Omega.{arith}
 use Rattle.text.proofs.Fits.{header_most, line_made}
-use borrow.Author.Rules.{rules}
 use Rattle.text.proofs.header_line.Goals as goal
 
 pub returns : goal.returns

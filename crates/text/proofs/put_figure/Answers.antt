@@ -1,9 +1,9 @@
 -- `text::put_figure` meets its contract: by the cases of the figure.
 use lib.IntN.{ℤ}
 use mir.Syntax.{w64}
-use mir.Facts.{to_z-of_z}
+use mir.Val.{to_z, of_z}
 use Rattle.text.specs.declared.Figure.TheVariants.{Known}
-use mathlib.Core.Path.{sym, ap, ◌∙◌}
+use mathlib.Core.Path.{◌≡◌, sym, ap, ◌∙◌}
 use native.Mathlib.Omega.{arith}
 use Rattle.text.specs.Lines.{figure}
 use Rattle.text.proofs.Buffer.{wrote_then, wrote_as}
@@ -14,12 +14,13 @@ pub returns-in-Known : goal.returns-in-Known
 unfolding figure
 returns-in-Known c =
     let p = c.put_byte-a.ensures in
-    let e = to_z-of_z {w = w64} (record { sfits = c.in-Known.given.0.1 }) in
-    (wrote_as (wrote_then p c.put_signed.ensures.0) (ap (λ (x : ℤ). figure (Known x)) e ∙ sym (ap figure c.in-Known.is)), omega (arith, p.next))
+    let q = c.put_signed.ensures in
+    let e : to_z w64 (of_z w64 c.in-Known.z) ≡ c.in-Known.z = search rules in
+    record { wrote = wrote_as (wrote_then p q.wrote) (ap (λ (x : ℤ). figure (Known x)) e ∙ sym (ap figure c.in-Known.is)); upper_bound = omega (arith, p.next) }
 
 pub returns-in-Unknown : goal.returns-in-Unknown
 unfolding figure
 returns-in-Unknown c =
     let p = c.put_byte-a.ensures in
     let q = c.put_byte.ensures in
-    (wrote_as (wrote_then p q) (sym (ap figure c.in-Unknown.is)), omega (arith, p.next, q.next))
+    record { wrote = wrote_as (wrote_then p q) (sym (ap figure c.in-Unknown.is)); upper_bound = omega (arith, p.next, q.next) }

@@ -4,7 +4,6 @@ use native.Mathlib.Omega.{arith}
 use lib.ListN.{length}
 use Rattle.text.proofs.Buffer.{wrote_as}
 use Rattle.text.proofs.Fits.{header_most, line_long, line_kept}
-use borrow.Author.Rules.{rules}
 use Rattle.text.proofs.put_header.Goals as goal
 
 pub slice_bounds-line-end : goal.slice_bounds-line-end

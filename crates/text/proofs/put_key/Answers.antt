@@ -8,7 +8,6 @@ use Rattle.text.specs.Numbers.{hex}
 use Rattle.text.proofs.Buffer.{wrote_then, wrote_as}
 use Rattle.text.proofs.Digits.{hex_length}
 use Rattle.text.proofs.Fits.{key_most}
-use borrow.Author.Rules.{rules}
 use Rattle.text.proofs.put_key.Goals as goal
 
 pub put_sender-requires : goal.put_sender-requires
@@ -20,4 +19,4 @@ returns c =
     let k = wrote_as c.put_byte-a.ensures (ap (λ (x : ℕ). x ∷ []) c.letter_in.ensures) in
     let a = wrote_as c.put_hex-a.ensures (ap (hex 6) c.address_in.ensures) in
     let p = wrote_then (wrote_then (wrote_then k c.put_byte-a-2.ensures) a) c.put_sender.ensures in
-    (p, omega (arith, p.next, key_most c.args.key))
+    record { wrote = p; upper_bound = omega (arith, p.next, key_most c.args.key) }

@@ -1,6 +1,5 @@
 -- `text::numbers::hex_digit` meets its contract: by the test of the digit.
 use borrow.Author.Tests.{lt-ltb, le-ltb}
-use borrow.Author.Rules.{rules}
 use Rattle.text.proofs.numbers.hex_digit.Goals as goal
 
 pub returns-then-d-lt10 : goal.returns-then-d-lt10

@@ -3,10 +3,9 @@ use mathlib.Core.Path.{sym}
 use native.Mathlib.Omega.{arith}
 use Rattle.text.proofs.Buffer.{wrote_then, wrote_as}
 use Rattle.text.proofs.Digits.{decimal_eight}
-use borrow.Author.Rules.{rules}
 use Rattle.text.proofs.numbers.put_decimal.Goals as goal
 
 pub returns : goal.returns
 returns c =
-    let p = wrote_then c.put_large-a.ensures.0 c.put_eight.ensures in
-    (wrote_as p (sym (decimal_eight c.args.n (omega arith) (omega arith))), omega (arith, p.next))
+    let p = wrote_then c.put_large-a.ensures.wrote c.put_eight.ensures in
+    record { wrote = wrote_as p (sym (decimal_eight c.args.n (omega arith) (omega arith))); upper_bound = omega (arith, p.next) }

@@ -3,7 +3,6 @@ use Prim.Native.Nat.{ℕ}
 use mathlib.Core.Path.{ap}
 use mathlib.Core.List.{[], ◌∷◌}
 use Rattle.text.proofs.Buffer.{wrote_as}
-use borrow.Author.Rules.{rules}
 use Rattle.text.proofs.numbers.put_digit.Goals as goal
 
 pub returns : goal.returns

@@ -1,6 +1,5 @@
 -- `text::numbers::put_eight` meets its contract: four digits, then four more.
 use Rattle.text.proofs.Buffer.{wrote_then}
-use borrow.Author.Rules.{rules}
 use Rattle.text.proofs.numbers.put_eight.Goals as goal
 
 pub returns : goal.returns

@@ -1,6 +1,5 @@
 -- `text::numbers::put_four` meets its contract: two digits, then two more.
 use Rattle.text.proofs.Buffer.{wrote_then}
-use borrow.Author.Rules.{rules}
 use Rattle.text.proofs.numbers.put_four.Goals as goal
 
 pub returns : goal.returns

@@ -1,7 +1,6 @@
 -- `text::numbers::put_hex` meets its contract: six digits, one after the other.
 use Rattle.text.specs.Numbers.{hex}
 use Rattle.text.proofs.Buffer.{wrote_then}
-use borrow.Author.Rules.{rules}
 use Rattle.text.proofs.numbers.put_hex.Goals as goal
 
 pub returns : goal.returns

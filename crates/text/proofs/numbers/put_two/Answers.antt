@@ -4,7 +4,6 @@ use mathlib.Core.Path.{◌≡◌, ap}
 use mathlib.Core.List.{[], ◌∷◌}
 use native.Mathlib.Omega.{arith}
 use Rattle.text.proofs.Buffer.{wrote_then, wrote_as}
-use borrow.Author.Rules.{rules}
 use Rattle.text.proofs.numbers.put_two.Goals as goal
 
 pub returns : goal.returns

@@ -1,13 +1,12 @@
 -- `text::write::put_text` meets its contract: after i bytes the first i of the text are written.
-use Prim.Native.Nat.{◌+◌, ◌-◌, ◌≤◌}
+use Prim.Native.Nat.{◌+◌}
 use mathlib.Core.Path.{◌≡◌, refl, sym}
 use mathlib.Core.List.{[], ◌∷◌, ◌++◌}
 use native.Mathlib.Omega.{arith}
 use native.Mathlib.Numerals.{add-one}
 use borrow.Author.Rules.{rules}
-use lib.ListN.{length, take, get_or}
+use lib.ListN.{take, get_or}
 use lib.Seq.{take-suc, take_all}
-use Rattle.text.specs.Code.{Wrote}
 use Rattle.text.proofs.Buffer.{wrote_none, wrote_then, wrote_as}
 use Rattle.text.proofs.write.put_text.Goals as goal
 
