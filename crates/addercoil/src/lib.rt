@@ -3,9 +3,9 @@
 
 pub mod blocks;
 pub mod figures;
-mod me;
+pub mod me;
 pub mod numbers;
-mod spots;
+pub mod spots;
 pub mod stamped;
 pub mod tables;
-mod version;
+pub mod version;
