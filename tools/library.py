@@ -11,5 +11,6 @@ def public(crate):
     """The functions that a library hands out: those of lib.rt, what it passes on of its parts, and what C may call."""
     code = {path.stem: re.sub(r'//.*', '', path.read_text(encoding='utf-8')) for path in (ROOT / 'crates' / crate / 'src').glob('*.rt')}
     own = re.findall(r'^pub fn (\w+)', code['lib'], flags=re.M)
-    passed = [name for part, name in re.findall(r'^pub use (\w+)::(\w+);', code['lib'], flags=re.M) if f'pub fn {name}' in code.get(part, '')]
+    handed = re.findall(r'^pub use (\w+)::(?:(\w+)|\{([\w\s,]*)\});', code['lib'], flags=re.M)
+    passed = [name for part, *which in handed for name in re.findall(r'\w+', ' '.join(which)) if f'pub fn {name}' in code.get(part, '')]
     return [*own, *passed, *re.findall(r'^pub extern "C" fn (\w+)', '\n'.join(code.values()), flags=re.M)]
