@@ -3,7 +3,6 @@ use mathlib.Core.Path.{sym, ap, ◌∙◌}
 use Rattle.positions.specs.declared.Found.{Found}
 use Rattle.whereabouts.specs.declared.Placed.TheVariants as placed
 use Rattle.whereabouts.specs.Located.{after_pair}
-use borrow.Author.Rules.{rules}
 use Rattle.whereabouts.proofs.after_pair.Goals as goal
 
 pub returns-in-At : goal.returns-in-At

@@ -10,7 +10,6 @@ use Rattle.positions.specs.declared.Found.{Found}
 use Rattle.positions.specs.declared.Found.TheVariants.{Refused}
 use Rattle.whereabouts.specs.declared.Position.{Position}
 use Rattle.whereabouts.specs.Located.{is_partner, read_singly, after_pair, airborne_position}
-use borrow.Author.Rules.{rules}
 use Rattle.whereabouts.proofs.airborne_position.Goals as goal
 
 -- by whether there is a partner

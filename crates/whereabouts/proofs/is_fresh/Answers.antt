@@ -1,7 +1,6 @@
 -- `whereabouts::is_fresh` meets its contract: the known position's age is that of `is_within`.
 use mathlib.Core.Path.{ap}
 use mathlib.Core.Bool.{Bool, ◌&&◌}
-use borrow.Author.Rules.{rules}
 use Rattle.whereabouts.proofs.is_fresh.Goals as goal
 
 pub returns : goal.returns

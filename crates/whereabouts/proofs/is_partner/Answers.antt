@@ -1,6 +1,5 @@
 -- `whereabouts::is_partner` meets its contract: the size is that of `same_size`, and the age that of `is_within`.
 use Rattle.whereabouts.specs.Located.{is_partner}
-use borrow.Author.Rules.{rules}
 use Rattle.whereabouts.proofs.is_partner.Goals as goal
 
 pub returns : goal.returns

@@ -1,7 +1,6 @@
 -- `whereabouts::paired_with` meets its contract: each arm is the definition's.
 use mathlib.Core.Path.{sym, ap, ◌∙◌}
 use Rattle.whereabouts.specs.Located.{paired_with}
-use borrow.Author.Rules.{rules}
 use Rattle.whereabouts.proofs.paired_with.Goals as goal
 
 pub returns-in-Even : goal.returns-in-Even

@@ -2,7 +2,6 @@
 use mathlib.Core.Path.{sym, ◌∙◌}
 use borrow.Author.Tests.{eq-eqb, ne_eqb}
 use Rattle.refusals.specs.Numbers.{number_of}
-use borrow.Author.Rules.{rules}
 use Rattle.whereabouts.proofs.pass_on.Goals as goal
 
 pub returns-then-number-eq8 : goal.returns-then-number-eq8

@@ -2,7 +2,6 @@
 use mathlib.Core.Path.{ap, ◌∙◌}
 use Rattle.positions.specs.declared.Found.{Found}
 use Rattle.whereabouts.specs.Located.{settled, read_near}
-use borrow.Author.Rules.{rules}
 use Rattle.whereabouts.proofs.read_near.Goals as goal
 
 pub returns : goal.returns

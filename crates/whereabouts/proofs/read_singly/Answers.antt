@@ -2,7 +2,6 @@
 use mathlib.Core.Path.{◌≡◌, sym, ◌∙◌}
 use mathlib.Core.Bool.{true, false}
 use Rattle.whereabouts.specs.Located.{is_fresh, read_singly}
-use borrow.Author.Rules.{rules}
 use Rattle.whereabouts.proofs.read_singly.Goals as goal
 
 pub returns-then-is_fresh : goal.returns-then-is_fresh

@@ -2,7 +2,6 @@
 use mathlib.Core.Path.{◌≡◌, sym, ◌∙◌}
 use mathlib.Core.Bool.{true, false}
 use Rattle.whereabouts.specs.Located.{is_fresh, surface_position}
-use borrow.Author.Rules.{rules}
 use Rattle.whereabouts.proofs.surface_position.Goals as goal
 
 pub returns-then-is_fresh : goal.returns-then-is_fresh

@@ -2,7 +2,6 @@
 use mathlib.Core.Path.{◌≡◌, sym, ◌∙◌}
 use mathlib.Core.Bool.{true, false}
 use Rattle.whereabouts.specs.Located.{is_partner}
-use borrow.Author.Rules.{rules}
 use Rattle.whereabouts.proofs.tried_with.Goals as goal
 
 pub returns-then-is_partner : goal.returns-then-is_partner
