@@ -1,14 +1,9 @@
 -- `form::in_form` meets its contract: the lines passed are in the form, so the text is if the rest is.
 use Prim.Native.Nat.{◌+◌, ◌-◌, ◌≤◌}
-use mathlib.Core.Path.{◌≡◌, sym, ap, ◌∙◌}
-use mathlib.Core.Bool.{Bool, ◌&&◌}
-use native.Mathlib.Omega.{arith}
-use borrow.Author.Tests.{not-true, not-false}
+use mathlib.Core.Path.{◌≡◌}
 use lib.ListN.{length}
 use Rattle.form.specs.Form.{in_form}
-use Rattle.form.specs.Scan.{part}
-use Rattle.form.proofs.Fitting.{header_fits, body, header_cut, body_cut, body_ends}
-use borrow.Author.Rules.{rules}
+use Rattle.form.proofs.Fitting.{body}
 use Rattle.form.proofs.in_form.Given as goal
 
 abbrev pub invariant-loop-at : goal.invariant-loop-at

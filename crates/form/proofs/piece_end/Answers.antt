@@ -1,11 +1,5 @@
 -- `form::piece_end` meets its contract: no byte passed is the separator.
-use Prim.Native.Nat.{◌-◌, ◌≤◌}
-use mathlib.Core.Path.{◌≡◌}
-use mathlib.Core.Bool.{true}
 use native.Mathlib.Omega.{arith}
-use lib.ListN.{length}
-use Rattle.form.specs.Scan.{part}
-use Rattle.form.proofs.Pieces.{free}
 use Rattle.form.proofs.Loops.{free_none, free_on, ends_at, ends_last}
 use borrow.Author.Rules.{rules}
 use Rattle.form.proofs.piece_end.Goals as goal

@@ -2,12 +2,9 @@
 use Prim.Native.Nat.{◌-◌, ◌≤◌}
 use mathlib.Core.Path.{◌≡◌}
 use mathlib.Core.Bool.{true}
-use native.Mathlib.Omega.{arith}
 use lib.ListN.{length}
 use Rattle.form.specs.Scan.{part}
 use Rattle.form.proofs.Pieces.{free}
-use Rattle.form.proofs.Loops.{free_none, free_on, ends_at, ends_last}
-use borrow.Author.Rules.{rules}
 use Rattle.form.proofs.piece_end.Given as goal
 
 abbrev pub invariant-loop-i : goal.invariant-loop-i

@@ -1,11 +1,8 @@
 -- `form::same` meets its contract: the bytes passed are equal, so all are if the rest is.
 use Prim.Native.Nat.{◌-◌, ◌≤◌}
-use mathlib.Core.Path.{◌≡◌, refl, sym, ◌∙◌}
-use native.Mathlib.Omega.{arith}
+use mathlib.Core.Path.{◌≡◌}
 use lib.ListN.{length, drop}
 use Rattle.form.specs.Form.{same}
-use Rattle.form.proofs.Loops.{same_length, same_stops, same_on, same_ends}
-use borrow.Author.Rules.{rules}
 use Rattle.form.proofs.same.Given as goal
 
 abbrev pub invariant-loop-i : goal.invariant-loop-i

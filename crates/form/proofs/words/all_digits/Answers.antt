@@ -1,10 +1,6 @@
 -- `form::words::all_digits` meets its contract: the bytes passed are such digits, so all are if the rest is.
-use Prim.Native.Nat.{◌-◌, ◌≤◌}
-use mathlib.Core.Path.{◌≡◌, refl, sym, ◌∙◌}
+use mathlib.Core.Path.{refl, sym, ◌∙◌}
 use native.Mathlib.Omega.{arith}
-use borrow.Author.Tests.{not-true, not-false}
-use lib.ListN.{length, drop}
-use Rattle.form.specs.Form.{all}
 use Rattle.form.specs.Code.{digit_of}
 use Rattle.form.proofs.Loops.{all_stops, all_on, all_ends}
 use borrow.Author.Rules.{rules}
@@ -16,12 +12,12 @@ loop-i-init c = (search rules, refl)
 pub returns-then-not-is_digit : goal.returns-then-not-is_digit
 returns-then-not-is_digit c =
     let w = c.args.w.now in
-    sym (c.loop-i.invariant.1 ∙ all_stops (digit_of c.args.hex) w c.loop-i.i c.loop-i-test.true (sym c.is_digit.ensures ∙ not-true _ c.if-not-is_digit.true))
+    sym (c.loop-i.invariant.1 ∙ all_stops (digit_of c.args.hex) w c.loop-i.i c.loop-i-test.true (sym c.is_digit.ensures ∙ c.if-not-is_digit.true))
 
 pub loop-i-preserved : goal.loop-i-preserved
 loop-i-preserved c =
     let w = c.args.w.now in
-    (search rules, c.loop-i.invariant.1 ∙ all_on (digit_of c.args.hex) w c.loop-i.i c.loop-i-test.true (sym c.is_digit.ensures ∙ not-false _ c.if-not-is_digit.false))
+    (search rules, c.loop-i.invariant.1 ∙ all_on (digit_of c.args.hex) w c.loop-i.i c.loop-i-test.true (sym c.is_digit.ensures ∙ c.if-not-is_digit.false))
 
 pub returns : goal.returns
 returns c =

@@ -1,13 +1,9 @@
 -- `form::words::all_digits` meets its contract: the bytes passed are such digits, so all are if the rest is.
 use Prim.Native.Nat.{◌-◌, ◌≤◌}
-use mathlib.Core.Path.{◌≡◌, refl, sym, ◌∙◌}
-use native.Mathlib.Omega.{arith}
-use borrow.Author.Tests.{not-true, not-false}
+use mathlib.Core.Path.{◌≡◌}
 use lib.ListN.{length, drop}
 use Rattle.form.specs.Form.{all}
 use Rattle.form.specs.Code.{digit_of}
-use Rattle.form.proofs.Loops.{all_stops, all_on, all_ends}
-use borrow.Author.Rules.{rules}
 use Rattle.form.proofs.words.all_digits.Given as goal
 
 abbrev pub invariant-loop-i : goal.invariant-loop-i

@@ -4,7 +4,6 @@ use mathlib.Core.Bool.{Bool, ◌&&◌}
 use lib.Dec.{eqb}
 use lib.ListN.{length}
 use Rattle.form.specs.Form.{is_address}
-use borrow.Author.Rules.{rules}
 use Rattle.form.proofs.words.is_address.Goals as goal
 
 pub returns : goal.returns

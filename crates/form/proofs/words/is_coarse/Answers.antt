@@ -1,6 +1,5 @@
 -- `form::words::is_coarse` meets its contract: the one letter.
 use Rattle.form.specs.Form.{is_coarse}
-use borrow.Author.Rules.{rules}
 use Rattle.form.proofs.words.is_coarse.Goals as goal
 
 pub returns : goal.returns

@@ -2,7 +2,6 @@
 use mathlib.Core.Path.{ap₂}
 use mathlib.Core.Bool.{◌||◌}
 use Rattle.form.specs.Form.{is_figure}
-use borrow.Author.Rules.{rules}
 use Rattle.form.proofs.words.is_figure.Goals as goal
 
 pub returns : goal.returns

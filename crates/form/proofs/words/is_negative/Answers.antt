@@ -7,7 +7,6 @@ use lib.Dec.{eqb}
 use lib.ListN.{length, drop, get_or, length-drop, get_or-eq_default}
 use lib.Seq.{take_all}
 use Rattle.form.specs.Form.{is_positive, is_negative}
-use borrow.Author.Rules.{rules}
 use Rattle.form.proofs.words.is_negative.Goals as goal
 
 pub returns-then-w-lt1 : goal.returns-then-w-lt1

@@ -6,7 +6,6 @@ use borrow.Author.Tests.{lt-leb, le-leb}
 use lib.Dec.{eqb, leb}
 use lib.ListN.{length, get_or}
 use Rattle.form.specs.Form.{all, is_digit, is_positive}
-use borrow.Author.Rules.{rules}
 use Rattle.form.proofs.words.is_positive.Goals as goal
 
 pub returns-then-n-lt1 : goal.returns-then-n-lt1

@@ -1,6 +1,5 @@
 -- `form::words::line_fits` meets its contract: the words of a line of kind C, or of any other.
 use Rattle.form.proofs.Fitting.{line_fits}
-use borrow.Author.Rules.{rules}
 use Rattle.form.proofs.words.line_fits.Goals as goal
 
 pub returns : goal.returns

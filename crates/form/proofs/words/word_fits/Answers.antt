@@ -1,7 +1,6 @@
 -- `form::words::word_fits` meets its contract: by the letter.
 use mathlib.Core.Path.{◌∙◌}
 use Rattle.form.proofs.Fitting.{sort_kind, sort_coarse, sort_address, sort_figure, sort_clock, sort_tracks, sort_bad}
-use borrow.Author.Rules.{rules}
 use Rattle.form.proofs.words.word_fits.Goals as goal
 
 pub returns-then-sort-eq75 : goal.returns-then-sort-eq75

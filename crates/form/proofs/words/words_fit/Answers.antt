@@ -1,12 +1,7 @@
 -- `form::words::words_fit` meets its contract: the words passed are of their sorts, so all are if the rest is.
-use Prim.Native.Nat.{◌+◌, ◌-◌, ◌≤◌}
-use mathlib.Core.Path.{◌≡◌, sym, ◌∙◌}
+use mathlib.Core.Path.{sym, ◌∙◌}
 use native.Mathlib.Omega.{arith}
-use borrow.Author.Tests.{not-true, not-false}
-use lib.ListN.{length}
-use Rattle.form.specs.Form.{pieces, all_fit}
-use Rattle.form.specs.Code.{sorts_of}
-use Rattle.form.proofs.Fitting.{left, left_first, left_short, left_stops, left_on, left_ends}
+use Rattle.form.proofs.Fitting.{left_first, left_short, left_stops, left_on, left_ends}
 use borrow.Author.Rules.{rules}
 use Rattle.form.proofs.words.words_fit.Goals as goal
 
@@ -22,14 +17,14 @@ returns-then-not-word_fits c =
     let line = c.args.line.now in
     let sorts = c.args.sorts.now in
     let p = c.piece_end-e.ensures in
-    sym (c.loop-i.invariant.2 ∙ left_stops line sorts c.loop-i.i c.loop-i.at _ c.loop-i-test.true p (sym c.word_fits.ensures ∙ not-true _ c.if-not-word_fits.true))
+    sym (c.loop-i.invariant.2 ∙ left_stops line sorts c.loop-i.i c.loop-i.at _ c.loop-i-test.true p (sym c.word_fits.ensures ∙ c.if-not-word_fits.true))
 
 pub loop-i-preserved : goal.loop-i-preserved
 loop-i-preserved c =
     let line = c.args.line.now in
     let sorts = c.args.sorts.now in
     let p = c.piece_end-e.ensures in
-    (search rules, omega (arith, p.high), c.loop-i.invariant.2 ∙ left_on line sorts c.loop-i.i c.loop-i.at _ c.loop-i-test.true p (sym c.word_fits.ensures ∙ not-false _ c.if-not-word_fits.false))
+    (search rules, omega (arith, p.high), c.loop-i.invariant.2 ∙ left_on line sorts c.loop-i.i c.loop-i.at _ c.loop-i-test.true p (sym c.word_fits.ensures ∙ c.if-not-word_fits.false))
 
 pub returns : goal.returns
 returns c =

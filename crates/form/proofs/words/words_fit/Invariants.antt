@@ -1,13 +1,10 @@
 -- `form::words::words_fit` meets its contract: the words passed are of their sorts, so all are if the rest is.
 use Prim.Native.Nat.{◌+◌, ◌-◌, ◌≤◌}
-use mathlib.Core.Path.{◌≡◌, sym, ◌∙◌}
-use native.Mathlib.Omega.{arith}
-use borrow.Author.Tests.{not-true, not-false}
+use mathlib.Core.Path.{◌≡◌}
 use lib.ListN.{length}
 use Rattle.form.specs.Form.{pieces, all_fit}
 use Rattle.form.specs.Code.{sorts_of}
-use Rattle.form.proofs.Fitting.{left, left_first, left_short, left_stops, left_on, left_ends}
-use borrow.Author.Rules.{rules}
+use Rattle.form.proofs.Fitting.{left}
 use Rattle.form.proofs.words.words_fit.Given as goal
 
 abbrev pub invariant-loop-i : goal.invariant-loop-i
