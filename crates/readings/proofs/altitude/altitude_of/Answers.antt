@@ -5,7 +5,6 @@ use native.Mathlib.Omega.{arith}
 use borrow.Author.Tests.{le-leb, lt-leb, eq-eqb, ne_eqb}
 use lib.IntN.{ℤ}
 use mir.Facts.{to_z-of_z}
-use borrow.Author.Rules.{rules}
 use Rattle.readings.specs.declared.altitude.Altitude.TheVariants.{Feet}
 use Rattle.readings.specs.Altitude.{altitude_of, eleven}
 use Rattle.readings.specs.Code.{by_hundreds}

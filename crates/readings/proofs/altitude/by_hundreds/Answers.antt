@@ -4,7 +4,6 @@ use mathlib.Core.Path.{ap, ◌∙◌}
 use native.Mathlib.Omega.{arith}
 use lib.IntN.{ℤ, pos, ◌-ℤ◌}
 use mir.Facts.{to_z-of_z}
-use borrow.Author.Rules.{rules}
 use Rattle.readings.specs.declared.altitude.Altitude.TheVariants.{Feet}
 use Rattle.readings.specs.Code.{by_hundreds}
 use Rattle.readings.proofs.BelowZero.{less_fits}

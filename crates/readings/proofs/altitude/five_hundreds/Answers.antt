@@ -1,6 +1,5 @@
 -- `readings::altitude::five_hundreds` meets its contract: eight steps of the decoding, and each bit at most doubles the number.
 use native.Mathlib.Omega.{arith}
-use borrow.Author.Rules.{rules}
 use Rattle.readings.specs.Altitude.{five_hundreds}
 use Rattle.readings.proofs.altitude.five_hundreds.Goals as goal
 

@@ -1,7 +1,6 @@
 -- `readings::altitude::gray` meets its contract: one step of the decoding.
 use mathlib.Core.Path.{refl}
 use native.Mathlib.Omega.{arith}
-use borrow.Author.Rules.{rules}
 use Rattle.readings.specs.Altitude.{gray_step}
 use Rattle.readings.proofs.altitude.gray.Goals as goal
 

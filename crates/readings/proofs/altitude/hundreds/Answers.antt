@@ -1,6 +1,5 @@
 -- `readings::altitude::hundreds` meets its contract: three steps of the decoding.
 use native.Mathlib.Omega.{arith}
-use borrow.Author.Rules.{rules}
 use Rattle.readings.specs.Altitude.{hundreds}
 use Rattle.readings.proofs.altitude.hundreds.Goals as goal
 

@@ -4,7 +4,6 @@ use mathlib.Core.Path.{ap}
 use native.Mathlib.Omega.{arith}
 use lib.Dec.{leb}
 use borrow.Author.Tests.{leb-false, eq-eqb, ne_eqb}
-use borrow.Author.Rules.{rules}
 use Rattle.readings.specs.declared.amounts.Difference.TheVariants.{Feet}
 use Rattle.readings.specs.Amounts.{amount, difference_of}
 use Rattle.fields.proofs.Bools.{neither}

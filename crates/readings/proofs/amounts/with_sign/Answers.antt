@@ -2,7 +2,6 @@
 use mathlib.Core.Path.{◌∙◌}
 use native.Mathlib.Omega.{arith}
 use borrow.Author.Tests.{eq-eqb, ne_eqb}
-use borrow.Author.Rules.{rules}
 use Rattle.readings.specs.Amounts.{signed}
 use Rattle.readings.proofs.BelowZero.{kept, below, above, below_fits, above_fits}
 use Rattle.readings.proofs.amounts.with_sign.Goals as goal

@@ -1,5 +1,4 @@
 -- `readings::bodies::height_difference` meets its contract: its test is the definition's.
-use borrow.Author.Rules.{rules}
 use Rattle.readings.specs.Bodies.{height_difference}
 use Rattle.readings.proofs.bodies.height_difference.Goals as goal
 

@@ -7,7 +7,6 @@ use Rattle.layouts.specs.declared.bodies.Layout.{Layout}
 use Rattle.layouts.specs.Bodies.{taken_as}
 use Rattle.readings.specs.declared.bodies.Readings.{Readings}
 use Rattle.readings.specs.Bodies.{readings_of, readings_in}
-use borrow.Author.Rules.{rules}
 use Rattle.readings.proofs.bodies.readings_in.Goals as goal
 
 -- the arm of the layout

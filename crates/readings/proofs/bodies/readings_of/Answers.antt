@@ -1,7 +1,6 @@
 -- `readings::bodies::readings_of` meets its contract: in each arm the answer is that of the arm's layout.
 use mathlib.Core.Path.{sym, ap, ◌∙◌}
 use Rattle.readings.specs.Bodies.{readings_of}
-use borrow.Author.Rules.{rules}
 use Rattle.readings.proofs.bodies.readings_of.Goals as goal
 
 pub returns-in-Identification : goal.returns-in-Identification

@@ -1,6 +1,5 @@
 -- `readings::coarse::coarse_speed_of` meets its contract: the tests on the way pick the case of the definition.
 use borrow.Author.Tests.{le-leb, lt-leb, eq-eqb, ne_eqb}
-use borrow.Author.Rules.{rules}
 use Rattle.readings.specs.Coarse.{coarse_speed_of}
 use Rattle.readings.proofs.coarse.coarse_speed_of.Goals as goal
 

@@ -1,6 +1,5 @@
 -- `readings::headings::angle_of` meets its contract: by the test of the width.
 use borrow.Author.Tests.{le-leb, lt-leb}
-use borrow.Author.Rules.{rules}
 use Rattle.readings.proofs.headings.angle_of.Goals as goal
 
 pub returns-then-code-ge32 : goal.returns-then-code-ge32

@@ -1,6 +1,5 @@
 -- `readings::headings::heading_of` meets its contract: by the test of the width.
 use borrow.Author.Tests.{le-leb, lt-leb}
-use borrow.Author.Rules.{rules}
 use Rattle.readings.proofs.headings.heading_of.Goals as goal
 
 pub returns-then-code-ge1024 : goal.returns-then-code-ge1024

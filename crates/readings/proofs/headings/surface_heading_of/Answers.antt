@@ -1,6 +1,5 @@
 -- `readings::headings::surface_heading_of` meets its contract: by the test of the width.
 use borrow.Author.Tests.{le-leb, lt-leb}
-use borrow.Author.Rules.{rules}
 use Rattle.readings.proofs.headings.surface_heading_of.Goals as goal
 
 pub returns-then-code-ge128 : goal.returns-then-code-ge128

@@ -1,6 +1,5 @@
 -- `readings::movement::lower_edge` meets its contract: the tests on the way pick the row.
 use borrow.Author.Tests.{le-leb, lt-leb}
-use borrow.Author.Rules.{rules}
 use Rattle.readings.specs.Movement.{lower_edge}
 use Rattle.readings.proofs.movement.lower_edge.Goals as goal
 

@@ -1,7 +1,6 @@
 -- `readings::movement::movement_of` meets its contract: the tests on the way pick the case of the definition.
 use mathlib.Core.Path.{ap}
 use borrow.Author.Tests.{le-leb, lt-leb, eq-eqb, ne_eqb}
-use borrow.Author.Rules.{rules}
 use Rattle.readings.specs.declared.movement.Movement.TheVariants.{LowerEdge}
 use Rattle.readings.specs.Movement.{movement_of}
 use Rattle.readings.proofs.movement.movement_of.Goals as goal

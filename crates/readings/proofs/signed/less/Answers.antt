@@ -2,7 +2,6 @@
 use native.Mathlib.Omega.{arith}
 use mir.Syntax.{w32}
 use mir.Facts.{to_z_pos, to_z-of_z}
-use borrow.Author.Rules.{rules}
 use Rattle.readings.proofs.BelowZero.{less_fits}
 use Rattle.readings.proofs.signed.less.Goals as goal
 

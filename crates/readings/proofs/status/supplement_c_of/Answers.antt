@@ -1,6 +1,5 @@
 -- `readings::status::supplement_c_of` meets its contract: its test is that of the definition.
 use borrow.Author.Tests.{eq-eqb, ne_eqb}
-use borrow.Author.Rules.{rules}
 use Rattle.readings.proofs.status.supplement_c_of.Goals as goal
 
 pub returns-then-subtype-eq1 : goal.returns-then-subtype-eq1
