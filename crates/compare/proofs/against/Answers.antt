@@ -5,7 +5,7 @@ use borrow.Author.Rules.{rules}
 use Rattle.compare.proofs.against.Goals as goal
 
 pub slice_bounds-same-end : goal.slice_bounds-same-end
-slice_bounds-same-end c = within _ c.line_end-end.ensures.1
+slice_bounds-same-end c = within _ c.line_end-end.ensures.next_line
 
 pub slice_bounds-same-end-2 : goal.slice_bounds-same-end-2
 slice_bounds-same-end-2 c =
@@ -13,12 +13,12 @@ slice_bounds-same-end-2 c =
 
 pub returns-then-not-same : goal.returns-then-not-same
 returns-then-not-same c =
-    header_differs c.args.table.now c.args.bad c.requires c.header_of-ours.ensures c.args.theirs.now c.line_end-end.ensures.1 c.same.ensures c.if-not-same.true
+    header_differs c.args.table.now c.args.bad c.requires c.header_of-ours.ensures c.args.theirs.now c.line_end-end.ensures.next_line c.same.ensures c.if-not-same.true
 
 pub rows_compared-requires : goal.rows_compared-requires
 rows_compared-requires c =
-    (c.requires, within _ c.line_end-end.ensures.1)
+    (c.requires, within _ c.line_end-end.ensures.next_line)
 
 pub returns : goal.returns
 returns c =
-    header_same c.args.table.now c.args.bad c.requires c.header_of-ours.ensures c.args.theirs.now c.line_end-end.ensures.1 c.same.ensures c.if-not-same.false c.rows_compared.ensures
+    header_same c.args.table.now c.args.bad c.requires c.header_of-ours.ensures c.args.theirs.now c.line_end-end.ensures.next_line c.same.ensures c.if-not-same.false c.rows_compared.ensures

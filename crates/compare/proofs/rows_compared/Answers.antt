@@ -5,7 +5,6 @@ use mathlib.Core.Bool.{true, false}
 use mathlib.Core.List.{List, ◌++◌}
 use mathlib.Core.Option.{some}
 use native.Mathlib.Omega.{arith}
-use borrow.Author.Tests.{not-true, not-false}
 use lib.ListN.{length}
 use Rattle.keys.specs.Keys.{end_of_keys}
 use Rattle.track.specs.declared.Track.{Track}
@@ -39,7 +38,7 @@ loop-key-init c =
 pub returns-then-end-eq0 : goal.returns-then-end-eq0
 returns-then-end-eq0 c =
     let in-loop = c.loop-key-test.true in
-    sym (c.loop-key.invariant.4 ∙ sym (missing c.loop-key.n (no_line _ c.loop-key.at c.line_end-end.ensures.1 c.if-end-eq0.true) (left_row _ c.requires.0 c.loop-key.key in-loop (c.loop-key.invariant.3 in-loop) refl)))
+    sym (c.loop-key.invariant.4 ∙ sym (missing c.loop-key.n (no_line _ c.loop-key.at c.line_end-end.ensures.next_line c.if-end-eq0.true) (left_row _ c.requires.0 c.loop-key.key in-loop (c.loop-key.invariant.3 in-loop) refl)))
 
 pub slice_bounds-agrees-count : goal.slice_bounds-agrees-count
 slice_bounds-agrees-count c = omega (arith, (line_at c).low, (line_at c).high)
@@ -55,7 +54,7 @@ returns-then-not-agrees c =
     let in-loop = c.loop-key-test.true in
     let p = line_at x in
     let q = left_row _ c.requires.0 c.loop-key.key in-loop (c.loop-key.invariant.3 in-loop) c.row_in-row.ensures in
-    let d : agrees_of (p.line ++ newline) c.row_in-row.result ≡ false = ap (λ (t : List ℕ). agrees_of t c.row_in-row.result) p.text ∙ sym c.agrees.ensures ∙ not-true _ c.if-not-agrees.true in
+    let d : agrees_of (p.line ++ newline) c.row_in-row.result ≡ false = ap (λ (t : List ℕ). agrees_of t c.row_in-row.result) p.text ∙ sym c.agrees.ensures ∙ c.if-not-agrees.true in
     sym (c.loop-key.invariant.4 ∙ sym (differs c.loop-key.n p.first q d))
 
 pub loop-key-smaller : goal.loop-key-smaller
@@ -67,7 +66,7 @@ loop-key-preserved c =
     let p = line_at x in
     let q = left_row _ c.requires.0 c.loop-key.key in-loop (c.loop-key.invariant.3 in-loop) c.row_in-row.ensures in
     let k = key-next c in
-    let d : agrees_of (p.line ++ newline) c.row_in-row.result ≡ true = ap (λ (t : List ℕ). agrees_of t c.row_in-row.result) p.text ∙ sym c.agrees.ensures ∙ not-false _ c.if-not-agrees.false in (
+    let d : agrees_of (p.line ++ newline) c.row_in-row.result ≡ true = ap (λ (t : List ℕ). agrees_of t c.row_in-row.result) p.text ∙ sym c.agrees.ensures ∙ c.if-not-agrees.false in (
       k.most,
       omega (arith, k.low, c.loop-key.invariant.1),
       p.high,
@@ -77,10 +76,10 @@ loop-key-preserved c =
 
 pub returns-then-line_end-eq0 : goal.returns-then-line_end-eq0
 returns-then-line_end-eq0 c =
-    sym (c.loop-key.invariant.4 ∙ sym (both_end c.loop-key.n (no_line _ c.loop-key.at c.line_end.ensures.1 c.if-line_end-eq0.true) (left_end _ c.loop-key.key (omega arith))))
+    sym (c.loop-key.invariant.4 ∙ sym (both_end c.loop-key.n (no_line _ c.loop-key.at c.line_end.ensures.next_line c.if-line_end-eq0.true) (left_end _ c.loop-key.key (omega arith))))
 
 -- .. ours have ended, and theirs have not
 pub returns : goal.returns
 returns c =
-    let p = some_line _ _ c.line_end.ensures.1 c.if-line_end-eq0.false in
+    let p = some_line _ _ c.line_end.ensures.next_line c.if-line_end-eq0.false in
     sym (c.loop-key.invariant.4 ∙ sym (surplus c.loop-key.n p.first (left_end _ c.loop-key.key (omega arith))))

@@ -13,7 +13,7 @@ pub returns-then-not-whole_places : goal.returns-then-not-whole_places
 returns-then-not-whole_places c = no_table _ _ _ c.has_room.ensures _ _ c.if-not-has_room.false c.whole_places.ensures c.if-not-whole_places.true
 
 pub places_in-n-requires : goal.places_in-n-requires
-places_in-n-requires c = sym c.whole_places.ensures ∙ not-false _ c.if-not-whole_places.false
+places_in-n-requires c = sym c.whole_places.ensures ∙ c.if-not-whole_places.false
 
 pub in_order-k-requires : goal.in_order-k-requires
 in_order-k-requires c =
