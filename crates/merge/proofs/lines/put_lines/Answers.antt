@@ -4,6 +4,7 @@ use Prim.Native.Nat.{ℕ, ◌+◌, ◌-◌, ◌≤◌}
 use mathlib.Core.Path.{◌≡◌, refl, sym, ap, ◌∙◌}
 use mathlib.Core.List.{List, [], ◌++◌}
 use native.Mathlib.Omega.{arith}
+use borrow.Author.Tests.{not-true, not-false}
 use lib.ListN.{length}
 use Rattle.text.specs.Code.{Wrote}
 use Rattle.text.proofs.Buffer.{wrote_none, wrote_then, wrote_as}
@@ -24,28 +25,28 @@ next_line-line-requires c = (omega arith, omega arith)
 pub returns-then-not-line : goal.returns-then-not-line
 returns-then-not-line c =
     let w = c.loop-line.invariant.4 in
-    wrote_as w.1.0 (sym (joined_end (nothing_left c.next_line-line.ensures c.if-not-line.true) w.0) ∙ w.1.1)
+    wrote_as w.1.0 (sym (joined_end (nothing_left c.next_line-line.ensures (not-true _ c.if-not-line.true)) w.0) ∙ w.1.1)
 
 pub put_part-middle-requires : goal.put_part-middle-requires
 put_part-middle-requires c =
-    let t = line_left c.next_line-line.ensures c.if-not-line.false in
+    let t = line_left c.next_line-line.ensures (not-false _ c.if-not-line.false) in
     (t.low_i, t.high_i, omega (arith, t.low_i, t.high_i, c.loop-line.invariant.3))
 
 pub put_part-at-requires : goal.put_part-at-requires
 put_part-at-requires c =
-    let t = line_left c.next_line-line.ensures c.if-not-line.false in
+    let t = line_left c.next_line-line.ensures (not-false _ c.if-not-line.false) in
     let a = c.args in
     let n = part_length a.a.now c.loop-line.i c.next_line-line.result.i t.low_i t.high_i in
     (t.low_j, t.high_j, omega (arith, t.low_i, t.high_i, t.low_j, t.high_j, n, c.put_part-middle.ensures.next, c.loop-line.invariant.3))
 
 pub loop-line-smaller : goal.loop-line-smaller
 loop-line-smaller c =
-    let t = line_left c.next_line-line.ensures c.if-not-line.false in
+    let t = line_left c.next_line-line.ensures (not-false _ c.if-not-line.false) in
     omega (arith, t.more, t.low_i, t.low_j, t.high_i, t.high_j)
 
 pub loop-line-preserved : goal.loop-line-preserved
 loop-line-preserved c =
-    let t = line_left c.next_line-line.ensures c.if-not-line.false in
+    let t = line_left c.next_line-line.ensures (not-false _ c.if-not-line.false) in
     let a = c.args in
     let r = c.next_line-line.result in
     let w = c.loop-line.invariant.4 in
