@@ -3,7 +3,6 @@ use mathlib.Core.Path.{sym, ap, ap₂, ◌∙◌}
 use mathlib.Core.Bool.{◌||◌}
 use Rattle.agree.specs.Near.{along, agrees_of}
 use Rattle.agree.proofs.Means.{shown_agrees}
-use borrow.Author.Rules.{rules}
 use Rattle.agree.proofs.agrees.Goals as goal
 
 pub returns-then-shows : goal.returns-then-shows

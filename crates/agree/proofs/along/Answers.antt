@@ -2,7 +2,6 @@
 use mathlib.Core.Path.{ap, ap₂, ◌∙◌}
 use mathlib.Core.Bool.{◌||◌}
 use Rattle.agree.specs.Near.{shows, along}
-use borrow.Author.Rules.{rules}
 use Rattle.agree.proofs.along.Goals as goal
 
 pub returns : goal.returns

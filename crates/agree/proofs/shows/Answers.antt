@@ -2,7 +2,6 @@
 use mathlib.Core.Path.{◌∙◌}
 use Rattle.agree.specs.Near.{shows}
 use Rattle.agree.proofs.Shown.{line_holds, line_same}
-use borrow.Author.Rules.{rules}
 use Rattle.agree.proofs.shows.Goals as goal
 
 pub slice_bounds-same-end : goal.slice_bounds-same-end

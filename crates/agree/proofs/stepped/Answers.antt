@@ -5,7 +5,6 @@ use mir.Facts.{to_z-of_z}
 use mathlib.Core.Path.{◌≡◌, refl, sym, ap, ◌∙◌}
 use Rattle.agree.specs.declared.Way.{Way}
 use Rattle.agree.specs.Near.{up, down, east, west, stepped}
-use borrow.Author.Rules.{rules}
 use Rattle.agree.proofs.stepped.Goals as goal
 
 -- by one of the four, f, whose result and argument come as their bits

@@ -5,7 +5,6 @@ use lib.IntN.{pos}
 use lib.Signed.{lt_z}
 use mir.Syntax.{w64}
 use mir.Facts.{to_z-of_z}
-use borrow.Author.Rules.{rules}
 use Rattle.agree.specs.Near.{down}
 use Rattle.agree.proofs.west.Goals as goal
 

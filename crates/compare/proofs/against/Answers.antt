@@ -1,11 +1,13 @@
 -- `compare::against` meets its contract: the header's line, and then the rows.
+use mathlib.Core.Path.{ap}
+use mathlib.Core.Bool.{not}
 use Rattle.agree.proofs.Shown.{line_holds}
 use Rattle.compare.proofs.Ways.{header_is, header_differs, header_same, within}
 use borrow.Author.Rules.{rules}
 use Rattle.compare.proofs.against.Goals as goal
 
 pub slice_bounds-same-end : goal.slice_bounds-same-end
-slice_bounds-same-end c = within _ c.line_end-end.ensures.1
+slice_bounds-same-end c = within _ c.line_end-end.ensures.next_line
 
 pub slice_bounds-same-end-2 : goal.slice_bounds-same-end-2
 slice_bounds-same-end-2 c =
@@ -13,12 +15,12 @@ slice_bounds-same-end-2 c =
 
 pub returns-then-not-same : goal.returns-then-not-same
 returns-then-not-same c =
-    header_differs c.args.table.now c.args.bad c.requires c.header_of-ours.ensures c.args.theirs.now c.line_end-end.ensures.1 c.same.ensures c.if-not-same.true
+    header_differs c.args.table.now c.args.bad c.requires c.header_of-ours.ensures c.args.theirs.now c.line_end-end.ensures.next_line c.same.ensures (ap not c.if-not-same.true)
 
 pub rows_compared-requires : goal.rows_compared-requires
 rows_compared-requires c =
-    (c.requires, within _ c.line_end-end.ensures.1)
+    (c.requires, within _ c.line_end-end.ensures.next_line)
 
 pub returns : goal.returns
 returns c =
-    header_same c.args.table.now c.args.bad c.requires c.header_of-ours.ensures c.args.theirs.now c.line_end-end.ensures.1 c.same.ensures c.if-not-same.false c.rows_compared.ensures
+    header_same c.args.table.now c.args.bad c.requires c.header_of-ours.ensures c.args.theirs.now c.line_end-end.ensures.next_line c.same.ensures (ap not c.if-not-same.false) c.rows_compared.ensures

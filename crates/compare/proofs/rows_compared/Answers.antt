@@ -5,7 +5,6 @@ use mathlib.Core.Bool.{true, false}
 use mathlib.Core.List.{List, ◌++◌}
 use mathlib.Core.Option.{some}
 use native.Mathlib.Omega.{arith}
-use borrow.Author.Tests.{not-true, not-false}
 use lib.ListN.{length}
 use Rattle.keys.specs.Keys.{end_of_keys}
 use Rattle.track.specs.declared.Track.{Track}
@@ -21,14 +20,6 @@ use Rattle.compare.proofs.Walking.{Next, next_key, first_key, left_end, left_row
 use borrow.Author.Rules.{rules}
 use Rattle.compare.proofs.rows_compared.Goals as goal
 
-line_at : (c : tie.After-row-in invariant-loop decreases-loop) → LineTo c.before.before.before.before.before.before.before.before.args.theirs.now c.before.before.before.before.loop.at c.before.before.line-end.result
-line_at c = some_line _ _ c.before.before.line-end.ensures.1 c.before.if1.false
-
-key-next : (c : tie.After-key-above2 invariant-loop decreases-loop)
-    → Next c.before.before.before.before.before.before.before.before.before.before.before.before.args.table.now c.before.before.before.before.before.before.before.before.loop.key c.key-above2.result
-key-next c =
-    next_key _ c.before.before.before.before.before.before.before.before.before.before.before.before.requires.0 _ c.before.before.before.before.before.before.before.loop-test.true c.key-above2.ensures
-
 pub loop-key-init : goal.loop-key-init
 loop-key-init c =
     let s = c.args.table.now in
@@ -39,35 +30,43 @@ loop-key-init c =
 pub returns-then-end-eq0 : goal.returns-then-end-eq0
 returns-then-end-eq0 c =
     let in-loop = c.loop-key-test.true in
-    sym (c.loop-key.invariant.4 ∙ sym (missing c.loop-key.n (no_line _ c.loop-key.at c.line_end-end.ensures.1 c.if-end-eq0.true) (left_row _ c.requires.0 c.loop-key.key in-loop (c.loop-key.invariant.3 in-loop) refl)))
+    sym (c.loop-key.invariant.4 ∙ sym (missing c.loop-key.n (no_line _ c.loop-key.at c.line_end-end.ensures.next_line c.if-end-eq0.true) (left_row _ c.requires.0 c.loop-key.key in-loop (c.loop-key.invariant.3 in-loop) refl)))
 
 pub slice_bounds-agrees-count : goal.slice_bounds-agrees-count
-slice_bounds-agrees-count c = omega (arith, (line_at c).low, (line_at c).high)
+slice_bounds-agrees-count c =
+    let p = some_line _ _ c.line_end-end.ensures.next_line c.if-end-eq0.false in
+    omega (arith, p.low, p.high)
 
 pub slice_bounds-agrees-start : goal.slice_bounds-agrees-start
-slice_bounds-agrees-start c = omega (arith, (line_at c).low, (line_at c).high)
+slice_bounds-agrees-start c =
+    let p = some_line _ _ c.line_end-end.ensures.next_line c.if-end-eq0.false in
+    omega (arith, p.low, p.high)
 
 pub slice_bounds-agrees-end : goal.slice_bounds-agrees-end
-slice_bounds-agrees-end c = omega (arith, (line_at c).low, (line_at c).high)
+slice_bounds-agrees-end c =
+    let p = some_line _ _ c.line_end-end.ensures.next_line c.if-end-eq0.false in
+    omega (arith, p.low, p.high)
 
 pub returns-then-not-agrees : goal.returns-then-not-agrees
 returns-then-not-agrees c =
     let in-loop = c.loop-key-test.true in
-    let p = line_at x in
+    let p = some_line _ _ c.line_end-end.ensures.next_line c.if-end-eq0.false in
     let q = left_row _ c.requires.0 c.loop-key.key in-loop (c.loop-key.invariant.3 in-loop) c.row_in-row.ensures in
-    let d : agrees_of (p.line ++ newline) c.row_in-row.result ≡ false = ap (λ (t : List ℕ). agrees_of t c.row_in-row.result) p.text ∙ sym c.agrees.ensures ∙ not-true _ c.if-not-agrees.true in
+    let d : agrees_of (p.line ++ newline) c.row_in-row.result ≡ false = ap (λ (t : List ℕ). agrees_of t c.row_in-row.result) p.text ∙ sym c.agrees.ensures ∙ c.if-not-agrees.true in
     sym (c.loop-key.invariant.4 ∙ sym (differs c.loop-key.n p.first q d))
 
 pub loop-key-smaller : goal.loop-key-smaller
-loop-key-smaller c = omega (arith, (key-next c).low, (key-next c).most)
+loop-key-smaller c =
+    let k = next_key _ c.requires.0 _ c.loop-key-test.true c.key_above-key-2.ensures in
+    omega (arith, k.low, k.most)
 
 pub loop-key-preserved : goal.loop-key-preserved
 loop-key-preserved c =
     let in-loop = c.loop-key-test.true in
-    let p = line_at x in
+    let p = some_line _ _ c.line_end-end.ensures.next_line c.if-end-eq0.false in
     let q = left_row _ c.requires.0 c.loop-key.key in-loop (c.loop-key.invariant.3 in-loop) c.row_in-row.ensures in
-    let k = key-next c in
-    let d : agrees_of (p.line ++ newline) c.row_in-row.result ≡ true = ap (λ (t : List ℕ). agrees_of t c.row_in-row.result) p.text ∙ sym c.agrees.ensures ∙ not-false _ c.if-not-agrees.false in (
+    let k = next_key _ c.requires.0 _ c.loop-key-test.true c.key_above-key-2.ensures in
+    let d : agrees_of (p.line ++ newline) c.row_in-row.result ≡ true = ap (λ (t : List ℕ). agrees_of t c.row_in-row.result) p.text ∙ sym c.agrees.ensures ∙ c.if-not-agrees.false in (
       k.most,
       omega (arith, k.low, c.loop-key.invariant.1),
       p.high,
@@ -77,10 +76,10 @@ loop-key-preserved c =
 
 pub returns-then-line_end-eq0 : goal.returns-then-line_end-eq0
 returns-then-line_end-eq0 c =
-    sym (c.loop-key.invariant.4 ∙ sym (both_end c.loop-key.n (no_line _ c.loop-key.at c.line_end.ensures.1 c.if-line_end-eq0.true) (left_end _ c.loop-key.key (omega arith))))
+    sym (c.loop-key.invariant.4 ∙ sym (both_end c.loop-key.n (no_line _ c.loop-key.at c.line_end.ensures.next_line c.if-line_end-eq0.true) (left_end _ c.loop-key.key (omega arith))))
 
 -- .. ours have ended, and theirs have not
 pub returns : goal.returns
 returns c =
-    let p = some_line _ _ c.line_end.ensures.1 c.if-line_end-eq0.false in
+    let p = some_line _ _ c.line_end.ensures.next_line c.if-line_end-eq0.false in
     sym (c.loop-key.invariant.4 ∙ sym (surplus c.loop-key.n p.first (left_end _ c.loop-key.key (omega arith))))

@@ -5,7 +5,6 @@ use native.Mathlib.Omega.{arith}
 use Rattle.feed.specs.Feed.{blocks_in, records_in}
 use Rattle.feed.proofs.Records.{records_on}
 use borrow.Author.Rules.{rules}
-use Rattle.feed.proofs.records_in.Invariants.{:, =}
 use Rattle.feed.proofs.records_in.Goals as goal
 
 pub loop-k-init : goal.loop-k-init

@@ -7,23 +7,6 @@ use Rattle.feed.proofs.Records.{records_on}
 use borrow.Author.Rules.{rules}
 use Rattle.feed.proofs.records_in.Given as goal
 
-pub records-in-spec : {M : Type 1} → statement M
-
-pub records-in-spec =
-    tie.close
-    (tie.spec
-    invariant-loop
-    decreases-loop
-    blocks-in-requires
-    loop-holds
-    block-at-requires
-    block-records-requires
-    add-records
-    add-k
-    loop-less
-    loop-again
-    returns)
-
 abbrev pub invariant-loop-k : goal.invariant-loop-k
 invariant-loop-k l = (l.k ≤ l.n) × (l.records ≤ 23 * l.k) × (l.records ≡ records_in l.capture l.k)
 

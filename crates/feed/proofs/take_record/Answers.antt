@@ -6,10 +6,6 @@ use Rattle.feed.proofs.Ways.{record_taken, none_taken}
 use borrow.Author.Rules.{rules}
 use Rattle.feed.proofs.take_record.Goals as goal
 
-record-of-requires : tie.Need-record-of-requires
-
-record-of-requires c κs = search rules
-
 pub overflow_add-end : goal.overflow_add-end
 overflow_add-end c =
     let a = c.args in

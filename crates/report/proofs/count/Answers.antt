@@ -2,12 +2,12 @@
 use Prim.Native.Nat.{ℕ, ◌-◌, ◌≤◌}
 use native.Mathlib.Omega.{arith}
 use mathlib.Core.Bool.{Bool}
-use mathlib.Core.Logic.{⊎_elim}
 use mathlib.Core.Path.{◌≡◌, refl, ◌∙◌}
 use borrow.Author.Rules.{rules}
 use Rattle.report.specs.Code.{has_row}
 use Rattle.report.proofs.Counted.{one, sum, counted_yes, counted_no, counted_all}
 use Rattle.report.proofs.count.Goals as goal
+use Rattle.report.proofs.count.Goals.{then-has_row, else-has_row}
 
 pub loop-i-init : goal.loop-i-init
 loop-i-init c = (search rules, search rules, refl)
@@ -15,14 +15,11 @@ loop-i-init c = (search rules, search rules, refl)
 pub loop-i-preserved : goal.loop-i-preserved
 loop-i-preserved c =
     let a = c.args in
-    let has : ℕ → Bool = λ j. has_row a.all c.clock_of-clock.result a.table.now c.places_in-n.result j in (
-      search rules,
-      ⊎_elim (λ w. omega arith) (λ w. omega arith) c.if-has_row.branch,
-      ⊎_elim
-          (λ w. w.1 ∙ counted_yes has c.loop-i.i c.loop-i.invariant.2 c.has_row.ensures w.0.taken)
-          (λ w. w.1 ∙ counted_no has c.loop-i.i c.loop-i.invariant.2 c.has_row.ensures w.0.left)
-          c.if-has_row.branch,
-    )
+    let has : ℕ → Bool = λ j. has_row a.all c.clock_of-clock.result a.table.now c.places_in-n.result j in
+    elim c.if-has_row.branch [
+      then-has_row w ↦ (search rules, omega arith, w.rows-is ∙ counted_yes has c.loop-i.i c.loop-i.invariant.2 c.has_row.ensures w.if-has_row.true)
+    | else-has_row w ↦ (search rules, omega arith, w.rows-is ∙ counted_no has c.loop-i.i c.loop-i.invariant.2 c.has_row.ensures w.if-has_row.false)
+    ]
 
 pub returns : goal.returns
 returns c =

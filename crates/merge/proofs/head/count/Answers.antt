@@ -14,21 +14,21 @@ loop-from-init c = (search rules, omega arith, omega arith)
 
 pub returns-then-end-eq0 : goal.returns-then-end-eq0
 returns-then-end-eq0 c =
-    let z = ap length (no_line _ c.loop-from.at c.line_end-end.ensures.1 c.if-end-eq0.true) in
+    let z = ap length (no_line _ c.loop-from.at c.line_end-end.ensures.next_line c.if-end-eq0.true) in
     (omega (arith, z, c.loop-from.invariant.2), omega arith)
 
 pub overflow_add-n : goal.overflow_add-n
 overflow_add-n c =
-    let p = some_line _ _ c.line_end-end.ensures.1 c.if-end-eq0.false in
+    let p = some_line _ _ c.line_end-end.ensures.next_line c.if-end-eq0.false in
     omega (arith, p.low, p.high)
 
 pub loop-from-smaller : goal.loop-from-smaller
 loop-from-smaller c =
-    let p = some_line _ _ c.line_end-end.ensures.1 c.if-end-eq0.false in
+    let p = some_line _ _ c.line_end-end.ensures.next_line c.if-end-eq0.false in
     omega (arith, p.low, p.high)
 
 pub loop-from-preserved : goal.loop-from-preserved
 loop-from-preserved c =
-    let p = some_line _ _ c.line_end-end.ensures.1 c.if-end-eq0.false in
+    let p = some_line _ _ c.line_end-end.ensures.next_line c.if-end-eq0.false in
     let z = ap length p.first in
     (p.high, omega (arith, p.low), omega (arith, z, c.loop-from.invariant.2))

@@ -3,7 +3,6 @@ use borrow.Author.Rules.{rules}
 use Prim.Native.Nat.{ℕ, ◌+◌, ◌-◌, ◌≤◌}
 use mathlib.Core.Path.{◌≡◌, refl, ap, sym, ◌∙◌}
 use native.Mathlib.Omega.{arith}
-use borrow.Author.Tests.{not-true, not-false}
 use lib.ListN.{length, drop, get_or}
 use Rattle.form.specs.Form.{is_digit}
 use Rattle.merge.specs.Merged.{number_from, behind}
@@ -19,7 +18,7 @@ pub returns-then-not-is_digit : goal.returns-then-not-is_digit
 returns-then-not-is_digit c =
     let s = c.args.s.now in
     let h = c.loop-i-test.true in
-    let d = sym c.is_digit.ensures ∙ not-true _ c.if-not-is_digit.true in
+    let d = sym c.is_digit.ensures ∙ c.if-not-is_digit.true in
     record {
       value = sym (c.loop-i.invariant.1 ∙ number_stops s c.loop-i.i h d c.loop-i.n);
       rest = sym (c.loop-i.invariant.2 ∙ behind_stops s c.loop-i.i h d);
@@ -27,13 +26,13 @@ returns-then-not-is_digit c =
     }
 
 pub further-n-requires : goal.further-n-requires
-further-n-requires c = digit_range _ (sym c.is_digit.ensures ∙ not-false _ c.if-not-is_digit.false)
+further-n-requires c = digit_range _ (sym c.is_digit.ensures ∙ c.if-not-is_digit.false)
 
 pub loop-i-preserved : goal.loop-i-preserved
 loop-i-preserved c =
     let s = c.args.s.now in
     let h = c.loop-i-test.true in
-    let d = sym c.is_digit.ensures ∙ not-false _ c.if-not-is_digit.false in
+    let d = sym c.is_digit.ensures ∙ c.if-not-is_digit.false in
     (search rules, c.loop-i.invariant.1 ∙ number_goes s c.loop-i.i h d c.loop-i.n ∙ ap (λ (x : ℕ). number_from x (drop (c.loop-i.i + 1) s)) (sym c.further-n.ensures), c.loop-i.invariant.2 ∙ behind_goes s c.loop-i.i h d)
 
 pub returns : goal.returns

@@ -7,8 +7,8 @@ use Rattle.merge.proofs.key.hex_value.Goals as goal
 
 pub returns-then-b-le57 : goal.returns-then-b-le57
 unfolding hex_value
-returns-then-b-le57 c = (simp (le-leb _ _ c.if-b-le57.true) c.above.ensures, omega (arith, c.above.ensures))
+returns-then-b-le57 c = record { value = simp (le-leb _ _ c.if-b-le57.true) c.above.ensures; upper_bound = omega (arith, c.above.ensures) }
 
 pub returns : goal.returns
 unfolding hex_value
-returns c = (simp (lt-leb _ _ c.if-b-le57.false) c.above-2.ensures, omega (arith, c.above-2.ensures))
+returns c = record { value = simp (lt-leb _ _ c.if-b-le57.false) c.above-2.ensures; upper_bound = omega (arith, c.above-2.ensures) }

@@ -7,18 +7,17 @@ use Rattle.report.specs.Listing.{feet}
 use borrow.Author.Rules.{rules}
 use Rattle.report.proofs.row.feet.Goals as goal
 
-narrow : (c : tie.After-known-told) → SFits w32 c.before.a.given.0.0
-narrow c = record { sfits = c.known-told.given.0.1 }
-
-wide : (c : tie.After-known-told) → SFits w64 c.before.a.given.0.0
-wide c = sfits_widen tt (narrow c)
-
 pub overflow_cast-result : goal.overflow_cast-result
-overflow_cast-result c = rw (to_z-of_z (narrow c)) (wide c)
+overflow_cast-result c =
+    let narrow : SFits w32 c.in-Feet.feet = search rules in
+    rw (to_z-of_z narrow) (sfits_widen tt narrow)
 
 pub returns-in-Feet : goal.returns-in-Feet
 unfolding feet
-returns-in-Feet c = rw (to_z-of_z (narrow c), to_z-of_z (wide c)) (sym (ap feet c.in-Feet.is))
+returns-in-Feet c =
+    let narrow : SFits w32 c.in-Feet.feet = search rules in
+    let wide : SFits w64 c.in-Feet.feet = sfits_widen tt narrow in
+    rw (to_z-of_z narrow, to_z-of_z wide) (sym (ap feet c.in-Feet.is))
 
 pub returns-in-Unknown : goal.returns-in-Unknown
 unfolding feet

@@ -8,7 +8,7 @@ use Rattle.report.proofs.row.longitude_in.Goals as goal
 
 pub returns-then-p : goal.returns-then-p
 unfolding longitude_in
-returns-then-p c = rw (to_z_pos w64 {n = c.args.p.spot.longitude} (omega (arith, c.struct_known-1.given)), c.if-p.true)
+returns-then-p c = rw (to_z_pos w64 {n = c.args.p.spot.longitude} (omega arith), c.if-p.true)
 
 pub returns-else-p : goal.returns-else-p
 unfolding longitude_in

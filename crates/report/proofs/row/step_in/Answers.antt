@@ -9,7 +9,7 @@ use Rattle.report.proofs.row.step_in.Goals as goal
 
 pub returns-in-Feet : goal.returns-in-Feet
 unfolding step_in
-returns-in-Feet c = rw (to_z_pos w64 {n = c.in-Feet.step} (omega (arith, c.in-Feet.given))) (sym (ap step_in c.in-Feet.is))
+returns-in-Feet c = rw (to_z_pos w64 {n = c.in-Feet.step} (omega arith)) (sym (ap step_in c.in-Feet.is))
 
 pub returns-in-Unknown : goal.returns-in-Unknown
 unfolding step_in

@@ -1,13 +1,13 @@
 -- `whole::lines::count` meets its contract: of the entries that the loop has passed those that are shown are counted.
 use Prim.Native.Nat.{ℕ, ◌-◌, ◌≤◌, ◌<◌}
 use native.Mathlib.Omega.{arith}
-use mathlib.Core.Logic.{⊎_elim}
 use mathlib.Core.Path.{◌≡◌, ap, ◌∙◌}
 use lib.ListN.{length, take}
 use borrow.Author.Rules.{rules}
 use Rattle.whole.specs.Code.{rows_at}
 use Rattle.whole.proofs.Steps.{counted_start, counted_yes, counted_no}
 use Rattle.whole.proofs.lines.count.Goals as goal
+use Rattle.whole.proofs.lines.count.Goals.{then-is_shown, else-is_shown}
 
 pub loop-j-init : goal.loop-j-init
 loop-j-init c = (search rules, search rules, let a = c.args in counted_start a.all a.table.now a.n a.order.now)
@@ -20,14 +20,11 @@ is_shown-requires c =
 pub loop-j-preserved : goal.loop-j-preserved
 loop-j-preserved c =
     let a = c.args in
-    let in_range_lem : c.loop-j.j < length a.order.now = omega (arith, c.requires.1.many) in (
-      search rules,
-      ⊎_elim (λ w. omega arith) (λ w. omega arith) c.if-is_shown.branch,
-      ⊎_elim
-          (λ w. w.1 ∙ counted_yes a.all a.table.now a.n a.order.now c.loop-j.j in_range_lem c.loop-j.invariant.2 c.is_shown.ensures w.0.taken)
-          (λ w. w.1 ∙ counted_no a.all a.table.now a.n a.order.now c.loop-j.j in_range_lem c.loop-j.invariant.2 c.is_shown.ensures w.0.left)
-          c.if-is_shown.branch,
-    )
+    let in_range_lem : c.loop-j.j < length a.order.now = omega (arith, c.requires.1.many) in
+    elim c.if-is_shown.branch [
+      then-is_shown w ↦ (search rules, omega arith, w.rows-is ∙ counted_yes a.all a.table.now a.n a.order.now c.loop-j.j in_range_lem c.loop-j.invariant.2 c.is_shown.ensures w.if-is_shown.true)
+    | else-is_shown w ↦ (search rules, omega arith, w.rows-is ∙ counted_no a.all a.table.now a.n a.order.now c.loop-j.j in_range_lem c.loop-j.invariant.2 c.is_shown.ensures w.if-is_shown.false)
+    ]
 
 pub returns : goal.returns
 returns c =

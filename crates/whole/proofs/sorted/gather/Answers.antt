@@ -1,7 +1,6 @@
 -- `whole::sorted::gather` meets its contract: the entries of the places that the loop has passed stand at the front.
 use Prim.Native.Nat.{ℕ, ◌-◌, ◌≤◌, ◌<◌}
 use native.Mathlib.Omega.{arith}
-use mathlib.Core.Logic.{⊎_elim}
 use mathlib.Core.Path.{◌≡◌, ap, ◌∙◌}
 use lib.ListN.{length, length-set}
 use borrow.Author.Rules.{rules}
@@ -9,6 +8,7 @@ use Rattle.order.specs.Sorted.{over}
 use Rattle.whole.specs.Whole.{entries_of}
 use Rattle.whole.proofs.Steps.{gathered_start, gathered_one, gathered_none}
 use Rattle.whole.proofs.sorted.gather.Goals as goal
+use Rattle.whole.proofs.sorted.gather.Goals.{then-is_held, else-is_held}
 
 pub loop-i-init : goal.loop-i-init
 loop-i-init c =
@@ -24,14 +24,14 @@ loop-i-preserved c =
     let body = c.body.ensures.0 in
     let held = c.is_held.ensures in
     let room : c.loop-i.k < length a.order.now = omega (arith, c.requires.2) in
-    ⊎_elim
-    (λ w.
-    let g = gathered_one a.table.now c.loop-i.i c.requires.0 clock key body held a.order.now c.loop-i.invariant.3 c.loop-i.invariant.4 w.0.taken room in
-    (search rules, omega arith, ap length w.1 ∙ simp length-set c.loop-i.invariant.2, w.2 ∙ g.0, w.1 ∙ g.1))
-    (λ w.
-    let g = gathered_none a.table.now c.loop-i.i c.requires.0 clock key body held a.order.now c.loop-i.invariant.3 c.loop-i.invariant.4 w.0.left in
-    (search rules, omega arith, ap length w.1 ∙ c.loop-i.invariant.2, w.2 ∙ g.0, w.1 ∙ g.1))
-    c.if-is_held.branch
+    elim c.if-is_held.branch [
+      then-is_held w ↦
+        let g = gathered_one a.table.now c.loop-i.i c.requires.0 clock key body held a.order.now c.loop-i.invariant.3 c.loop-i.invariant.4 w.if-is_held.true room in
+        (search rules, omega arith, ap length w.order-is ∙ simp length-set c.loop-i.invariant.2, w.k-is ∙ g.0, w.order-is ∙ g.1)
+    | else-is_held w ↦
+        let g = gathered_none a.table.now c.loop-i.i c.requires.0 clock key body held a.order.now c.loop-i.invariant.3 c.loop-i.invariant.4 w.if-is_held.false in
+        (search rules, omega arith, ap length w.order-is ∙ c.loop-i.invariant.2, w.k-is ∙ g.0, w.order-is ∙ g.1)
+    ]
 
 pub returns : goal.returns
 returns c =
