@@ -26,7 +26,7 @@ use Rattle.addercoil.specs.Blocks.{Both, both, fed_into}
 use Rattle.addercoil.specs.Tables.{next_said, set_up_sent}
 use Rattle.arbiter.specs.Checks.{check_said}
 use Rattle.display.specs.Lines.{line_buffer, header_said, line_said}
-use Rattle.c_promises.proofs.Every.{lend, set_up_met}
+use Rattle.c_promises.proofs.Every.{lend, lend_mut, set_up_met}
 use Rattle.c_listings.specs.Calls.{Header, Line, Next, FeedBlock, Check}
 use Rattle.c_listings.specs.Prints.{Lines, Lines.last, Lines.line, Prints, Prints.prints}
 use Rattle.c_listings.specs.Checks.{Fed, Fed.none_fed, Fed.one_fed, OurListing}
@@ -37,8 +37,8 @@ pub header_met : (table : List ℕ) (bad all : ℕ) (buffer : List ℕ) → Head
 header_met table bad all buffer =
     record {
       κs = ([], ([], tt));
-      args = (lend table, (bad, (all, (lend buffer, tt))));
-      left = (lend table, (bad, (all, (lend (into line_buffer buffer (header_said all table bad)).array, tt))));
+      args = (lend table, (bad, (all, (lend_mut buffer, tt))));
+      left = (lend table, (bad, (all, (lend_mut (into line_buffer buffer (header_said all table bad)).array, tt))));
       lent = refl;
       counted = refl;
       asked = refl;
@@ -51,8 +51,8 @@ pub line_met : (table : List ℕ) (key all : ℕ) (buffer : List ℕ) → Line t
 line_met table key all buffer =
     record {
       κs = ([], ([], tt));
-      args = (lend table, (key, (all, (lend buffer, tt))));
-      left = (lend table, (key, (all, (lend (into line_buffer buffer (line_said all table key)).array, tt))));
+      args = (lend table, (key, (all, (lend_mut buffer, tt))));
+      left = (lend table, (key, (all, (lend_mut (into line_buffer buffer (line_said all table key)).array, tt))));
       lent = refl;
       its_key = refl;
       asked = refl;
@@ -65,8 +65,8 @@ pub next_met : (table : List ℕ) (key : ℕ) (out : List ℕ) → Next table ke
 next_met table key out =
     record {
       κs = ([], ([], tt));
-      args = (lend table, (key, (lend out, tt)));
-      left = (lend table, (key, (lend (into 1 out (next_said (next_above table key))).array, tt)));
+      args = (lend table, (key, (lend_mut out, tt)));
+      left = (lend table, (key, (lend_mut (into 1 out (next_said (next_above table key))).array, tt)));
       lent = refl;
       its_key = refl;
       into = refl;
@@ -78,8 +78,8 @@ pub feed_block_met : (table block : List ℕ) (bad : ℕ) (out : List ℕ) → F
 feed_block_met table block bad out =
     record {
       κs = ([], ([], ([], tt)));
-      args = (lend table, (lend block, (bad, (lend out, tt))));
-      left = (lend (block_sent table block bad out).table, (lend block, (bad, (lend (block_sent table block bad out).sent.array, tt))));
+      args = (lend_mut table, (lend block, (bad, (lend_mut out, tt))));
+      left = (lend_mut (block_sent table block bad out).table, (lend block, (bad, (lend_mut (block_sent table block bad out).sent.array, tt))));
       lent = refl;
       brings = refl;
       counted = refl;
@@ -93,8 +93,8 @@ pub check_met : (capture text out : List ℕ) → Check capture text out (into 1
 check_met capture text out =
     record {
       κs = ([], ([], ([], tt)));
-      args = (lend capture, (lend text, (lend out, tt)));
-      left = (lend capture, (lend text, (lend (into 1 out (check_said (checked capture text))).array, tt)));
+      args = (lend capture, (lend text, (lend_mut out, tt)));
+      left = (lend capture, (lend text, (lend_mut (into 1 out (check_said (checked capture text))).array, tt)));
       of = refl;
       brings = refl;
       into = refl;

@@ -6,7 +6,7 @@ use mathlib.Core.Option.{Option, some, none}
 use mathlib.Core.List.{List, [], ◌∷◌}
 use lib.IntN.{ℤ}
 use lib.Ieee.{Float}
-use denote.Ref.{Bor}
+use denote.Ref.{Bor, MutBor}
 use Rattle.entries.specs.Sent.{Sent, sent, into}
 use Rattle.messages.specs.Message.{decoded}
 use Rattle.whereabouts.specs.Located.{no_site, site_at}
@@ -27,17 +27,20 @@ use Rattle.c_promises.specs.Runs.{Site, site_of, Begin, Ran, Ran.stopped, Ran.th
 use Rattle.c_promises.specs.Stamps as stamps
 use Rattle.c_promises.specs.Stamps.{RanStamps, RunStamps}
 
--- a lent array, wherever it stands
+-- a lent array, wherever it stands: to be read, and to be written
 abbrev pub lend : {A : Type 0} → List A → Bor (List A)
 lend s = record { ref_ptr = (0, 0); now = s }
+
+abbrev pub lend_mut : {A : Type 0} → List A → MutBor (List A)
+lend_mut s = record { ref_ptr = (0, 0); ghost_name = 0; now = s }
 
 pub set_up_met : (table : List ℕ) → SetUp table (set_up_sent (set_up table))
 unfolding set_up_sent
 set_up_met table =
     record {
       κs = ([], tt);
-      args = (lend table, tt);
-      left = (lend (set_up table).table, tt);
+      args = (lend_mut table, tt);
+      left = (lend_mut (set_up table).table, tt);
       lent = refl;
       leaves = refl;
       meets = refl;
@@ -48,8 +51,8 @@ unfolding set_up_sent
 set_up_at_met table latitude longitude =
     record {
       κs = ([], tt);
-      args = (lend table, (latitude, (longitude, tt)));
-      left = (lend (set_up_at table (record { latitude = latitude; longitude = longitude })).table, (latitude, (longitude, tt)));
+      args = (lend_mut table, (latitude, (longitude, tt)));
+      left = (lend_mut (set_up_at table (record { latitude = latitude; longitude = longitude })).table, (latitude, (longitude, tt)));
       lent = refl;
       north = refl;
       east = refl;
@@ -62,8 +65,8 @@ unfolding received_sent
 receive_met table message time =
     record {
       κs = ([], ([], tt));
-      args = (lend table, (lend message, (time, tt)));
-      left = (lend (received table message time).table, (lend message, (time, tt)));
+      args = (lend_mut table, (lend message, (time, tt)));
+      left = (lend_mut (received table message time).table, (lend message, (time, tt)));
       lent = refl;
       brings = refl;
       at = refl;
@@ -75,8 +78,8 @@ pub look_up_met : (table : List ℕ) (key : ℕ) (track : List ℕ) → LookUp t
 look_up_met table key track =
     record {
       κs = ([], ([], tt));
-      args = (lend table, (key, (lend track, tt)));
-      left = (lend table, (key, (lend (into 72 track (looked_said key (looked_up table key))).array, tt)));
+      args = (lend table, (key, (lend_mut track, tt)));
+      left = (lend table, (key, (lend_mut (into 72 track (looked_said key (looked_up table key))).array, tt)));
       lent = refl;
       asks = refl;
       into = refl;
@@ -88,8 +91,8 @@ pub clock_met : (table out : List ℕ) → Clock table out (into 1 out (clock_sa
 clock_met table out =
     record {
       κs = ([], ([], tt));
-      args = (lend table, (lend out, tt));
-      left = (lend table, (lend (into 1 out (clock_said (clock_in table))).array, tt));
+      args = (lend table, (lend_mut out, tt));
+      left = (lend table, (lend_mut (into 1 out (clock_said (clock_in table))).array, tt));
       lent = refl;
       into = refl;
       leaves = refl;
@@ -100,8 +103,8 @@ pub decode_met : (message fields : List ℕ) → Decode message fields (into 28 
 decode_met message fields =
     record {
       κs = ([], ([], tt));
-      args = (lend message, (lend fields, tt));
-      left = (lend message, (lend (into 28 fields (message_said (decoded message))).array, tt));
+      args = (lend message, (lend_mut fields, tt));
+      left = (lend message, (lend_mut (into 28 fields (message_said (decoded message))).array, tt));
       brings = refl;
       into = refl;
       leaves = refl;
@@ -112,8 +115,8 @@ pub replay_met : (log : List ℕ) (kind address : ℕ) (track : List ℕ) → Re
 replay_met log kind address track =
     record {
       κs = ([], ([], tt));
-      args = (lend log, (kind, (address, (lend track, tt))));
-      left = (lend log, (kind, (address, (lend (into 72 track (replay_said log kind address no_site)).array, tt))));
+      args = (lend log, (kind, (address, (lend_mut track, tt))));
+      left = (lend log, (kind, (address, (lend_mut (into 72 track (replay_said log kind address no_site)).array, tt))));
       lent = refl;
       its_kind = refl;
       its_address = refl;
@@ -127,8 +130,8 @@ pub replay_at_met : (log : List ℕ) (kind address : ℕ) (latitude : ℤ) (long
 replay_at_met log kind address latitude longitude track =
     record {
       κs = ([], ([], tt));
-      args = (lend log, (kind, (address, (latitude, (longitude, (lend track, tt))))));
-      left = (lend log, (kind, (address, (latitude, (longitude, (lend (into 72 track (replay_said log kind address (site_at (record { latitude = latitude; longitude = longitude })))).array, tt))))));
+      args = (lend log, (kind, (address, (latitude, (longitude, (lend_mut track, tt))))));
+      left = (lend log, (kind, (address, (latitude, (longitude, (lend_mut (into 72 track (replay_said log kind address (site_at (record { latitude = latitude; longitude = longitude })))).array, tt))))));
       lent = refl;
       its_kind = refl;
       its_address = refl;
@@ -143,8 +146,8 @@ pub replay_coarse_met : (log : List ℕ) (address flag station : ℕ) (track : L
 replay_coarse_met log address flag station track =
     record {
       κs = ([], ([], tt));
-      args = (lend log, (address, (flag, (station, (lend track, tt)))));
-      left = (lend log, (address, (flag, (station, (lend (into 72 track (coarse_said log address flag station)).array, tt)))));
+      args = (lend log, (address, (flag, (station, (lend_mut track, tt)))));
+      left = (lend log, (address, (flag, (station, (lend_mut (into 72 track (coarse_said log address flag station)).array, tt)))));
       lent = refl;
       its_address = refl;
       its_flag = refl;
@@ -158,8 +161,8 @@ pub receive_stamp_met : (table message : List ℕ) (stamp : ℕ) (state : List �
 receive_stamp_met table message stamp state =
     record {
       κs = ([], ([], ([], tt)));
-      args = (lend table, (lend message, (stamp, (lend state, tt))));
-      left = (lend (received_stamp table message stamp state).table, (lend message, (stamp, (lend (received_stamp table message stamp state).sent.array, tt))));
+      args = (lend_mut table, (lend message, (stamp, (lend_mut state, tt))));
+      left = (lend_mut (received_stamp table message stamp state).table, (lend message, (stamp, (lend_mut (received_stamp table message stamp state).sent.array, tt))));
       lent = refl;
       brings = refl;
       at = refl;
@@ -173,8 +176,8 @@ pub in_degrees_met : (latitude : ℤ) (longitude : ℕ) (out : List Float) → I
 in_degrees_met latitude longitude out =
     record {
       κs = ([], tt);
-      args = (latitude, (longitude, (lend out, tt)));
-      left = (latitude, (longitude, (lend (degrees_plotted out latitude longitude).array, tt)));
+      args = (latitude, (longitude, (lend_mut out, tt)));
+      left = (latitude, (longitude, (lend_mut (degrees_plotted out latitude longitude).array, tt)));
       north = refl;
       east = refl;
       into = refl;
@@ -186,8 +189,8 @@ pub from_degrees_met : (x y : Float) (out : List ℕ) → FromDegrees x y out (i
 from_degrees_met x y out =
     record {
       κs = ([], tt);
-      args = (x, (y, (lend out, tt)));
-      left = (x, (y, (lend (into 2 out (from_degrees_said x y)).array, tt)));
+      args = (x, (y, (lend_mut out, tt)));
+      left = (x, (y, (lend_mut (into 2 out (from_degrees_said x y)).array, tt)));
       north = refl;
       east = refl;
       into = refl;

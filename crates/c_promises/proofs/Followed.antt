@@ -103,12 +103,12 @@ module _ {S : Type 0} (F : Form S) (rule : Rule S) (table_in : S → List ℕ) (
       let r : Sees (call rule s c).table cs ≡ Sees (call rule t c).table ds = cc in (
         λ z. a-is ∙ ap (λ (d : Decoded). heard_number (heard_as d)) (same_answer (own key c) z (ap (λ (k : Seen). k.answer) h)) ∙ sym b-is,
         one_track s t c c h a-left b-left w v,
-        side_by_side more p q r,
+        side_by_side {s = (call rule s c).table} {t = (call rule t c).table} more p q r,
       )
   side_by_side {s} {t} (others c d {xs = cs} {ys = ds} o n i more) (one_more a-is a-left w p) (one_more b-is b-left v q) e =
       let h : saw_of s c ≡ saw_of t d = cc in
       let r : Sees (call rule s c).table cs ≡ Sees (call rule t d).table ds = cc in (
         λ z. absurd (false≢true (sym o ∙ z)),
         one_track s t c d h a-left b-left w v,
-        side_by_side more p q r,
+        side_by_side {s = (call rule s c).table} {t = (call rule t d).table} more p q r,
       )

@@ -87,7 +87,7 @@ none_far : (last : Option ℕ) (cs : List Call) (rs : List (After Stamped)) → 
 none_far last [] rs f = tt
 none_far last (c ∷ cs) [] f = tt
 none_far last (c ∷ cs) (r ∷ rs) f =
-    (f.0, none_far _ cs rs (subst (λ (b : Bool). NoneFar (cond b (some c.time) last) cs (map told rs)) (same_accepted r.answer.answer) f.1))
+    (f.0, none_far (cond (is_accepted r.answer.answer) (some c.time) last) cs rs (subst (λ (b : Bool). NoneFar (cond b (some c.time) last) cs (map told rs)) (same_accepted r.answer.answer) f.1))
 
 -- ---- at which time a message was received
 

@@ -31,7 +31,7 @@ returns-then-not-is_layout c =
     let l = layout_by (coarse_in a.key) a.me in
     let layout = c.layout_by-layout.ensures ∙ ap (λ (b : Bool). layout_by b a.me) c.coarse_in.ensures in
     let key = sym (ap (λ (b : Bool). wider 56 a.me || not b) c.is_key.ensures) ∙ c.if-me-is_key.false in
-    let type = sym (ap not (c.is_layout.ensures ∙ ap is_taken layout)) ∙ c.if-not-is_layout.true in
+    let type = sym (ap not (c.is_layout.ensures ∙ ap is_taken layout)) ∙ ap not c.if-not-is_layout.true in
     into_given 28 out (me_said a.me a.key) c.if-fields-ne-ROW.false
     (stopped out (not (is_taken l)) 5 (gives (me_row l a.me (traffic_in a.key))) type
     ∙ passed out (wider 56 a.me || not (is_key a.key)) (number 8) _ key)
@@ -46,7 +46,7 @@ returns c =
     let row = me_row l a.me (traffic_in a.key) in
     let layout = c.layout_by-layout.ensures ∙ ap (λ (b : Bool). layout_by b a.me) c.coarse_in.ensures in
     let key = sym (ap (λ (b : Bool). wider 56 a.me || not b) c.is_key.ensures) ∙ c.if-me-is_key.false in
-    let type = sym (ap not (c.is_layout.ensures ∙ ap is_taken layout)) ∙ c.if-not-is_layout.false in
+    let type = sym (ap not (c.is_layout.ensures ∙ ap is_taken layout)) ∙ ap not c.if-not-is_layout.false in
     into_given 28 out (me_said a.me a.key) h
     (row_given out row _ h (me_length l a.me (traffic_in a.key))
     (row_in_lem out row _ h (c.put_me.ensures.1 ∙ ap₂ (λ (l : Layout) (t : Bool). row_into out (me_row l a.me t)) layout c.traffic_in.ensures))

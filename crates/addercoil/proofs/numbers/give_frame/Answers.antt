@@ -3,7 +3,6 @@ use mathlib.Core.Path.{refl, sym, ap, ◌∙◌}
 use mathlib.Core.Bool.{Bool}
 use native.Mathlib.Omega.{arith}
 use lib.ListN.{length-set}
-use borrow.Author.Tests.{not-true, not-false}
 use Rattle.layouts.specs.declared.bodies.Layout.{Layout}
 use Rattle.layouts.specs.Bodies.{layout_by, is_taken}
 use Rattle.rows.specs.Rows.{me_row}
@@ -15,7 +14,7 @@ pub returns-then-not-is_layout : goal.returns-then-not-is_layout
 returns-then-not-is_layout c =
     let a = c.args in
     let l = c.layout_by-layout.ensures ∙ ap (λ (b : Bool). layout_by b a.f.me) c.frame_coarse.ensures in
-    frame_refused_lem a.f a.out.now (sym (c.is_layout.ensures ∙ ap is_taken l) ∙ not-true _ c.if-not-is_layout.true)
+    frame_refused_lem a.f a.out.now (sym (c.is_layout.ensures ∙ ap is_taken l) ∙ c.if-not-is_layout.true)
 
 pub bounds-out-2 : goal.bounds-out-2
 bounds-out-2 c = simp length-set (omega arith)
@@ -32,6 +31,6 @@ returns c =
     let out = c.args.out.now in
     let t = c.traffic_by.result in
     let l = c.layout_by-layout.ensures ∙ ap (λ (b : Bool). layout_by b f.me) c.frame_coarse.ensures in
-    frame_given f out _ _ c.frame_key.result t c.requires (sym (c.is_layout.ensures ∙ ap is_taken l) ∙ not-false _ c.if-not-is_layout.false)
+    frame_given f out _ _ c.frame_key.result t c.requires (sym (c.is_layout.ensures ∙ ap is_taken l) ∙ c.if-not-is_layout.false)
     (row_in_lem out (me_row c.layout_by-layout.result f.me t) _ c.requires c.put_me.ensures.1 ∙ ap (λ (k : Layout). me_row k f.me t) l)
     c.frame_key.ensures c.traffic_by.ensures refl

@@ -16,4 +16,4 @@ returns c =
     let a = c.args in
     into_given 2 a.out.now _ c.if-out-ne2.false
     (c.give_pair.ensures
-    ∙ ap₂ (λ (x y : Counts). given a.out.now (pair_said Fine x y a.later-odd)) c.counts_of-even.ensures c.counts_of-odd.ensures)
+    ∙ ap₂ (λ (x y : Counts). given a.out.now (pair_said Fine x y a.later_odd)) c.counts_of-even.ensures c.counts_of-odd.ensures)

@@ -6,12 +6,12 @@ use borrow.Author.Rules.{rules}
 use Rattle.track_rows.proofs.shown.moving_by.Goals as goal
 
 pub returns-then-row-eq-LAYOUT_GROUND : goal.returns-then-row-eq-LAYOUT_GROUND
-returns-then-row-eq-LAYOUT_GROUND c = let a = c.args in over_ground a.traffic a.t2 c.source_by-s.result c.source_by-s.ensures (eq-eqb _ _ c.if-row-eq-LAYOUT_GROUND.true)
+returns-then-row-eq-LAYOUT_GROUND c = let a = c.args in over_ground a.traffic a.row c.source_by-s.result c.source_by-s.ensures (eq-eqb _ _ c.if-row-eq-LAYOUT_GROUND.true)
 
 pub returns-then-row-eq-LAYOUT_AIR : goal.returns-then-row-eq-LAYOUT_AIR
 returns-then-row-eq-LAYOUT_AIR c =
     let a = c.args in
-    through_air a.traffic a.t2 c.source_by-s.result c.source_by-s.ensures (ne_eqb _ _ c.if-row-eq-LAYOUT_GROUND.false) (eq-eqb _ _ c.if-row-eq-LAYOUT_AIR.true)
+    through_air a.traffic a.row c.source_by-s.result c.source_by-s.ensures (ne_eqb _ _ c.if-row-eq-LAYOUT_GROUND.false) (eq-eqb _ _ c.if-row-eq-LAYOUT_AIR.true)
 
 pub returns : goal.returns
 unfolding moving
