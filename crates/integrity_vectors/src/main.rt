@@ -2,66 +2,39 @@
 // A question is a byte with a kind in its low three bits, 1 to 6, and above them of C the flag and the station; one with TYPE, one that is 1 where bit 8 is set, and a status ME of eight bytes.
 #![tactic(auto)]
 
-use integrity::{Bits, Integrity, Supplements, Version};
+use integrity::{Integrity, Supplements, Version};
 use keys::Kind;
-use libc::{STDIN_FILENO, STDOUT_FILENO};
 use refusals::Refusal;
+use std::io::{self, Read};
 
-fn write(text: &[u8]) {
-    io::write_all(STDOUT_FILENO, text);
+fn say_refused(out: &impl Print, r: Refusal) -> io::Result<()> {
+    print!(out; "refused {}", refusals::number(r))
 }
 
-fn say(n: u8) {
-    io::print_decimal(STDOUT_FILENO, n as u64);
+fn bit(b: bool) -> u8 {
+    if b { 1 } else { 0 }
 }
 
-fn say_refused(r: Refusal) {
-    write(b"refused ");
-    io::print_decimal(STDOUT_FILENO, refusals::number(r) as u64);
-}
-
-fn say_bit(b: bool) {
-    if b {
-        write(b"1");
-    } else {
-        write(b"0");
-    }
-}
-
-fn say_version(v: Version) {
+fn say_version(out: &impl Print, v: Version) -> io::Result<()> {
     match v {
-        Version::Number(n) => say(n),
-        Version::Refused(r) => say_refused(r),
+        Version::Number(n) => out.print(n),
+        Version::Refused(r) => say_refused(out, r),
     }
 }
 
-fn say_bits(b: Bits) {
-    say_bit(b.a);
-    write(b" ");
-    say_bit(b.b);
-    write(b" ");
-    say_bit(b.c);
-}
-
-fn say_supplements(s: Supplements) {
+fn say_supplements(out: &impl Print, s: Supplements) -> io::Result<()> {
     match s {
-        Supplements::Bits(b) => say_bits(b),
-        Supplements::Refused(r) => say_refused(r),
+        Supplements::Bits(b) => print!(out; "{} {} {}", bit(b.a), bit(b.b), bit(b.c)),
+        Supplements::Refused(r) => say_refused(out, r),
     }
 }
 
-fn say_integrity(i: Integrity) {
+fn say_integrity(out: &impl Print, i: Integrity) -> io::Result<()> {
     match i {
-        Integrity::Unknown => write(b"unknown"),
-        Integrity::Nuc(n) => {
-            write(b"NUC ");
-            say(n);
-        }
-        Integrity::Nic(n) => {
-            write(b"NIC ");
-            say(n);
-        }
-        Integrity::Refused(r) => say_refused(r),
+        Integrity::Unknown => out.print("unknown"),
+        Integrity::Nuc(n) => print!(out; "NUC {n}"),
+        Integrity::Nic(n) => print!(out; "NIC {n}"),
+        Integrity::Refused(r) => say_refused(out, r),
     }
 }
 
@@ -72,30 +45,33 @@ fn kind_of(number: u8) -> Kind {
     keys::kind_at((number % 8) as u32)
 }
 
-fn answer(number: u8, typecode: u8, bit8: bool, status: u64) {
+fn answer(out: &impl Print, number: u8, typecode: u8, bit8: bool, status: u64) -> io::Result<()> {
     let kind = kind_of(number);
-    say_version(integrity::version_of(kind, status));
-    write(b", ");
-    say_supplements(integrity::supplements_of(kind, status, bit8));
-    write(b", ");
-    say_integrity(integrity::integrity_of(kind, status, typecode, bit8));
-    write(b"\n");
+    say_version(out, integrity::version_of(kind, status))?;
+    out.print(", ")?;
+    say_supplements(out, integrity::supplements_of(kind, status, bit8))?;
+    out.print(", ")?;
+    say_integrity(out, integrity::integrity_of(kind, status, typecode, bit8))?;
+    out.print("\n")
 }
 
 // Answers one question, and says whether there was one.
-fn one() -> bool {
+fn one(input: &mut impl Read, out: &impl Print) -> io::Result<bool> {
     let mut q = [0u8; 11];
-    if io::read_full(STDIN_FILENO, &mut q) != 11 {
-        return false;
+    if streams::read_full(input, &mut q)? != 11 {
+        return Ok(false);
     }
     let status = fields::number_of(&q[3..11]);
-    answer(q[0], q[1], q[2] == 1, status);
-    true
+    answer(out, q[0], q[1], q[2] == 1, status)?;
+    Ok(true)
 }
 
-fn main() {
-    let mut turns = u64::MAX;
-    while turns > 0 && one() {
-        turns -= 1;
+fn main(rt: HostRuntime) -> io::Result<()> {
+    let mut input = rt.reader();
+    for _ in 0..u64::MAX {
+        if !one(&mut input, &rt)? {
+            break;
+        }
     }
+    Ok(())
 }

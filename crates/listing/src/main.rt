@@ -3,13 +3,13 @@
 
 mod words;
 
-ghost use Rattle.std.specs.Prelude.{◌≡◌, length};
+ghost use Rattle.std.specs.Prelude.{◌≡◌, IfOk, length};
 ghost use Rattle.memory.specs.Offsets.{table_size};
 ghost use Rattle.table_bytes.specs.Layout.{emptied};
 ghost use Rattle.listing.specs.Code.{SomeFed};
 
 use feed::Fed;
-use libc::{STDERR_FILENO, STDIN_FILENO, STDOUT_FILENO};
+use std::io::{self, Read};
 use whole::Listed;
 use words::Asked;
 
@@ -20,79 +20,80 @@ const TABLE: usize = memory::HEAD + memory::PLACE * PLACES;
 
 const TEXT: usize = text::LINE * (PLACES + 1);
 
-// Feeds the input, block by block, to an empty table, and counts the bad blocks. A short read is the end, or a failed read, which ends it too.
+// Feeds the input, block by block, to an empty table, and counts the bad blocks. A short block is the end.
 // A proved loop has to end, and nothing says that the input does. So the loop counts its turns down, from a number that no run uses up.
-fn read_all(table: &mut [u8], block: &mut [u8]) -> u64
+fn read_all<R: Read>(reader: &mut R, table: &mut [u8], block: &mut [u8]) -> io::Result<u64>
     requires { (length table.old ≡ table_size 256) × (length block.old ≡ 512) }
-    ensures { SomeFed (emptied table.old) result table.new }
+    ensures { IfOk result (λ bad. SomeFed (emptied table.old) bad table.new) }
 {
     table::set_up(table);
     let mut bad: u64 = 0;
     let mut turns: u64 = 0xffff_ffff_ffff_ffff;
     while turns > 0 {
-        let n = io::read_full(STDIN_FILENO, block);
+        let n = streams::read_full(reader, block)?;
         if n == 0 {
-            return bad;
+            return Ok(bad);
         }
         let Fed::Bad(next) = feed::feed_block(table, &block[..n], bad) else {
-            return bad;
+            return Ok(bad);
         };
         bad = next;
         if n < 512 {
-            return bad;
+            return Ok(bad);
         }
         turns -= 1;
     }
-    bad
+    Ok(bad)
 }
 
-// Whether the input has come to its end. After a read that failed there is no end, or there are more bytes.
-fn input_ended() -> bool {
+// Whether the input has come to its end: a read that fails says nothing, and there may be more bytes.
+fn input_ended(reader: &mut impl Read) -> bool {
     let mut more = [0u8; 1];
-    libc::read(STDIN_FILENO, &mut more) == 0
+    matches!(reader.read(&mut more), Ok(0))
 }
 
 // The first n bytes, and whether they were written. The test costs less than a proof that it holds.
-fn print_first(text: &[u8], n: usize) -> bool {
+fn print_first(rt: &impl Print, text: &[u8], n: usize) -> bool {
     if n <= text.len() {
-        return io::write_all(STDOUT_FILENO, &text[0..n]);
+        return rt.write_all(&text[..n]).is_ok();
     }
     true
 }
 
 // The whole listing, and whether it was written. The arrays have the lengths that a table of 256 places asks for, so that it is never refused.
-fn print_listing(table: &[u8], bad: u64, all: bool) -> bool {
+fn print_listing(rt: &impl Print, table: &[u8], bad: u64, all: bool) -> bool {
     let mut order = [0u64; PLACES];
     let mut out = [0u8; TEXT];
     let Listed::Bytes(n) = whole::listing(table, bad, all, &mut order, &mut out) else {
         return false;
     };
-    print_first(&out, n)
+    print_first(rt, &out, n)
 }
 
-fn run(all: bool) {
+// What was not done. Where that cannot be said either, nobody is left to hear it.
+fn complain(rt: &impl Eprint, text: &str) {
+    let _ = rt.eprintln(text);
+}
+
+fn run(rt: &(impl Input + Print + Eprint), all: bool) {
     let mut table = [0u8; TABLE];
     let mut block = [0u8; 512];
-    let bad = read_all(&mut table, &mut block);
-    if !input_ended() {
-        io::write_all(
-            STDERR_FILENO,
-            b"listing: the input cannot be read to its end\n",
-        );
-        return;
-    }
-    if !print_listing(&table, bad, all) {
-        io::write_all(STDERR_FILENO, b"listing: the output cannot be written\n");
+    let mut reader = rt.reader();
+    match read_all(&mut reader, &mut table, &mut block) {
+        Ok(bad) if input_ended(&mut reader) => {
+            if !print_listing(rt, &table, bad, all) {
+                complain(rt, "listing: the output cannot be written");
+            }
+        }
+        _ => complain(rt, "listing: the input cannot be read to its end"),
     }
 }
 
-fn main() {
-    let asked = words::read_words();
+fn main(rt: HostRuntime) {
+    let asked = words::read_words(&rt);
     match asked {
-        Asked::Positioned => run(false),
-        Asked::All => run(true),
-        Asked::Unclear => {
-            io::write_all(STDERR_FILENO, b"usage: listing [all]\n");
-        }
+        Asked::Positioned => run(&rt, false),
+        Asked::All => run(&rt, true),
+        Asked::Unclear => complain(&rt, "usage: listing [all]"),
     }
 }

@@ -2,6 +2,8 @@
 ghost use Rattle.std.specs.Prelude.{◌≡◌};
 ghost use Rattle.listing.specs.Words.{is_all, asked_by};
 
+use std::env::{Env, FillError};
+
 #[derive(Clone, Copy)]
 pub(crate) enum Asked {
     // the tracks with a position
@@ -34,9 +36,29 @@ fn asked_by(count: usize, word: &[u8]) -> Asked
     }
 }
 
-// A word that is longer than the room for it comes as an empty one, which is not `all`.
-pub(crate) fn read_words() -> Asked {
+// Whether there is a word with this number, be it empty.
+fn has_word(env: &impl Env, number: usize) -> bool {
+    let mut first = [0u8; 1];
+    !matches!(env.arg(number, &mut first), Err(FillError::NotPresent))
+}
+
+// How many words there are, the program's name the first of them, whether it is there or not. More than three are three.
+fn count_words(env: &impl Env) -> usize {
+    if !has_word(env, 1) {
+        1
+    } else if !has_word(env, 2) {
+        2
+    } else {
+        3
+    }
+}
+
+// A word that is longer than the room for it counts as an empty one, which is not `all`.
+pub(crate) fn read_words(env: &impl Env) -> Asked {
+    let count = count_words(env);
     let mut word = [0u8; 3];
-    let n = os::arg(1, &mut word);
-    asked_by(os::arg_count(), &word[..n])
+    match env.arg(1, &mut word) {
+        Ok(n) => asked_by(count, &word[..n]),
+        Err(_) => asked_by(count, &[]),
+    }
 }

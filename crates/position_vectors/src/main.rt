@@ -12,9 +12,9 @@ ghost use Rattle.std.specs.Prelude.{◌≤◌, ◌<◌};
 
 use counts::{LatitudeCount, LongitudeCount};
 use degrees::{Degrees, InDegrees};
-use libc::{STDIN_FILENO, STDOUT_FILENO};
 use positions::{Counts, Encoded, Format, Found, Size, Spot, Turn};
 use refusals::Refusal;
+use std::io;
 
 fn wide(x: u8) -> u32
     ensures { result < 256 }
@@ -101,96 +101,105 @@ fn size_of(f: u8) -> Size {
     if f < 2 { Size::Fine } else { Size::Coarse }
 }
 
-fn say_signed(z: i32) {
+fn say_signed(out: &impl Print, z: i32) -> io::Result<()> {
     let wide = signs::widen(z);
     if signs::is_below(wide) {
-        io::write_all(STDOUT_FILENO, b"-");
+        out.print("-")?;
     }
-    io::print_decimal(STDOUT_FILENO, signs::size_of(wide));
+    out.print(signs::size_of(wide))
 }
 
-fn say_refusal(r: Refusal) {
-    io::write_all(STDOUT_FILENO, b"refused ");
-    io::print_decimal(STDOUT_FILENO, refusals::number(r) as u64);
+fn say_refusal(out: &impl Print, r: Refusal) -> io::Result<()> {
+    print!(out; "refused {}", refusals::number(r))
 }
 
-fn say_encoded(e: Encoded) {
+fn say_encoded(out: &impl Print, e: Encoded) -> io::Result<()> {
     match e {
-        Encoded::As(c) => {
-            io::print_decimal(STDOUT_FILENO, c.latitude.0 as u64);
-            io::write_all(STDOUT_FILENO, b" ");
-            io::print_decimal(STDOUT_FILENO, c.longitude.0 as u64);
-        }
-        Encoded::Refused(r) => say_refusal(r),
+        Encoded::As(c) => print!(out; "{} {}", c.latitude.0, c.longitude.0),
+        Encoded::Refused(r) => say_refusal(out, r),
     }
 }
 
-fn say_found(f: Found) {
+fn say_found(out: &impl Print, f: Found) -> io::Result<()> {
     match f {
         Found::At(s) => {
-            say_signed(s.latitude);
-            io::write_all(STDOUT_FILENO, b" ");
-            io::print_decimal(STDOUT_FILENO, s.longitude as u64);
+            say_signed(out, s.latitude)?;
+            print!(out; " {}", s.longitude)
         }
-        Found::Refused(r) => say_refusal(r),
+        Found::Refused(r) => say_refusal(out, r),
     }
 }
 
-fn say_double(x: f64) {
+fn say_double(out: &impl Print, x: f64) -> io::Result<()> {
     if x != x {
-        io::write_all(STDOUT_FILENO, b"nan");
+        out.print("nan")
     } else {
-        io::print_hex(STDOUT_FILENO, f64::to_bits(x), 16);
+        print!(out; "{:016x}", f64::to_bits(x))
     }
 }
 
-fn say_degrees(a: InDegrees) {
+fn say_degrees(out: &impl Print, a: InDegrees) -> io::Result<()> {
     match a {
         InDegrees::Degrees(d) => {
-            say_double(d.latitude);
-            io::write_all(STDOUT_FILENO, b" ");
-            say_double(d.longitude);
+            say_double(out, d.latitude)?;
+            out.print(" ")?;
+            say_double(out, d.longitude)
         }
-        InDegrees::Refused(r) => say_refusal(r),
+        InDegrees::Refused(r) => say_refusal(out, r),
     }
 }
 
-fn answer(record: &[u8; 18]) {
+fn answer(out: &impl Print, record: &[u8; 18]) -> io::Result<()> {
     let question = record[0];
     let format = format_of(record[1]);
     let size = size_of(record[1]);
     match question {
-        0 => say_encoded(positions::encode(size, spot_at(record, 2), Turn::Airborne, format)),
-        1 => say_encoded(positions::encode(size, spot_at(record, 2), Turn::Surface, format)),
-        2 => say_found(positions::pair(size, counts_at(record, 2), counts_at(record, 10), format)),
-        3 => say_found(positions::single(
-            size,
-            spot_at(record, 10),
-            counts_at(record, 2),
-            Turn::Airborne,
-            format,
-        )),
-        4 => say_found(positions::single(
-            size,
-            spot_at(record, 10),
-            counts_at(record, 2),
-            Turn::Surface,
-            format,
-        )),
-        5 => say_degrees(degrees::to_degrees(spot_at(record, 2))),
-        _ => say_found(degrees::from_degrees(degrees_at(record))),
-    }
-    io::write_all(STDOUT_FILENO, b"\n");
+        0 => say_encoded(
+            out,
+            positions::encode(size, spot_at(record, 2), Turn::Airborne, format),
+        ),
+        1 => say_encoded(
+            out,
+            positions::encode(size, spot_at(record, 2), Turn::Surface, format),
+        ),
+        2 => say_found(
+            out,
+            positions::pair(size, counts_at(record, 2), counts_at(record, 10), format),
+        ),
+        3 => say_found(
+            out,
+            positions::single(
+                size,
+                spot_at(record, 10),
+                counts_at(record, 2),
+                Turn::Airborne,
+                format,
+            ),
+        ),
+        4 => say_found(
+            out,
+            positions::single(
+                size,
+                spot_at(record, 10),
+                counts_at(record, 2),
+                Turn::Surface,
+                format,
+            ),
+        ),
+        5 => say_degrees(out, degrees::to_degrees(spot_at(record, 2))),
+        _ => say_found(out, degrees::from_degrees(degrees_at(record))),
+    }?;
+    out.print("\n")
 }
 
-fn main() {
+fn main(rt: HostRuntime) -> io::Result<()> {
+    let mut input = rt.reader();
     let mut record = [0u8; 18];
-    let mut left: usize = 1000000;
-    while 0 < left {
-        if io::read_full(STDIN_FILENO, &mut record) < 18 {
-            return;
+    for _ in 0..1_000_000 {
+        if streams::read_full(&mut input, &mut record)? < 18 {
+            break;
         }
-        answer(&record);
-        left -= 1;
+        answer(&rt, &record)?;
     }
+    Ok(())
 }

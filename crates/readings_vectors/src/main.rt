@@ -4,248 +4,201 @@
 use characters::{CategorySet, Character, Text};
 use counts::{LatitudeCount, LongitudeCount};
 use layouts::{Air, Airborne, Body, Coarse, Ground, Identification, Status, Surface, Vertical};
-use libc::{STDIN_FILENO, STDOUT_FILENO};
 use readings::{
     AirReadings, AirborneReadings, Altitude, CoarseReadings, CoarseSpeed, Difference,
     GroundReadings, Heading, IdentificationReadings, Movement, Rate, Readings, Speed,
     StatusReadings, Supplement, SurfaceReadings, Version,
 };
 use refusals::Refusal;
+use std::io::{self, Read};
 
-fn write(text: &[u8]) {
-    io::write_all(STDOUT_FILENO, text);
-}
-
-fn say(n: u32) {
-    io::print_decimal(STDOUT_FILENO, n as u64);
-}
-
-fn say_signed(z: i32) {
+fn say_signed(out: &impl Print, z: i32) -> io::Result<()> {
     let wide = signs::widen(z);
     if signs::is_below(wide) {
-        write(b"-");
+        out.print("-")?;
     }
-    io::print_decimal(STDOUT_FILENO, signs::size_of(wide));
+    out.print(signs::size_of(wide))
 }
 
-fn say_refused(r: Refusal) {
-    write(b"refused ");
-    say(refusals::number(r));
+fn say_refused(out: &impl Print, r: Refusal) -> io::Result<()> {
+    print!(out; "refused {}", refusals::number(r))
 }
 
-fn say_altitude(a: Altitude) {
+fn say_altitude(out: &impl Print, a: Altitude) -> io::Result<()> {
     match a {
-        Altitude::Unknown => write(b"unknown"),
+        Altitude::Unknown => out.print("unknown"),
         Altitude::Feet { feet, step } => {
-            say_signed(feet);
-            write(b" step ");
-            say(step as u32);
+            say_signed(out, feet)?;
+            print!(out; " step {step}")
         }
-        Altitude::Refused(r) => say_refused(r),
+        Altitude::Refused(r) => say_refused(out, r),
     }
 }
 
-fn say_category_set(s: CategorySet) {
+fn say_category_set(out: &impl Print, s: CategorySet) -> io::Result<()> {
     match s {
-        CategorySet::A => write(b"A"),
-        CategorySet::B => write(b"B"),
-        CategorySet::C => write(b"C"),
-        CategorySet::D => write(b"D"),
-        CategorySet::NoSet => write(b"none"),
-        CategorySet::Refused(r) => say_refused(r),
+        CategorySet::A => out.print("A"),
+        CategorySet::B => out.print("B"),
+        CategorySet::C => out.print("C"),
+        CategorySet::D => out.print("D"),
+        CategorySet::NoSet => out.print("none"),
+        CategorySet::Refused(r) => say_refused(out, r),
     }
 }
 
-fn say_speed(s: Speed) {
+fn say_speed(out: &impl Print, s: Speed) -> io::Result<()> {
     match s {
-        Speed::Unknown => write(b"unknown"),
-        Speed::Knots(z) => say_signed(z),
-        Speed::Over => write(b"over"),
-        Speed::Refused(r) => say_refused(r),
+        Speed::Unknown => out.print("unknown"),
+        Speed::Knots(z) => say_signed(out, z),
+        Speed::Over => out.print("over"),
+        Speed::Refused(r) => say_refused(out, r),
     }
 }
 
-fn say_rate(s: Rate) {
+fn say_rate(out: &impl Print, s: Rate) -> io::Result<()> {
     match s {
-        Rate::Unknown => write(b"unknown"),
-        Rate::FeetPerMinute(z) => say_signed(z),
-        Rate::Over => write(b"over"),
-        Rate::Refused(r) => say_refused(r),
+        Rate::Unknown => out.print("unknown"),
+        Rate::FeetPerMinute(z) => say_signed(out, z),
+        Rate::Over => out.print("over"),
+        Rate::Refused(r) => say_refused(out, r),
     }
 }
 
-fn say_difference(d: Difference) {
+fn say_difference(out: &impl Print, d: Difference) -> io::Result<()> {
     match d {
-        Difference::Unknown => write(b"unknown"),
-        Difference::Feet(z) => say_signed(z),
-        Difference::Over => write(b"over"),
-        Difference::Refused(r) => say_refused(r),
+        Difference::Unknown => out.print("unknown"),
+        Difference::Feet(z) => say_signed(out, z),
+        Difference::Over => out.print("over"),
+        Difference::Refused(r) => say_refused(out, r),
     }
 }
 
-fn say_heading(h: Heading) {
+fn say_heading(out: &impl Print, h: Heading) -> io::Result<()> {
     match h {
-        Heading::Turn(n) => say(n),
-        Heading::Refused(r) => say_refused(r),
+        Heading::Turn(n) => out.print(n),
+        Heading::Refused(r) => say_refused(out, r),
     }
 }
 
-fn say_movement(m: Movement) {
+fn say_movement(out: &impl Print, m: Movement) -> io::Result<()> {
     match m {
-        Movement::Unknown => write(b"unknown"),
-        Movement::Stopped => write(b"stopped"),
-        Movement::LowerEdge(n) => {
-            write(b"from ");
-            say(n);
-        }
-        Movement::AndUp(n) => {
-            say(n);
-            write(b" and up");
-        }
-        Movement::Reserved => write(b"reserved"),
-        Movement::Refused(r) => say_refused(r),
+        Movement::Unknown => out.print("unknown"),
+        Movement::Stopped => out.print("stopped"),
+        Movement::LowerEdge(n) => print!(out; "from {n}"),
+        Movement::AndUp(n) => print!(out; "{n} and up"),
+        Movement::Reserved => out.print("reserved"),
+        Movement::Refused(r) => say_refused(out, r),
     }
 }
 
-fn say_coarse_speed(s: CoarseSpeed) {
+fn say_coarse_speed(out: &impl Print, s: CoarseSpeed) -> io::Result<()> {
     match s {
-        CoarseSpeed::Unknown => write(b"unknown"),
-        CoarseSpeed::LowerEdge(n) => {
-            write(b"from ");
-            say(n);
-        }
-        CoarseSpeed::AndUp(n) => {
-            say(n);
-            write(b" and up");
-        }
-        CoarseSpeed::Refused(r) => say_refused(r),
+        CoarseSpeed::Unknown => out.print("unknown"),
+        CoarseSpeed::LowerEdge(n) => print!(out; "from {n}"),
+        CoarseSpeed::AndUp(n) => print!(out; "{n} and up"),
+        CoarseSpeed::Refused(r) => say_refused(out, r),
     }
 }
 
-fn say_character(c: Character) {
+fn say_character(out: &impl Print, c: Character) -> io::Result<()> {
     match c {
-        Character::Shown(b) => say(b as u32),
-        Character::Refused(r) => say_refused(r),
+        Character::Shown(b) => out.print(b),
+        Character::Refused(r) => say_refused(out, r),
     }
 }
 
-fn say_text(t: Text) {
+fn say_text(out: &impl Print, t: Text) -> io::Result<()> {
     match t {
-        Text::Shown(n) => {
-            io::print_decimal(STDOUT_FILENO, n);
-        }
-        Text::Refused(r) => say_refused(r),
+        Text::Shown(n) => out.print(n),
+        Text::Refused(r) => say_refused(out, r),
     }
 }
 
-fn say_identification(m: IdentificationReadings) {
-    let set = m.set;
-    let text = m.text;
-    write(b"identification ");
-    say_category_set(set);
-    write(b", ");
-    say_text(text);
+fn say_identification(out: &impl Print, m: IdentificationReadings) -> io::Result<()> {
+    out.print("identification ")?;
+    say_category_set(out, m.set)?;
+    out.print(", ")?;
+    say_text(out, m.text)
 }
 
-fn say_surface(m: SurfaceReadings) {
-    let movement = m.movement;
-    let heading = m.heading;
-    write(b"surface ");
-    say_movement(movement);
-    write(b", ");
-    say_heading(heading);
+fn say_surface(out: &impl Print, m: SurfaceReadings) -> io::Result<()> {
+    out.print("surface ")?;
+    say_movement(out, m.movement)?;
+    out.print(", ")?;
+    say_heading(out, m.heading)
 }
 
-fn say_airborne(m: AirborneReadings) {
-    let altitude = m.altitude;
-    write(b"airborne ");
-    say_altitude(altitude);
-    if m.gnss {
-        write(b", GNSS");
-    } else {
-        write(b", pressure");
-    }
+fn say_airborne(out: &impl Print, m: AirborneReadings) -> io::Result<()> {
+    out.print("airborne ")?;
+    say_altitude(out, m.altitude)?;
+    out.print(if m.gnss { ", GNSS" } else { ", pressure" })
 }
 
-fn say_vertical(rate: Rate, difference: Difference) {
-    write(b", ");
-    say_rate(rate);
-    write(b", ");
-    say_difference(difference);
+fn say_vertical(out: &impl Print, rate: Rate, difference: Difference) -> io::Result<()> {
+    out.print(", ")?;
+    say_rate(out, rate)?;
+    out.print(", ")?;
+    say_difference(out, difference)
 }
 
-fn say_ground(m: GroundReadings) {
-    let east = m.east;
-    let north = m.north;
-    let rate = m.rate;
-    let difference = m.difference;
-    write(b"ground ");
-    say_speed(east);
-    write(b", ");
-    say_speed(north);
-    say_vertical(rate, difference);
+fn say_ground(out: &impl Print, m: GroundReadings) -> io::Result<()> {
+    out.print("ground ")?;
+    say_speed(out, m.east)?;
+    out.print(", ")?;
+    say_speed(out, m.north)?;
+    say_vertical(out, m.rate, m.difference)
 }
 
-fn say_air(m: AirReadings) {
-    let heading = m.heading;
-    let airspeed = m.airspeed;
-    let rate = m.rate;
-    let difference = m.difference;
-    write(b"air ");
-    say_heading(heading);
-    write(b", ");
-    say_speed(airspeed);
-    say_vertical(rate, difference);
+fn say_air(out: &impl Print, m: AirReadings) -> io::Result<()> {
+    out.print("air ")?;
+    say_heading(out, m.heading)?;
+    out.print(", ")?;
+    say_speed(out, m.airspeed)?;
+    say_vertical(out, m.rate, m.difference)
 }
 
-fn say_version(v: Version) {
+fn say_version(out: &impl Print, v: Version) -> io::Result<()> {
     match v {
-        Version::Number(n) => say(n as u32),
-        Version::Reserved => write(b"reserved"),
+        Version::Number(n) => out.print(n),
+        Version::Reserved => out.print("reserved"),
     }
 }
 
-fn say_supplement(s: Supplement) {
+fn say_supplement(out: &impl Print, s: Supplement) -> io::Result<()> {
     match s {
-        Supplement::Unknown => write(b"unknown"),
-        Supplement::Bit(n) => say(n as u32),
+        Supplement::Unknown => out.print("unknown"),
+        Supplement::Bit(n) => out.print(n),
     }
 }
 
-fn say_status(m: StatusReadings) {
-    let version = m.version;
-    let a = m.supplementa;
-    let c = m.supplementc;
-    write(b"status ");
-    say_version(version);
-    write(b", ");
-    say_supplement(a);
-    write(b", ");
-    say_supplement(c);
+fn say_status(out: &impl Print, m: StatusReadings) -> io::Result<()> {
+    out.print("status ")?;
+    say_version(out, m.version)?;
+    out.print(", ")?;
+    say_supplement(out, m.supplementa)?;
+    out.print(", ")?;
+    say_supplement(out, m.supplementc)
 }
 
-fn say_coarse(m: CoarseReadings) {
-    let altitude = m.altitude;
-    let angle = m.angle;
-    let speed = m.speed;
-    write(b"coarse ");
-    say_altitude(altitude);
-    write(b", ");
-    say_heading(angle);
-    write(b", ");
-    say_coarse_speed(speed);
+fn say_coarse(out: &impl Print, m: CoarseReadings) -> io::Result<()> {
+    out.print("coarse ")?;
+    say_altitude(out, m.altitude)?;
+    out.print(", ")?;
+    say_heading(out, m.angle)?;
+    out.print(", ")?;
+    say_coarse_speed(out, m.speed)
 }
 
-fn say_readings(r: Readings) {
+fn say_readings(out: &impl Print, r: Readings) -> io::Result<()> {
     match r {
-        Readings::Identification(m) => say_identification(m),
-        Readings::Surface(m) => say_surface(m),
-        Readings::Airborne(m) => say_airborne(m),
-        Readings::Ground(m) => say_ground(m),
-        Readings::Air(m) => say_air(m),
-        Readings::Status(m) => say_status(m),
-        Readings::Coarse(m) => say_coarse(m),
-        Readings::Refused(n) => say_refused(n),
+        Readings::Identification(m) => say_identification(out, m),
+        Readings::Surface(m) => say_surface(out, m),
+        Readings::Airborne(m) => say_airborne(out, m),
+        Readings::Ground(m) => say_ground(out, m),
+        Readings::Air(m) => say_air(out, m),
+        Readings::Status(m) => say_status(out, m),
+        Readings::Coarse(m) => say_coarse(out, m),
+        Readings::Refused(n) => say_refused(out, n),
     }
 }
 
@@ -384,63 +337,78 @@ fn coarse(q: &[u8]) -> Body {
 }
 
 // What a body means, by the number of its layout, in a traffic service's message or in another.
-fn say_body(layout: u8, traffic: bool, q: &[u8]) {
-    match layout {
-        0 => say_readings(readings::readings_of(identification(q), traffic)),
-        1 => say_readings(readings::readings_of(surface(q), traffic)),
-        2 => say_readings(readings::readings_of(airborne(q), traffic)),
-        3 => say_readings(readings::readings_of(ground(q), traffic)),
-        4 => say_readings(readings::readings_of(air(q), traffic)),
-        5 => say_readings(readings::readings_of(status(q), traffic)),
-        6 => say_readings(readings::readings_of(coarse(q), traffic)),
-        _ => write(b"no such layout"),
-    }
+fn say_body(out: &impl Print, layout: u8, traffic: bool, q: &[u8]) -> io::Result<()> {
+    let body = match layout {
+        0 => identification(q),
+        1 => surface(q),
+        2 => airborne(q),
+        3 => ground(q),
+        4 => air(q),
+        5 => status(q),
+        6 => coarse(q),
+        _ => return out.print("no such layout"),
+    };
+    say_readings(out, readings::readings_of(body, traffic))
 }
 
 // Reads the fields of a body.
-fn answer_body(layout: u8, traffic: bool) {
+fn answer_body(
+    input: &mut impl Read,
+    out: &impl Print,
+    layout: u8,
+    traffic: bool,
+) -> io::Result<()> {
     let mut q = [0u8; 120];
-    if io::read_full(STDIN_FILENO, &mut q) != 120 {
-        write(b"too short");
-        return;
+    if streams::read_full(input, &mut q)? != 120 {
+        return out.print("too short");
     }
-    say_body(layout, traffic, &q);
+    say_body(out, layout, traffic, &q)
 }
 
-fn answer(question: u8, a: u8, b: u8, code: u16) {
+fn answer(
+    input: &mut impl Read,
+    out: &impl Print,
+    question: u8,
+    a: u8,
+    b: u8,
+    code: u16,
+) -> io::Result<()> {
     let byte = (code % 256) as u8;
     match question {
-        0 => say_altitude(readings::altitude_of(code)),
-        1 => say_category_set(characters::category_set_of(byte)),
-        2 => say_speed(readings::speed_of(a, b, code)),
-        3 => say_rate(readings::rate_of(b, code)),
-        4 => say_difference(readings::difference_of(b, byte)),
-        5 => say_heading(readings::heading_of(code)),
-        6 => say_heading(readings::surface_heading_of(byte)),
-        7 => say_movement(readings::movement_of(byte)),
-        8 => say_character(characters::character_of(byte)),
-        9 => answer_body(a, b == 1),
-        10 => say_heading(readings::angle_of(byte)),
-        11 => say_coarse_speed(readings::coarse_speed_of(byte)),
-        _ => write(b"no such question"),
-    }
-    write(b"\n");
+        0 => say_altitude(out, readings::altitude_of(code)),
+        1 => say_category_set(out, characters::category_set_of(byte)),
+        2 => say_speed(out, readings::speed_of(a, b, code)),
+        3 => say_rate(out, readings::rate_of(b, code)),
+        4 => say_difference(out, readings::difference_of(b, byte)),
+        5 => say_heading(out, readings::heading_of(code)),
+        6 => say_heading(out, readings::surface_heading_of(byte)),
+        7 => say_movement(out, readings::movement_of(byte)),
+        8 => say_character(out, characters::character_of(byte)),
+        9 => answer_body(input, out, a, b == 1),
+        10 => say_heading(out, readings::angle_of(byte)),
+        11 => say_coarse_speed(out, readings::coarse_speed_of(byte)),
+        _ => out.print("no such question"),
+    }?;
+    out.print("\n")
 }
 
 // Answers one question, and says whether there was one.
-fn one() -> bool {
+fn one(input: &mut impl Read, out: &impl Print) -> io::Result<bool> {
     let mut q = [0u8; 5];
-    if io::read_full(STDIN_FILENO, &mut q) != 5 {
-        return false;
+    if streams::read_full(input, &mut q)? != 5 {
+        return Ok(false);
     }
     let code = (fields::number_of(&q[3..5]) % 0x1_0000) as u16;
-    answer(q[0], q[1], q[2], code);
-    true
+    answer(input, out, q[0], q[1], q[2], code)?;
+    Ok(true)
 }
 
-fn main() {
-    let mut turns = u64::MAX;
-    while turns > 0 && one() {
-        turns -= 1;
+fn main(rt: HostRuntime) -> io::Result<()> {
+    let mut input = rt.reader();
+    for _ in 0..u64::MAX {
+        if !one(&mut input, &rt)? {
+            break;
+        }
     }
+    Ok(())
 }
