@@ -1,10 +1,16 @@
-"""The crates of the archive for C, for the scripts that go by them: each is an object of its own, since the compiler puts a function that has one caller in
-an object in that caller's place (docs/DECISIONS.md, 147). And the functions that a crate hands out."""
+"""The crates of the archive for C, for the scripts that go by them: libraries, whose functions the theorems are about, and over each a static library, which
+exports those for C and is an object of its own in the archive, since the compiler puts a function that has one caller in an object in that caller's place
+(docs/DECISIONS.md, 147). And the functions that a library hands out."""
 import re
 from pathlib import Path
 
 ROOT = Path(__file__).resolve().parent.parent
 LIBRARY = ['addercoil', 'display', 'audit', 'arbiter', 'dealer']
+
+
+def exporting(crate):
+    """The static library over a library."""
+    return f'{crate}_c'
 
 
 def public(crate):
@@ -13,4 +19,5 @@ def public(crate):
     own = re.findall(r'^pub fn (\w+)', code['lib'], flags=re.M)
     handed = re.findall(r'^pub use (\w+)::(?:(\w+)|\{([\w\s,]*)\});', code['lib'], flags=re.M)
     passed = [name for part, *which in handed for name in re.findall(r'\w+', ' '.join(which)) if f'pub fn {name}' in code.get(part, '')]
-    return [*own, *passed, *re.findall(r'^pub extern "C" fn (\w+)', '\n'.join(code.values()), flags=re.M)]
+    called = re.findall(r'^pub fn (addercoil_\w+)', '\n'.join(text for part, text in code.items() if part != 'lib'), flags=re.M)
+    return [*own, *passed, *called]

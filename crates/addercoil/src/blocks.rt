@@ -17,13 +17,7 @@ fn give_fed(out: &mut [u64], answer: Fed) -> u32
 }
 
 // One block of a capture, with the count of bad blocks so far: that count after it, into 1 entry. Or 1, then 7.
-#[unsafe(no_mangle)]
-pub extern "C" fn addercoil_feed_block(
-    table: &mut [u8],
-    block: &[u8],
-    bad: u64,
-    out: &mut [u64],
-) -> u32
+pub fn addercoil_feed_block(table: &mut [u8], block: &[u8], bad: u64, out: &mut [u64]) -> u32
     ensures { both (sent result out.new) table.new ≡ cond (not (eqb (length out.old) 1)) (both (sent 1 out.old) table.old) (fed_into out.old (fed_block table.old block.now bad)) }
 {
     if out.len() != 1 {

@@ -22,8 +22,7 @@ fn give_figures(out: &mut [f64], answer: InDegrees) -> u32
 }
 
 // A spot in degrees, into 2 doubles. Or 1, then 8.
-#[unsafe(no_mangle)]
-pub extern "C" fn addercoil_degrees(latitude: i32, longitude: u32, out: &mut [f64]) -> u32
+pub fn addercoil_degrees(latitude: i32, longitude: u32, out: &mut [f64]) -> u32
     ensures { plotted result out.new ≡ degrees_plotted out.old latitude longitude }
 {
     if out.len() != 2 {
@@ -37,8 +36,7 @@ pub extern "C" fn addercoil_degrees(latitude: i32, longitude: u32, out: &mut [f6
 }
 
 // The spot that two doubles exactly are, into 2 entries. Or 1, then 15.
-#[unsafe(no_mangle)]
-pub extern "C" fn addercoil_from_degrees(latitude: f64, longitude: f64, out: &mut [u64]) -> u32
+pub fn addercoil_from_degrees(latitude: f64, longitude: f64, out: &mut [u64]) -> u32
     ensures { sent result out.new ≡ into 2 out.old (from_degrees_said latitude longitude) }
 {
     if out.len() != 2 {

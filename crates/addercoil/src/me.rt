@@ -5,8 +5,7 @@ ghost use Rattle.rows.specs.Rows.{row_size};
 ghost use Rattle.addercoil.specs.Me.{me_said};
 
 // What an ME of a key says, into 28 entries. Or 1, then 8, then 5.
-#[unsafe(no_mangle)]
-pub extern "C" fn addercoil_me(me: u64, key: u32, fields: &mut [u64]) -> u32
+pub fn addercoil_me(me: u64, key: u32, fields: &mut [u64]) -> u32
     ensures { sent result fields.new ≡ into row_size fields.old (me_said me key) }
 {
     if fields.len() != rows::ROW {

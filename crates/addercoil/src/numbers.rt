@@ -36,8 +36,7 @@ fn give_message(out: &mut [u64], answer: Accepted) -> u32
 }
 
 // What a message says, into 28 entries. Or 1, then 3, 4, 5.
-#[unsafe(no_mangle)]
-pub extern "C" fn addercoil_decode(message: &[u8], fields: &mut [u64]) -> u32
+pub fn addercoil_decode(message: &[u8], fields: &mut [u64]) -> u32
     ensures { sent result fields.new ≡ into row_size fields.old (message_said (decoded message.now)) }
 {
     if fields.len() != rows::ROW {
@@ -65,8 +64,7 @@ fn encode_into(out: &mut [u8], answer: Decoded) -> u32
 }
 
 // The 14 bytes that say what the fields say; the key and the readings are not read. Or 1, then 8.
-#[unsafe(no_mangle)]
-pub extern "C" fn addercoil_encode(fields: &[u64], message: &mut [u8]) -> u32
+pub fn addercoil_encode(fields: &[u64], message: &mut [u8]) -> u32
     ensures { sent result message.new ≡ encoded_from fields.now message.old }
 {
     if (fields.len() != rows::ROW) | (message.len() != 14) {

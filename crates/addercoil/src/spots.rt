@@ -111,8 +111,7 @@ fn counts_of(latitude: u32, longitude: u32) -> Counts
 }
 
 // The two counts of a spot, into 2 entries. Or 1, then 8.
-#[unsafe(no_mangle)]
-pub extern "C" fn addercoil_encode_position(
+pub fn addercoil_encode_position(
     latitude: i32,
     longitude: u32,
     surface: u32,
@@ -128,8 +127,7 @@ pub extern "C" fn addercoil_encode_position(
 }
 
 // Those of a coarse message, which is airborne. Or 1, then 8.
-#[unsafe(no_mangle)]
-pub extern "C" fn addercoil_encode_position_coarse(
+pub fn addercoil_encode_position_coarse(
     latitude: i32,
     longitude: u32,
     odd: u32,
@@ -144,8 +142,7 @@ pub extern "C" fn addercoil_encode_position_coarse(
 }
 
 // The spot of the later of two airborne messages, into 2 entries. Or 1, then 8, 9, 10.
-#[unsafe(no_mangle)]
-pub extern "C" fn addercoil_pair(
+pub fn addercoil_pair(
     even_latitude: u32,
     even_longitude: u32,
     odd_latitude: u32,
@@ -164,8 +161,7 @@ pub extern "C" fn addercoil_pair(
 }
 
 // That of two coarse messages. Or 1, then 8, 9, 10.
-#[unsafe(no_mangle)]
-pub extern "C" fn addercoil_pair_coarse(
+pub fn addercoil_pair_coarse(
     even_latitude: u32,
     even_longitude: u32,
     odd_latitude: u32,
@@ -184,8 +180,7 @@ pub extern "C" fn addercoil_pair_coarse(
 }
 
 // The spot of one message near a reference, into 2 entries. Or 1, then 8, 9.
-#[unsafe(no_mangle)]
-pub extern "C" fn addercoil_single(
+pub fn addercoil_single(
     latitude: i32,
     longitude: u32,
     count_latitude: u32,
@@ -204,8 +199,7 @@ pub extern "C" fn addercoil_single(
 }
 
 // That of a coarse message, which is airborne. Or 1, then 8, 9.
-#[unsafe(no_mangle)]
-pub extern "C" fn addercoil_single_coarse(
+pub fn addercoil_single_coarse(
     latitude: i32,
     longitude: u32,
     count_latitude: u32,

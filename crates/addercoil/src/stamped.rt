@@ -20,8 +20,7 @@ fn give_noted(state: &mut [u64], noted: Noted) -> u32
 }
 
 // A message received with a stamp, with the state in 2 entries: whether one has been accepted, and the last. Or 1, 7, 8, 2 or 13, 3, 4, 5, then 6 or 12, in that order.
-#[unsafe(no_mangle)]
-pub extern "C" fn addercoil_receive_stamp(
+pub fn addercoil_receive_stamp(
     table: &mut [u8],
     message: &[u8],
     stamp: u32,

@@ -10,8 +10,7 @@ use rules::{Clock, Heard, NextKey, SetUp, Sited};
 use whereabouts::Site;
 
 // How many bytes a table of so many places has: lend just as many. 0 if there is no such table.
-#[unsafe(no_mangle)]
-pub extern "C" fn addercoil_table_bytes(places: usize) -> usize
+pub fn addercoil_table_bytes(places: usize) -> usize
     ensures { result ≡ bytes_for places }
 {
     if (1 <= places) & (places <= memory::MOST_PLACES) {
@@ -31,16 +30,14 @@ fn set_up_number(answer: SetUp) -> u32
 }
 
 // Empties the table: no track, no site, clock 0. Or 7.
-#[unsafe(no_mangle)]
-pub extern "C" fn addercoil_set_up(table: &mut [u8]) -> u32
+pub fn addercoil_set_up(table: &mut [u8]) -> u32
     ensures { sent result table.new ≡ set_up_sent (set_up table.old) }
 {
     set_up_number(table::set_up(table))
 }
 
 // Empties the table and takes the site. Or 7, then 8.
-#[unsafe(no_mangle)]
-pub extern "C" fn addercoil_set_up_at(table: &mut [u8], latitude: i32, longitude: u32) -> u32
+pub fn addercoil_set_up_at(table: &mut [u8], latitude: i32, longitude: u32) -> u32
     ensures { sent result table.new ≡ set_up_sent (set_up_at table.old (record { latitude = latitude; longitude = longitude })) }
 {
     let site = Spot {
@@ -60,16 +57,14 @@ pub(crate) fn heard_number(answer: Heard) -> u32
 }
 
 // A message received at a time. Or 1, 7, 2, 3, 4, 5, then 6 or 12, in that order.
-#[unsafe(no_mangle)]
-pub extern "C" fn addercoil_receive(table: &mut [u8], message: &[u8], time: u64) -> u32
+pub fn addercoil_receive(table: &mut [u8], message: &[u8], time: u64) -> u32
     ensures { sent result table.new ≡ received_sent (received table.old message.now time) }
 {
     heard_number(table::hear(table, message, time))
 }
 
 // The clock, into 1 entry. Or 1, then 7.
-#[unsafe(no_mangle)]
-pub extern "C" fn addercoil_clock(table: &[u8], out: &mut [u64]) -> u32
+pub fn addercoil_clock(table: &[u8], out: &mut [u64]) -> u32
     ensures { sent result out.new ≡ into 1 out.old (clock_said (clock_in table.now)) }
 {
     if out.len() != 1 {
@@ -92,8 +87,7 @@ fn give_site(out: &mut [u64], site: Site) -> u32
 }
 
 // Whether there is a site, its latitude and its longitude, into 3 entries. Or 1, then 7.
-#[unsafe(no_mangle)]
-pub extern "C" fn addercoil_site(table: &[u8], out: &mut [u64]) -> u32
+pub fn addercoil_site(table: &[u8], out: &mut [u64]) -> u32
     ensures { sent result out.new ≡ into 3 out.old (site_said (site_in table.now)) }
 {
     if out.len() != 3 {
@@ -107,8 +101,7 @@ pub extern "C" fn addercoil_site(table: &[u8], out: &mut [u64]) -> u32
 }
 
 // The smallest key held above a given one, 0 at the end, into 1 entry. Or 1, then 7.
-#[unsafe(no_mangle)]
-pub extern "C" fn addercoil_next(table: &[u8], key: u32, out: &mut [u64]) -> u32
+pub fn addercoil_next(table: &[u8], key: u32, out: &mut [u64]) -> u32
     ensures { sent result out.new ≡ into 1 out.old (next_said (next_above table.now key)) }
 {
     if out.len() != 1 {

@@ -3,8 +3,7 @@ ghost use Rattle.std.specs.Prelude.{◌≡◌};
 ghost use Rattle.addercoil.specs.Version.{version};
 
 // 10,000 times the major number, 100 times the minor one, and the patch.
-#[unsafe(no_mangle)]
-pub extern "C" fn addercoil_version() -> u32
+pub fn addercoil_version() -> u32
     ensures { result ≡ version }
 {
     1000

@@ -99,7 +99,14 @@ pub extern "C" fn addercoil_pair(
 ) -> u32
     ensures { sent result out.new ≡ into 2 out.old (pair_said Size.Fine (as_counts even_latitude even_longitude) (as_counts odd_latitude odd_longitude) later_odd) }
 {
-    addercoil::spots::addercoil_pair(even_latitude, even_longitude, odd_latitude, odd_longitude, later_odd, out)
+    addercoil::spots::addercoil_pair(
+        even_latitude,
+        even_longitude,
+        odd_latitude,
+        odd_longitude,
+        later_odd,
+        out,
+    )
 }
 
 #[unsafe(no_mangle)]
@@ -113,7 +120,14 @@ pub extern "C" fn addercoil_pair_coarse(
 ) -> u32
     ensures { sent result out.new ≡ into 2 out.old (pair_said Size.Coarse (as_counts even_latitude even_longitude) (as_counts odd_latitude odd_longitude) later_odd) }
 {
-    addercoil::spots::addercoil_pair_coarse(even_latitude, even_longitude, odd_latitude, odd_longitude, later_odd, out)
+    addercoil::spots::addercoil_pair_coarse(
+        even_latitude,
+        even_longitude,
+        odd_latitude,
+        odd_longitude,
+        later_odd,
+        out,
+    )
 }
 
 #[unsafe(no_mangle)]
@@ -128,7 +142,15 @@ pub extern "C" fn addercoil_single(
 ) -> u32
     ensures { sent result out.new ≡ into 2 out.old (single_said Size.Fine latitude longitude (as_counts count_latitude count_longitude) surface odd) }
 {
-    addercoil::spots::addercoil_single(latitude, longitude, count_latitude, count_longitude, surface, odd, out)
+    addercoil::spots::addercoil_single(
+        latitude,
+        longitude,
+        count_latitude,
+        count_longitude,
+        surface,
+        odd,
+        out,
+    )
 }
 
 #[unsafe(no_mangle)]
@@ -142,7 +164,14 @@ pub extern "C" fn addercoil_single_coarse(
 ) -> u32
     ensures { sent result out.new ≡ into 2 out.old (single_said Size.Coarse latitude longitude (as_counts count_latitude count_longitude) 0 odd) }
 {
-    addercoil::spots::addercoil_single_coarse(latitude, longitude, count_latitude, count_longitude, odd, out)
+    addercoil::spots::addercoil_single_coarse(
+        latitude,
+        longitude,
+        count_latitude,
+        count_longitude,
+        odd,
+        out,
+    )
 }
 
 #[unsafe(no_mangle)]

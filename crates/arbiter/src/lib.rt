@@ -9,8 +9,7 @@ ghost use Rattle.arbiter.specs.Checks.{check_said};
 use compare::Checked;
 
 // 0 for yes, else the first line at fault, into 1 entry. Or 1, then 14, then 16.
-#[unsafe(no_mangle)]
-pub extern "C" fn addercoil_check(capture: &[u8], listing: &[u8], out: &mut [u64]) -> u32
+pub fn addercoil_check(capture: &[u8], listing: &[u8], out: &mut [u64]) -> u32
     ensures { sent result out.new ≡ into 1 out.old (check_said (checked capture.now listing.now)) }
 {
     if out.len() != 1 {

@@ -44,8 +44,7 @@ fn give_coarse(out: &mut [u64], log: &[u8], address: u32, flag: u32, station: u3
 }
 
 // The track of a kind and an address after the records of a log, zeros if it is not held, into 72 entries. Or 1, then 14, then 8.
-#[unsafe(no_mangle)]
-pub extern "C" fn addercoil_replay(log: &[u8], kind: u32, address: u32, out: &mut [u64]) -> u32
+pub fn addercoil_replay(log: &[u8], kind: u32, address: u32, out: &mut [u64]) -> u32
     ensures { sent result out.new ≡ into track_size out.old (replay_said log.now kind address no_site) }
 {
     if out.len() != track_rows::TRACK {
@@ -55,8 +54,7 @@ pub extern "C" fn addercoil_replay(log: &[u8], kind: u32, address: u32, out: &mu
 }
 
 // The same from a set-up with a site. Or 1, then 14, then 8.
-#[unsafe(no_mangle)]
-pub extern "C" fn addercoil_replay_at(
+pub fn addercoil_replay_at(
     log: &[u8],
     kind: u32,
     address: u32,
@@ -81,8 +79,7 @@ pub extern "C" fn addercoil_replay_at(
 }
 
 // The same of kind C, with a flag and a station, into 72 entries. Or 1, then 14, then 8.
-#[unsafe(no_mangle)]
-pub extern "C" fn addercoil_replay_coarse(
+pub fn addercoil_replay_coarse(
     log: &[u8],
     address: u32,
     flag: u32,

@@ -5,8 +5,7 @@ ghost use Rattle.dealer.specs.Joint.{joint, merge_into};
 use merge::Merged;
 
 // The listing of both, with zeros behind the text, and how many bytes the text has. Or 1, then 16.
-#[unsafe(no_mangle)]
-pub extern "C" fn addercoil_merge(a: &[u8], b: &[u8], out: &mut [u8], written: &mut [u64]) -> u32
+pub fn addercoil_merge(a: &[u8], b: &[u8], out: &mut [u8], written: &mut [u64]) -> u32
     ensures { joint result out.new written.new ≡ merge_into a.now b.now out.old written.old }
 {
     if written.len() != 1 {

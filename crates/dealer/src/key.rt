@@ -8,8 +8,7 @@ use entries::give;
 use messages::Accepted;
 
 // The key of an acceptable message, into one entry. Or 1, then 3, 4, 5.
-#[unsafe(no_mangle)]
-pub extern "C" fn addercoil_key(message: &[u8], out: &mut [u64]) -> u32
+pub fn addercoil_key(message: &[u8], out: &mut [u64]) -> u32
     ensures { sent result out.new ≡ into 1 out.old (key_said (decoded message.now)) }
 {
     if out.len() != 1 {

@@ -43,8 +43,7 @@ pub(crate) fn no_choice(table: &[u8]) -> u32
 }
 
 // The listing's first line, of the table as it stands and a number of bad blocks, into 129 bytes: all 0 counts the tracks with a position, 1 all. Or 1, then 7, 8.
-#[unsafe(no_mangle)]
-pub extern "C" fn addercoil_header(table: &[u8], bad: u64, all: u32, out: &mut [u8]) -> u32
+pub fn addercoil_header(table: &[u8], bad: u64, all: u32, out: &mut [u8]) -> u32
     ensures { sent result out.new ≡ into line_buffer out.old (header_said all table.now bad) }
 {
     if out.len() != BUFFER {
@@ -57,8 +56,7 @@ pub extern "C" fn addercoil_header(table: &[u8], bad: u64, all: u32, out: &mut [
 }
 
 // The line of a key, none if it is not held or not shown, into 129 bytes: all 0 shows the tracks with a position, 1 all. Or 1, then 7, 8.
-#[unsafe(no_mangle)]
-pub extern "C" fn addercoil_line(table: &[u8], key: u32, all: u32, out: &mut [u8]) -> u32
+pub fn addercoil_line(table: &[u8], key: u32, all: u32, out: &mut [u8]) -> u32
     ensures { sent result out.new ≡ into line_buffer out.old (line_said all table.now key) }
 {
     if out.len() != BUFFER {

@@ -18,8 +18,7 @@ fn unlisted(table: &[u8], order: usize, out: usize) -> u32
 }
 
 // The listing, of the table as it stands and a number of bad blocks, with zeros behind the text, and how many bytes the text has: all 0 shows the tracks with a position, 1 all. The keys are sorted in `order`. Or 1, then 7, 8.
-#[unsafe(no_mangle)]
-pub extern "C" fn addercoil_listing(
+pub fn addercoil_listing(
     table: &[u8],
     bad: u64,
     all: u32,
