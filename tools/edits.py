@@ -1,14 +1,13 @@
-"""The edits that must fail: read, applied as `rt must-fail` does, and tried over what `rt dev` keeps.
+"""The edits that must fail: read, applied as `rt must-fail` does, and tried by it over what `rt check` keeps.
 
 An edit lies in one of two folders of its crate. The gate, `rt ci`, tries those in must-fail/: each costs a check of its
-whole crate. `./test --all` also tries those in more-edits/, in seconds each.
+crate. `./test --all` also tries those in more-edits/, which are put into must-fail/ of a copy.
 """
 import os
 import re
 import shutil
 import subprocess
 import tempfile
-import time
 from concurrent.futures import ThreadPoolExecutor
 from pathlib import Path
 from typing import NamedTuple
@@ -75,6 +74,8 @@ def edited(edit, folder):
         if not old or text.count(old) != 1:
             raise Unfit(f'{old!r} stands {text.count(old) if old else 0} times in {file}')
         texts[path] = text.replace(old, new)
+    if all(path.read_text(encoding='utf-8') == text for path, text in texts.items()):
+        raise Unfit('it changes nothing')
     return texts
 
 
@@ -86,6 +87,9 @@ def apply(edit, folder):
 
 # Trying
 
+SAID = re.compile(r'rt: must-fail (\S+)\.edit: (refused, as it must be|[A-Z ]+)')
+PARTS = ('src', 'specs', 'proofs')
+
 
 def start_of(said, most=20):
     """The first lines of what a command printed."""
@@ -93,66 +97,78 @@ def start_of(said, most=20):
     return '\n'.join([*lines[:most], *([f'.. and {len(lines) - most} lines more'] if len(lines) > most else [])])
 
 
-def checked(crate, room):
-    """The status of `rt dev` in a room, and what it said."""
-    done = subprocess.run(
-        ['rt', 'dev', crate], cwd=room, stdin=subprocess.DEVNULL, stdout=subprocess.PIPE, stderr=subprocess.STDOUT, text=True, errors='replace', check=False
-    )
+def lines_of_crates(text):
+    """What each crate needs, by the text of crates.txt: a line is a name, a word for a static library, a colon and what the crate names."""
+    lines = [line.partition('#')[0] for line in text.splitlines()]
+    return {name.split()[0]: rest.split() for name, colon, rest in (line.partition(':') for line in lines) if colon}
+
+
+def linked(one, other):
+    """A copy of what was proved, which is replaced by a check and never changed: a link, where there can be one."""
+    try:
+        if one.endswith('.oantt'):
+            return os.link(one, other)
+    except OSError:
+        pass
+    return shutil.copy2(one, other)
+
+
+def copied(crates, folders, room):
+    """A repository of some crates and those that they need, with what was proved of them; of the edits, those of these crates in some folders."""
+    listed = lines_of_crates((ROOT / 'crates.txt').read_text(encoding='utf-8'))
+    needed = [*crates]
+    for crate in needed:
+        needed += [one for one in listed[crate] if one in listed and one not in needed]
+    kept = [line for line in (ROOT / 'crates.txt').read_text(encoding='utf-8').splitlines() if lines_of_crates(line).keys() & {*needed}]
+    (room / 'crates.txt').write_text('\n'.join(kept) + '\n', encoding='utf-8')
+    if (ROOT / 'HANDLES').exists():
+        shutil.copy(ROOT / 'HANDLES', room)
+    for crate in needed:
+        here, there = ROOT / 'crates' / crate, room / 'crates' / crate
+        for part in PARTS:
+            if (here / part).is_dir():
+                shutil.copytree(here / part, there / part)
+        if (here / 'out').is_dir():
+            shutil.copytree(here / 'out', there / 'out', symlinks=True, copy_function=linked)
+    for edit in (edit for crate in crates for edit in edits_of(crate, folders)):
+        place = room / 'crates' / edit.crate / GATE / f'{edit.name}.edit'
+        place.parent.mkdir(exist_ok=True)
+        shutil.copy(ROOT / 'crates' / edit.crate / edit.folder / place.name, place)
+
+
+def checked(folder):
+    """The status of `rt check` in a crate's folder, and what it said."""
+    kept = {'stdin': subprocess.DEVNULL, 'stdout': subprocess.PIPE, 'stderr': subprocess.STDOUT}
+    done = subprocess.run(['rt', 'check'], cwd=folder, text=True, errors='replace', check=False, **kept)
     return done.returncode, done.stdout
 
 
-def copied(crate, room, kept):
-    """A repository in which a crate can be edited: the other crates and what was proved of them are links to this one's."""
-    (room / 'crates').mkdir()
-    (room / 'target/log').mkdir(parents=True)
-    shutil.copy(ROOT / 'crates.txt', room)
-    for other in (ROOT / 'crates').iterdir():
-        if other.name != crate:
-            (room / 'crates' / other.name).symlink_to(other)
-    own = room / 'crates' / crate
-    shutil.copytree(ROOT / 'crates' / crate, own, ignore=shutil.ignore_patterns(*FOLDERS))
-    for part in ('rlib', 'stamp'):
-        (room / 'target' / part).symlink_to(ROOT / 'target' / part)
-    if kept.is_dir():
-        shutil.copytree(kept, room / 'target/inc' / crate, symlinks=True)
-    return own
-
-
-def tried(edit, kept):
-    """What came of an edit, and whether that is as it must be."""
-    began = time.monotonic()
-    with tempfile.TemporaryDirectory() as name:
-        try:
-            apply(edit, copied(edit.crate, Path(name), kept))
-        except Unfit as why:
-            return f'{edit.label}: DOES NOT FIT: {why}', False
-        status, said = checked(edit.crate, Path(name))
-    took = f'{time.monotonic() - began:.0f} s'
-    if status == 1 and re.search(r'^logic=not-proved', said, flags=re.M):
-        return f'{edit.label}: refused, as it must be ({took})', True
-    if status == 0:
-        return f'{edit.label}: NOT REFUSED: still proved with this edit ({took})', False
-    return f'{edit.label}: it did not reach the prover (status {status}):\n{start_of(said)}', False
-
-
-def try_crate(crate, folders, say):
-    """Tries the edits of a crate; the labels of those that fail. The copy without an edit must be proved first: else a refusal would show nothing."""
-    failed = []
-    with tempfile.TemporaryDirectory() as name:
-        copied(crate, Path(name), ROOT / 'target/inc' / crate)
-        status, said = checked(crate, Path(name))
-        if status != 0:
-            say(f'{crate}: not proved without an edit:\n{start_of(said)}')
-            return [f'rt dev {crate}']
-        for edit in edits_of(crate, folders):
-            said, right = tried(edit, Path(name) / 'target/inc' / crate)
-            say(said)
-            failed += [] if right else [edit.label]
-    return failed
+def refused(room, crates, say):
+    """The labels of the edits that `rt must-fail` says the prover refuses; it says more of each."""
+    kept = {'stdin': subprocess.DEVNULL, 'stdout': subprocess.PIPE, 'stderr': subprocess.STDOUT}
+    found = set()
+    with subprocess.Popen(['rt', 'must-fail', *crates], cwd=room, text=True, errors='replace', **kept) as running:
+        for line in running.stdout:
+            say(line.rstrip())
+            said = SAID.match(line)
+            if said and said[2].startswith('refused'):
+                found.add(said[1])
+    return found
 
 
 def try_edits(crates, folders, say):
-    """Tries the edits of crates, some crates at a time; the labels of those that fail. What the crates need is proved before."""
+    """Tries the edits of crates; the labels of those that fail. A copy without an edit must be proved first: else a refusal would show nothing."""
     chosen = [crate for crate in crates if edits_of(crate, folders)]
-    with ThreadPoolExecutor(JOBS) as pool:
-        return [label for failed in pool.map(lambda crate: try_crate(crate, folders, say), chosen) for label in failed]
+    if not chosen:
+        return []
+    with tempfile.TemporaryDirectory() as name:
+        room = Path(name)
+        copied(chosen, folders, room)
+        with ThreadPoolExecutor(JOBS) as pool:
+            checks = dict(zip(chosen, pool.map(lambda crate: checked(room / 'crates' / crate), chosen)))
+        failed = [crate for crate, (status, _) in checks.items() if status != 0]
+        for crate in failed:
+            say(f'{crate}: not proved without an edit:\n{start_of(checks[crate][1])}')
+        proved = [crate for crate in chosen if crate not in failed]
+        found = refused(room, proved, say) if proved else set()
+    return [*(f'rt check of {crate}' for crate in failed), *(edit.label for crate in proved for edit in edits_of(crate, folders) if edit.label not in found)]

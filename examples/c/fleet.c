@@ -12,10 +12,10 @@
  * said, and the status is 1.
  *
  * This program is not proved. What it builds on is proved in c_fleet, of the calls of C. Each aircraft is told and
- * shown what one table would tell and show, if no table was full for it: `fleet-is-one`. For more than 1,024 aircraft
- * the single table has a place for each of them: `roomy-fleet`. The tables list what that table would list:
- * `fleet-prints`, `rows-add-up`. Merged one after the other, their listings are its listing, byte for byte:
- * `merged-is-one`. A comment that begins with Premise is before each line that keeps a premise of these.
+ * shown what one table would tell and show, if no table was full for it: `fleet_is_one`. For more than 1,024 aircraft
+ * the single table has a place for each of them: `roomy_fleet`. The tables list what that table would list:
+ * `fleet_prints`, `rows_add_up`. Merged one after the other, their listings are its listing, byte for byte:
+ * `merged_is_one`. A comment that begins with Premise is before each line that keeps a premise of these.
  */
 // gcc -std=c99 -pthread -Idist examples/c/fleet.c dist/*.S -o fleet
 #define _POSIX_C_SOURCE 200112L
@@ -399,7 +399,7 @@ static const char *merge_two(struct listing *one, struct listing *other) {
 }
 
 /*
- * Premise `Merged`: the listings of all tables are merged one after the other, as in `merged-is-one`. The first table
+ * Premise `Merged`: the listings of all tables are merged one after the other, as in `merged_is_one`. The first table
  * then has the one listing. Why there is none, or NULL.
  */
 static const char *merge_all(struct shard *shards, size_t tables) {
