@@ -2,7 +2,7 @@
 
     python3 reference/run_rust.py
 
-A copy of bindings/rust and dist/ is built in a folder of the test, without the kit. Each cargo that is here builds it: Debian's, and that
+A copy of bindings/rust is built in a folder of the test, without the kit. Each cargo that is here builds it: Debian's, and that
 of rustup. Its own tests pass, and its papers are made, without a warning. The calls of tests/c are made over slices. If the types of the
 crate can say a call, it is made by these too. Its example prints the listings of all samples. The package that cargo makes of it builds
 by itself. Its build script makes the archive of each target, or says why it does not. Without dist/, or without a C compiler, it says what
@@ -88,8 +88,7 @@ class Crate:
 def copied(folder):
     """A copy of what the crate needs, and of nothing else; its folder."""
     left_out = shutil.ignore_patterns("target", "Cargo.lock")
-    shutil.copytree(CRATE, folder / "bindings/rust", symlinks=True, ignore=left_out)
-    shutil.copytree(ROOT / "dist", folder / "dist")
+    shutil.copytree(CRATE, folder / "bindings/rust", ignore=left_out)
     return folder / "bindings/rust"
 
 
@@ -193,7 +192,7 @@ def refused(crate, folder):
     needs_compiler = f"addercoil: there is no C compiler for {host}: install gcc, or name one in CC_"
     says(bare.ran("build", "--offline", PATH=str(bare.tools), **linker), needs_compiler)
     says(bare.ran("build", "--offline", "--target", "wasm32-unknown-unknown"), "addercoil: for WebAssembly take dist/addercoil.wasm")
-    shutil.rmtree(crate.where.parent.parent / "dist")
+    shutil.rmtree(crate.where / "dist")
     says(bare.ran("build", "--offline"), "addercoil: there is no assembler in", "take the whole repository, in which dist/ is")
 
 
