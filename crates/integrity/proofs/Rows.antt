@@ -13,7 +13,7 @@ use Rattle.integrity.specs.declared.standard.Bits.{Bits}
 use Rattle.integrity.specs.declared.Integrity.TheVariants.{Unknown, Nuc, Nic}
 use Rattle.integrity.specs.Integrity.{integrity_by}
 use Rattle.integrity.specs.Tables.{Row, nuc_rows, nic_rows1, nic_rows2, lowest, with_these, of_type, in_table}
-use Rattle.integrity.specs.Code.{nucs, nics, nic1, nic2}
+use Rattle.integrity.specs.Code.{nucs, nic1, nic2}
 
 -- ---- whatever a number and none are answered by
 

@@ -2,8 +2,7 @@
 use Prim.Native.Nat.{ℕ, ◌<◌}
 use mathlib.Core.Path.{◌≡◌, ap, sym, ◌∙◌}
 use mathlib.Core.Bool.{Bool, true, false, cond}
-use borrow.Author.Rules.{rules}
-use borrow.Author.Tests.{eq-eqb, ne_eqb, not-true, not-false}
+use borrow.Author.Tests.{eq-eqb, ne_eqb}
 use lib.Dec.{eqb}
 use lib.ListN.{get_or}
 use Rattle.layouts.specs.Layouts.{is_position}
@@ -24,20 +23,20 @@ module _ (v k : ℕ) (h : k < 32) (s : Bits) {r : Bool} (e : r ≡ is_position k
 
 pub returns-then-not-is_position : goal.returns-then-not-is_position
 returns-then-not-is_position c =
-    no_position_lem c.args.version c.args.typecode c.requires c.args.s c.is_position.ensures (not-true _ c.if-not-is_position.true)
+    no_position_lem c.args.version c.args.typecode c.requires c.args.s c.is_position.ensures c.if-not-is_position.true
 
 pub returns-then-version-eq0 : goal.returns-then-version-eq0
 returns-then-version-eq0 c =
-    rw (← position c.args.version c.args.typecode c.requires c.args.s c.is_position.ensures (not-false _ c.if-not-is_position.false), eq-eqb _ _ c.if-version-eq0.true) (ap Nuc c.nuc.ensures)
+    rw (← position c.args.version c.args.typecode c.requires c.args.s c.is_position.ensures c.if-not-is_position.false, eq-eqb _ _ c.if-version-eq0.true) (ap Nuc c.nuc.ensures)
 
 pub returns-then-version-eq1 : goal.returns-then-version-eq1
 returns-then-version-eq1 c =
-    rw (← position c.args.version c.args.typecode c.requires c.args.s c.is_position.ensures (not-false _ c.if-not-is_position.false), ne_eqb _ _ c.if-version-eq0.false, eq-eqb _ _ c.if-version-eq1.true) (ap Nic c.nic_1.ensures)
+    rw (← position c.args.version c.args.typecode c.requires c.args.s c.is_position.ensures c.if-not-is_position.false, ne_eqb _ _ c.if-version-eq0.false, eq-eqb _ _ c.if-version-eq1.true) (ap Nic c.nic_1.ensures)
 
 pub returns-then-version-eq2 : goal.returns-then-version-eq2
 returns-then-version-eq2 c =
-    rw (← position c.args.version c.args.typecode c.requires c.args.s c.is_position.ensures (not-false _ c.if-not-is_position.false), ne_eqb _ _ c.if-version-eq0.false, ne_eqb _ _ c.if-version-eq1.false, eq-eqb _ _ c.if-version-eq2.true) (ap Nic c.nic_2.ensures)
+    rw (← position c.args.version c.args.typecode c.requires c.args.s c.is_position.ensures c.if-not-is_position.false, ne_eqb _ _ c.if-version-eq0.false, ne_eqb _ _ c.if-version-eq1.false, eq-eqb _ _ c.if-version-eq2.true) (ap Nic c.nic_2.ensures)
 
 pub returns : goal.returns
 returns c =
-    rw (← position c.args.version c.args.typecode c.requires c.args.s c.is_position.ensures (not-false _ c.if-not-is_position.false), ne_eqb _ _ c.if-version-eq0.false, ne_eqb _ _ c.if-version-eq1.false, ne_eqb _ _ c.if-version-eq2.false)
+    rw (← position c.args.version c.args.typecode c.requires c.args.s c.is_position.ensures c.if-not-is_position.false, ne_eqb _ _ c.if-version-eq0.false, ne_eqb _ _ c.if-version-eq1.false, ne_eqb _ _ c.if-version-eq2.false)

@@ -4,7 +4,6 @@ use mathlib.Core.Path.{sym, ◌∙◌}
 use lib.Dec.{leb}
 use borrow.Author.Tests.{leb-false}
 use Rattle.fields.proofs.Bools.{neither}
-use borrow.Author.Rules.{rules}
 use Rattle.integrity.specs.Integrity.{integrity_of}
 use Rattle.integrity.proofs.integrity_of.Goals as goal
 

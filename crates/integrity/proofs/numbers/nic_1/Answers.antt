@@ -1,5 +1,4 @@
 -- `integrity::numbers::nic_1` meets its contract: the tests on the way pick the case of the definition.
-use borrow.Author.Rules.{rules}
 use Rattle.integrity.specs.Code.{nic1}
 use Rattle.integrity.proofs.numbers.nic_1.Goals as goal
 

@@ -1,5 +1,4 @@
 -- `integrity::numbers::nic_2` meets its contract: the tests on the way pick the case of the definition.
-use borrow.Author.Rules.{rules}
 use Rattle.integrity.specs.Code.{nic2}
 use Rattle.integrity.proofs.numbers.nic_2.Goals as goal
 

@@ -1,6 +1,5 @@
 -- `integrity::standard::bits_in` meets its contract: by the kind.
 use mathlib.Core.Path.{sym, ◌∙◌}
-use borrow.Author.Rules.{rules}
 use Rattle.integrity.specs.Standard.{bits_in}
 use Rattle.integrity.proofs.standard.bits_in.Goals as goal
 

@@ -3,7 +3,6 @@ use Prim.Native.Nat.{ℕ}
 use mathlib.Core.Path.{◌≡◌, refl}
 use mathlib.Core.Bool.{Bool, true, false, cond, ◌&&◌}
 use lib.Dec.{eqb}
-use borrow.Author.Rules.{rules}
 use Rattle.layouts.specs.declared.status.Status.{Status}
 use Rattle.layouts.specs.Status.{status_of}
 use Rattle.integrity.specs.Standard.{status_version, status_bits}

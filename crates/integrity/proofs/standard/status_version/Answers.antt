@@ -1,6 +1,5 @@
 -- `integrity::standard::status_version` meets its contract: the layout says whether it is a status.
 use mathlib.Core.Path.{sym, ap, ◌∙◌}
-use borrow.Author.Rules.{rules}
 use Rattle.integrity.specs.Standard.{is_status, status_version}
 use Rattle.integrity.proofs.standard.status_version.Goals as goal
 

@@ -1,7 +1,6 @@
 -- `integrity::standard::supplements_of` meets its contract: an ME of more than 56 bits is refused.
 use mathlib.Core.Path.{ap}
 use borrow.Author.Tests.{le-leb, lt-leb}
-use borrow.Author.Rules.{rules}
 use Rattle.integrity.specs.declared.standard.Supplements.TheVariants.{Bits}
 use Rattle.integrity.proofs.standard.supplements_of.Goals as goal
 

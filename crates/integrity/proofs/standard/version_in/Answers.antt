@@ -1,6 +1,5 @@
 -- `integrity::standard::version_in` meets its contract: by the kind.
 use mathlib.Core.Path.{sym, ◌∙◌}
-use borrow.Author.Rules.{rules}
 use Rattle.integrity.specs.Standard.{version_in}
 use Rattle.integrity.proofs.standard.version_in.Goals as goal
 
