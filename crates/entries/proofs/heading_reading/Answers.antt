@@ -1,7 +1,6 @@
 -- `entries::heading_reading` meets its contract: by the cases.
 use mathlib.Core.Path.{sym, ap, ◌∙◌}
 use Rattle.entries.specs.Means.{heading_reading}
-use borrow.Author.Rules.{rules}
 use Rattle.entries.proofs.heading_reading.Goals as goal
 
 pub returns-in-Turn : goal.returns-in-Turn

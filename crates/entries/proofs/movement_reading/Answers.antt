@@ -1,7 +1,6 @@
 -- `entries::movement_reading` meets its contract: by the cases.
 use mathlib.Core.Path.{sym, ap, ◌∙◌}
 use Rattle.entries.specs.Means.{movement_reading}
-use borrow.Author.Rules.{rules}
 use Rattle.entries.proofs.movement_reading.Goals as goal
 
 pub returns-in-Unknown : goal.returns-in-Unknown

@@ -1,20 +1,10 @@
 -- `entries::rate_reading` meets its contract: by the cases.
 use mathlib.Core.Path.{sym, ap, ◌∙◌}
-use mir.Syntax.{w32}
-use mir.Facts.{to_z-of_z}
-use Rattle.entries.specs.Twos.{twos}
-use Rattle.entries.specs.Means.{reading, rate_reading}
-use borrow.Author.Rules.{rules}
+use Rattle.entries.specs.Means.{rate_reading}
 use Rattle.entries.proofs.rate_reading.Goals as goal
 
 pub returns-in-Unknown : goal.returns-in-Unknown
 returns-in-Unknown c = c.only.ensures ∙ sym (ap rate_reading c.in-Unknown.is)
-
-pub returns-in-FeetPerMinute : goal.returns-in-FeetPerMinute
-returns-in-FeetPerMinute c =
-    c.known.ensures
-    ∙ ap (reading 1) (c.twos_of.ensures ∙ ap twos (to_z-of_z {w = w32} {z = c.in-FeetPerMinute.z} (record { sfits = c.in-FeetPerMinute.given.0.1 })))
-    ∙ sym (ap rate_reading c.in-FeetPerMinute.is)
 
 pub returns-in-Over : goal.returns-in-Over
 returns-in-Over c = c.only-in-Over.ensures ∙ sym (ap rate_reading c.in-Over.is)

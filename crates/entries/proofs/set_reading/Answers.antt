@@ -1,7 +1,6 @@
 -- `entries::set_reading` meets its contract: by the cases.
 use mathlib.Core.Path.{sym, ap, ◌∙◌}
 use Rattle.entries.specs.Means.{set_reading}
-use borrow.Author.Rules.{rules}
 use Rattle.entries.proofs.set_reading.Goals as goal
 
 pub returns-in-A : goal.returns-in-A

@@ -1,7 +1,6 @@
 -- `entries::step_reading` meets its contract: by the cases.
 use mathlib.Core.Path.{sym, ap, ◌∙◌}
 use Rattle.entries.specs.Means.{step_reading}
-use borrow.Author.Rules.{rules}
 use Rattle.entries.proofs.step_reading.Goals as goal
 
 pub returns-in-Unknown : goal.returns-in-Unknown

@@ -1,7 +1,6 @@
 -- `entries::supplement_reading` meets its contract: by the cases.
 use mathlib.Core.Path.{sym, ap, ◌∙◌}
 use Rattle.entries.specs.Means.{supplement_reading}
-use borrow.Author.Rules.{rules}
 use Rattle.entries.proofs.supplement_reading.Goals as goal
 
 pub returns-in-Unknown : goal.returns-in-Unknown

@@ -1,7 +1,6 @@
 -- `entries::text_reading` meets its contract: by the cases.
 use mathlib.Core.Path.{sym, ap, ◌∙◌}
 use Rattle.entries.specs.Means.{text_reading}
-use borrow.Author.Rules.{rules}
 use Rattle.entries.proofs.text_reading.Goals as goal
 
 pub returns-in-Shown : goal.returns-in-Shown

@@ -1,7 +1,6 @@
 -- `entries::version_reading` meets its contract: by the cases.
 use mathlib.Core.Path.{sym, ap, ◌∙◌}
 use Rattle.entries.specs.Means.{version_reading}
-use borrow.Author.Rules.{rules}
 use Rattle.entries.proofs.version_reading.Goals as goal
 
 pub returns-in-Number : goal.returns-in-Number

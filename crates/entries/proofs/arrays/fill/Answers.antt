@@ -1,9 +1,7 @@
 -- `entries::arrays::fill` meets its contract: what the loop has passed is filled.
-use Prim.Native.Nat.{◌-◌, ◌≤◌}
 use native.Mathlib.Omega.{arith}
-use mathlib.Core.Path.{◌≡◌, refl}
-use lib.ListN.{length, take, length-set}
-use Rattle.entries.specs.Arrays.{filled}
+use mathlib.Core.Path.{refl}
+use lib.ListN.{length, length-set}
 use Rattle.entries.proofs.Filling.{fill_more, fill_whole}
 use borrow.Author.Rules.{rules}
 use Rattle.entries.proofs.arrays.fill.Goals as goal

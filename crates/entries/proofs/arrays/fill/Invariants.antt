@@ -1,11 +1,8 @@
 -- `entries::arrays::fill` meets its contract: what the loop has passed is filled.
 use Prim.Native.Nat.{◌-◌, ◌≤◌}
-use native.Mathlib.Omega.{arith}
-use mathlib.Core.Path.{◌≡◌, refl}
-use lib.ListN.{length, take, length-set}
+use mathlib.Core.Path.{◌≡◌}
+use lib.ListN.{length, take}
 use Rattle.entries.specs.Arrays.{filled}
-use Rattle.entries.proofs.Filling.{fill_more, fill_whole}
-use borrow.Author.Rules.{rules}
 use Rattle.entries.proofs.arrays.fill.Given as goal
 
 abbrev pub invariant-loop-i : goal.invariant-loop-i

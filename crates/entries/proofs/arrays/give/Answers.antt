@@ -1,7 +1,6 @@
 -- `entries::arrays::give` meets its contract: the array is filled with the list.
 use mathlib.Core.Path.{ap}
 use Rattle.entries.specs.Sent.{sent}
-use borrow.Author.Rules.{rules}
 use Rattle.entries.proofs.arrays.give.Goals as goal
 
 pub returns : goal.returns

@@ -4,18 +4,14 @@ use native.Mathlib.Omega.{arith}
 use mir.Facts.{to_z-of_z}
 use Rattle.signs.specs.Raised.{raised}
 use Rattle.entries.proofs.Twos.{twos_below, twos_above}
-use borrow.Author.Rules.{rules}
 use Rattle.entries.proofs.arrays.twos_of.Goals as goal
-
-up_is : (c : tie.After-raise) → c.raise.result ≡ raised c.before.args.z
-up_is c = c.raise.ensures ∙ ap raised (to_z-of_z c.before.ranges.z)
 
 pub returns-then-up-lt4294967296 : goal.returns-then-up-lt4294967296
 returns-then-up-lt4294967296 c =
-    let e = up_is c.before in
+    let e : c.raise-up.result ≡ raised c.args.z = c.raise-up.ensures ∙ ap raised (to_z-of_z c.ranges.z) in
     rw e (twos_below c.args.z c.ranges.z.sfits (omega arith))
 
 pub returns-else-up-lt4294967296 : goal.returns-else-up-lt4294967296
 returns-else-up-lt4294967296 c =
-    let e = up_is c.before in
+    let e : c.raise-up.result ≡ raised c.args.z = c.raise-up.ensures ∙ ap raised (to_z-of_z c.ranges.z) in
     rw e (twos_above c.args.z c.ranges.z.sfits (omega arith))
