@@ -40,10 +40,10 @@ div_turn (fin t m e) s a v =
     ∙ round_same binary64 s (m * up e * 1) (4294967296 * down e) a 4294967296 (more_pos (down_pos e)) (lit< tt) (omega (arith, v.1))
 
 -- a whole number as a double
-of_int : (n : ℤ) → of_int binary64 n ≡ round binary64 (under n) (nat_abs n) 1
+of_int_is : (n : ℤ) → of_int binary64 n ≡ round binary64 (under n) (nat_abs n) 1
 unfolding of_int
-of_int (pos n) = refl
-of_int (negsuc n) = refl
+of_int_is (pos n) = refl
+of_int_is (negsuc n) = refl
 
 -- ---- n as f64, times 360, over 2^32
 
@@ -55,7 +55,7 @@ product n = mul binary64 (cast n) (fin false 45 (pos 3))
 
 module _ (n : ℤ) (h : nat_abs n ≤ 2147483648) where
   cast_exact : HasValue (cast n) (under n) (nat_abs n) 1
-  cast_exact = subst (λ (y : Float). HasValue y (under n) (nat_abs n) 1) (sym (of_int n)) (round_whole binary64 (under n) (nat_abs n) (omega arith))
+  cast_exact = subst (λ (y : Float). HasValue y (under n) (nat_abs n) 1) (sym (of_int_is n)) (round_whole binary64 (under n) (nat_abs n) (omega arith))
 
   product_is : product n ≡ round binary64 (under n) (nat_abs n * 360) 1
   product_is = mul_by (cast n) (under n) (nat_abs n) 1 45 3 (lit< tt) cast_exact

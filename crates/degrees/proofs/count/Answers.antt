@@ -6,7 +6,7 @@ use Rattle.degrees.proofs.count.Goals as goal
 
 pub truncating_f64_to_u64-requires : goal.truncating_f64_to_u64-requires
 unfolding of_bits neg
-truncating_f64_to_u64-requires c = (subst T (sym c.if-y.true) tt, subst T (sym c.if-y-2.true) tt)
+truncating_f64_to_u64-requires c = record { lower_bound = subst T (sym c.if-y.true) tt; upper_bound = subst T (sym c.if-y-2.true) tt }
 
 pub returns-then-y-2 : goal.returns-then-y-2
 returns-then-y-2 c k h e = ap (λ (y : ℕ). y / 360) (c.truncating_f64_to_u64.ensures ∙ ap (to_unsigned 64) e) ∙ counted k h

@@ -1,5 +1,5 @@
 -- `degrees::figure` meets its contract: each of its steps is exact.
-use Rattle.std.proofs.Common.{to_z-of_z, rules}
+use Rattle.std.proofs.Common.{to_z-of_z}
 use lib.Signed.{nat_abs-le}
 use Rattle.degrees.proofs.Steps.{figure_is}
 use Rattle.degrees.proofs.figure.Goals as goal

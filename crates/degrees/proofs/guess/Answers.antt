@@ -1,5 +1,5 @@
 -- `degrees::guess` meets its contract: on either side of zero, by the count of 360s.
-use Rattle.std.proofs.Common.{sym, ◌∙◌, arith, to_z-of_z, w32, rules}
+use Rattle.std.proofs.Common.{sym, ◌∙◌, arith, to_z-of_z, w32}
 use lib.Ieee.{of_bits}
 use mir.Facts.{to_z_pos}
 use Rattle.degrees.proofs.Sides.{south, north}
@@ -15,7 +15,7 @@ pub returns-then-k-le2147483648 : goal.returns-then-k-le2147483648
 unfolding of_bits
 returns-then-k-le2147483648 c n h e =
     let s = south c.args.x c.count-k.result c.if-y.true c.count-k.ensures n h e in
-    to_z-of_z (record { sfits = c.minus.type_inv }) ∙ c.minus.ensures ∙ sym s.0
+    to_z-of_z {w = w32} (record { sfits = c.minus.type_inv }) ∙ c.minus.ensures ∙ sym s.0
 
 pub returns-then-y : goal.returns-then-y
 unfolding of_bits
