@@ -6,212 +6,206 @@
 use counts::{LatitudeCount, LongitudeCount};
 use encoder::Encoded;
 use layouts::{Air, Airborne, Body, Coarse, Ground, Identification, Status, Surface, Vertical};
-use libc::{STDIN_FILENO, STDOUT_FILENO};
 use messages::{Decoded, Message};
 use refusals::Refusal;
-
-fn write(text: &[u8]) {
-    io::write_all(STDOUT_FILENO, text);
-}
+use std::io::{self, Read};
 
 // A field, with the space that parts it from the next.
-fn say(n: u64) {
-    io::print_decimal(STDOUT_FILENO, n);
-    write(b" ");
+fn say(out: &impl Print, n: impl Into<u64>) -> io::Result<()> {
+    let n: u64 = n.into();
+    print!(out; "{n} ")
 }
 
-fn say_refused(r: Refusal) {
-    write(b"refused ");
-    io::print_decimal(STDOUT_FILENO, refusals::number(r) as u64);
+fn say_refused(out: &impl Print, r: Refusal) -> io::Result<()> {
+    print!(out; "refused {}", refusals::number(r))
 }
 
-fn say_identification(b: Identification) {
-    say(b.typecode as u64);
-    say(b.category as u64);
-    say(b.characters);
+fn say_identification(out: &impl Print, b: Identification) -> io::Result<()> {
+    say(out, b.typecode)?;
+    say(out, b.category)?;
+    say(out, b.characters)
 }
 
-fn say_surface(b: Surface) {
-    say(b.typecode as u64);
-    say(b.movement as u64);
-    say(b.status as u64);
-    say(b.heading as u64);
-    say(b.t as u64);
-    say(b.f as u64);
-    say(b.latitude.0 as u64);
-    say(b.longitude.0 as u64);
+fn say_surface(out: &impl Print, b: Surface) -> io::Result<()> {
+    say(out, b.typecode)?;
+    say(out, b.movement)?;
+    say(out, b.status)?;
+    say(out, b.heading)?;
+    say(out, b.t)?;
+    say(out, b.f)?;
+    say(out, b.latitude.0)?;
+    say(out, b.longitude.0)
 }
 
-fn say_airborne(b: Airborne) {
-    say(b.typecode as u64);
-    say(b.surveillance as u64);
-    say(b.bit8 as u64);
-    say(b.altitude as u64);
-    say(b.t as u64);
-    say(b.f as u64);
-    say(b.latitude.0 as u64);
-    say(b.longitude.0 as u64);
+fn say_airborne(out: &impl Print, b: Airborne) -> io::Result<()> {
+    say(out, b.typecode)?;
+    say(out, b.surveillance)?;
+    say(out, b.bit8)?;
+    say(out, b.altitude)?;
+    say(out, b.t)?;
+    say(out, b.f)?;
+    say(out, b.latitude.0)?;
+    say(out, b.longitude.0)
 }
 
-fn say_vertical(v: Vertical) {
-    say(v.source as u64);
-    say(v.down as u64);
-    say(v.rate as u64);
-    say(v.reserved as u64);
-    say(v.below as u64);
-    say(v.difference as u64);
+fn say_vertical(out: &impl Print, v: Vertical) -> io::Result<()> {
+    say(out, v.source)?;
+    say(out, v.down)?;
+    say(out, v.rate)?;
+    say(out, v.reserved)?;
+    say(out, v.below)?;
+    say(out, v.difference)
 }
 
-fn say_ground(b: Ground) {
-    say(b.typecode as u64);
-    say(b.subtype as u64);
-    say(b.bit9 as u64);
-    say(b.bit10 as u64);
-    say(b.nacv as u64);
-    say(b.west as u64);
-    say(b.eastward as u64);
-    say(b.south as u64);
-    say(b.northward as u64);
-    say_vertical(b.vertical);
+fn say_ground(out: &impl Print, b: Ground) -> io::Result<()> {
+    say(out, b.typecode)?;
+    say(out, b.subtype)?;
+    say(out, b.bit9)?;
+    say(out, b.bit10)?;
+    say(out, b.nacv)?;
+    say(out, b.west)?;
+    say(out, b.eastward)?;
+    say(out, b.south)?;
+    say(out, b.northward)?;
+    say_vertical(out, b.vertical)
 }
 
-fn say_air(b: Air) {
-    say(b.typecode as u64);
-    say(b.subtype as u64);
-    say(b.bit9 as u64);
-    say(b.bit10 as u64);
-    say(b.nacv as u64);
-    say(b.status as u64);
-    say(b.heading as u64);
-    say(b.airspeedkind as u64);
-    say(b.airspeed as u64);
-    say_vertical(b.vertical);
+fn say_air(out: &impl Print, b: Air) -> io::Result<()> {
+    say(out, b.typecode)?;
+    say(out, b.subtype)?;
+    say(out, b.bit9)?;
+    say(out, b.bit10)?;
+    say(out, b.nacv)?;
+    say(out, b.status)?;
+    say(out, b.heading)?;
+    say(out, b.airspeedkind)?;
+    say(out, b.airspeed)?;
+    say_vertical(out, b.vertical)
 }
 
 // The fields of a status from NACp on.
-fn say_end(nacp: u8, bits49: u8, sil: u8, bit53: u8, bit54: u8, bits55: u8) {
-    say(nacp as u64);
-    say(bits49 as u64);
-    say(sil as u64);
-    say(bit53 as u64);
-    say(bit54 as u64);
-    say(bits55 as u64);
+fn say_end(
+    out: &impl Print,
+    nacp: u8,
+    bits49: u8,
+    sil: u8,
+    bit53: u8,
+    bit54: u8,
+    bits55: u8,
+) -> io::Result<()> {
+    say(out, nacp)?;
+    say(out, bits49)?;
+    say(out, sil)?;
+    say(out, bit53)?;
+    say(out, bit54)?;
+    say(out, bits55)
 }
 
-fn say_status(b: Status) {
-    say(b.typecode as u64);
-    say(b.subtype as u64);
-    say(b.class as u64);
-    say(b.bit20 as u64);
-    say(b.width as u64);
-    say(b.mode as u64);
-    say(b.version as u64);
-    say(b.supplementa as u64);
-    say_end(b.nacp, b.bits49, b.sil, b.bit53, b.bit54, b.bits55);
+fn say_status(out: &impl Print, b: Status) -> io::Result<()> {
+    say(out, b.typecode)?;
+    say(out, b.subtype)?;
+    say(out, b.class)?;
+    say(out, b.bit20)?;
+    say(out, b.width)?;
+    say(out, b.mode)?;
+    say(out, b.version)?;
+    say(out, b.supplementa)?;
+    say_end(out, b.nacp, b.bits49, b.sil, b.bit53, b.bit54, b.bits55)
 }
 
-fn say_coarse(b: Coarse) {
-    say(b.flag as u64);
-    say(b.surveillance as u64);
-    say(b.station as u64);
-    say(b.altitude as u64);
-    say(b.status as u64);
-    say(b.angle as u64);
-    say(b.speed as u64);
-    say(b.f as u64);
-    say(b.latitude.0 as u64);
-    say(b.longitude.0 as u64);
+fn say_coarse(out: &impl Print, b: Coarse) -> io::Result<()> {
+    say(out, b.flag)?;
+    say(out, b.surveillance)?;
+    say(out, b.station)?;
+    say(out, b.altitude)?;
+    say(out, b.status)?;
+    say(out, b.angle)?;
+    say(out, b.speed)?;
+    say(out, b.f)?;
+    say(out, b.latitude.0)?;
+    say(out, b.longitude.0)
 }
 
-fn say_body(b: Body) {
+fn say_body(out: &impl Print, b: Body) -> io::Result<()> {
     match b {
-        Body::Identification(x) => say_identification(x),
-        Body::Surface(x) => say_surface(x),
-        Body::Airborne(x) => say_airborne(x),
-        Body::Ground(x) => say_ground(x),
-        Body::Air(x) => say_air(x),
-        Body::Status(x) => say_status(x),
-        Body::Coarse(x) => say_coarse(x),
+        Body::Identification(x) => say_identification(out, x),
+        Body::Surface(x) => say_surface(out, x),
+        Body::Airborne(x) => say_airborne(out, x),
+        Body::Ground(x) => say_ground(out, x),
+        Body::Air(x) => say_air(out, x),
+        Body::Status(x) => say_status(out, x),
+        Body::Coarse(x) => say_coarse(out, x),
     }
 }
 
-// A hex digit in upper case, which `io` does not write.
-fn digit(n: u8) -> u8 {
-    let d = n % 16;
-    if d < 10 { 48 + d } else { 55 + d }
-}
-
-fn say_byte(b: u8) {
-    let text = [digit(b / 16), digit(b)];
-    write(&text);
-}
-
-fn say_bytes(s: &[u8]) {
-    let mut i: usize = 0;
-    while i < s.len() {
-        say_byte(s[i]);
-        i += 1;
+fn say_bytes(out: &impl Print, s: &[u8]) -> io::Result<()> {
+    for b in s {
+        print!(out; "{b:02X}")?;
     }
+    Ok(())
 }
 
-fn say_encoded(m: Message) {
-    let mut out = [0u8; 14];
-    let e = encoder::encode(m, &mut out);
+fn say_encoded(out: &impl Print, m: Message) -> io::Result<()> {
+    let mut bytes = [0u8; 14];
+    let e = encoder::encode(m, &mut bytes);
     match e {
-        Encoded::Written => say_bytes(&out),
-        Encoded::Refused(r) => say_refused(r),
+        Encoded::Written => say_bytes(out, &bytes),
+        Encoded::Refused(r) => say_refused(out, r),
     }
 }
 
-fn say_message(m: Message) {
-    say(m.format as u64);
-    say(m.control as u64);
-    say(m.address as u64);
-    let body = m.body;
-    say_body(body);
-    say_encoded(m);
+fn say_message(out: &impl Print, m: Message) -> io::Result<()> {
+    say(out, m.format)?;
+    say(out, m.control)?;
+    say(out, m.address)?;
+    say_body(out, m.body)?;
+    say_encoded(out, m)
 }
 
-fn answer(s: &[u8]) {
+fn answer(out: &impl Print, s: &[u8]) -> io::Result<()> {
     let d = messages::decode(s);
     match d {
-        Decoded::Message(m) => say_message(m),
-        Decoded::Refused(r) => say_refused(r),
-    }
-    write(b"\n");
+        Decoded::Message(m) => say_message(out, m),
+        Decoded::Refused(r) => say_refused(out, r),
+    }?;
+    out.print("\n")
 }
 
 // The next field of a message made by hand; where the input has ended, 0.
-fn field() -> u64 {
+fn field(input: &mut impl Read) -> io::Result<u64> {
     let mut b = [0u8; 8];
-    io::read_full(STDIN_FILENO, &mut b);
-    fields::number_of(&b)
+    streams::read_full(input, &mut b)?;
+    Ok(fields::number_of(&b))
 }
 
-fn byte() -> u8 {
-    (field() % 256) as u8
+fn byte(input: &mut impl Read) -> io::Result<u8> {
+    Ok((field(input)? % 256) as u8)
 }
 
-fn word() -> u32 {
-    (field() % 4294967296) as u32
+fn short(input: &mut impl Read) -> io::Result<u16> {
+    Ok((field(input)? % 65536) as u16)
 }
 
-fn status() -> Status {
-    let typecode = byte();
-    let subtype = byte();
-    let class = (field() % 65536) as u16;
-    let bit20 = byte();
-    let width = byte();
-    let mode = (field() % 65536) as u16;
-    let version = byte();
-    let supplementa = byte();
-    let nacp = byte();
-    let bits49 = byte();
-    let sil = byte();
-    let bit53 = byte();
-    let bit54 = byte();
-    let bits55 = byte();
-    Status {
+fn word(input: &mut impl Read) -> io::Result<u32> {
+    Ok((field(input)? % 4294967296) as u32)
+}
+
+fn status(input: &mut impl Read) -> io::Result<Status> {
+    let typecode = byte(input)?;
+    let subtype = byte(input)?;
+    let class = short(input)?;
+    let bit20 = byte(input)?;
+    let width = byte(input)?;
+    let mode = short(input)?;
+    let version = byte(input)?;
+    let supplementa = byte(input)?;
+    let nacp = byte(input)?;
+    let bits49 = byte(input)?;
+    let sil = byte(input)?;
+    let bit53 = byte(input)?;
+    let bit54 = byte(input)?;
+    let bits55 = byte(input)?;
+    Ok(Status {
         typecode,
         subtype,
         class,
@@ -226,21 +220,21 @@ fn status() -> Status {
         bit53,
         bit54,
         bits55,
-    }
+    })
 }
 
-fn coarse() -> Coarse {
-    let flag = byte();
-    let surveillance = byte();
-    let station = byte();
-    let altitude = (field() % 65536) as u16;
-    let status = byte();
-    let angle = byte();
-    let speed = byte();
-    let f = byte();
-    let latitude = LatitudeCount(word());
-    let longitude = LongitudeCount(word());
-    Coarse {
+fn coarse(input: &mut impl Read) -> io::Result<Coarse> {
+    let flag = byte(input)?;
+    let surveillance = byte(input)?;
+    let station = byte(input)?;
+    let altitude = short(input)?;
+    let status = byte(input)?;
+    let angle = byte(input)?;
+    let speed = byte(input)?;
+    let f = byte(input)?;
+    let latitude = LatitudeCount(word(input)?);
+    let longitude = LongitudeCount(word(input)?);
+    Ok(Coarse {
         flag,
         surveillance,
         station,
@@ -251,53 +245,55 @@ fn coarse() -> Coarse {
         f,
         latitude,
         longitude,
-    }
+    })
 }
 
 // A message made by hand: a status, or a coarse one.
-fn answer_made(is_status: bool) {
-    let format = byte();
-    let control = byte();
-    let address = word();
+fn answer_made(input: &mut impl Read, out: &impl Print, is_status: bool) -> io::Result<()> {
+    let format = byte(input)?;
+    let control = byte(input)?;
+    let address = word(input)?;
     let body = if is_status {
-        Body::Status(status())
+        Body::Status(status(input)?)
     } else {
-        Body::Coarse(coarse())
+        Body::Coarse(coarse(input)?)
     };
-    say_encoded(Message {
+    let made = Message {
         format,
         control,
         address,
         body,
-    });
-    write(b"\n");
+    };
+    say_encoded(out, made)?;
+    out.print("\n")
 }
 
 // Answers one byte string, or one made by hand, and says whether there was one.
-fn one() -> bool {
+fn one(input: &mut impl Read, out: &impl Print) -> io::Result<bool> {
     let mut head = [0u8; 1];
-    if io::read_full(STDIN_FILENO, &mut head) != 1 {
-        return false;
+    if streams::read_full(input, &mut head)? != 1 {
+        return Ok(false);
     }
     let n = (fields::number_of(&head) % 256) as usize;
     if 253 <= n && n <= 254 {
-        answer_made(n == 254);
-        return true;
+        answer_made(input, out, n == 254)?;
+        return Ok(true);
     }
     let mut space = [0u8; 256];
     let buf: &mut [u8] = &mut space;
-    let got = io::read_full(STDIN_FILENO, &mut buf[0..n]);
-    if got != n {
-        return false;
+    if streams::read_full(input, &mut buf[..n])? != n {
+        return Ok(false);
     }
-    let s: &[u8] = buf;
-    answer(&s[0..n]);
-    true
+    answer(out, &buf[..n])?;
+    Ok(true)
 }
 
-fn main() {
-    let mut turns = u64::MAX;
-    while turns > 0 && one() {
-        turns -= 1;
+fn main(rt: HostRuntime) -> io::Result<()> {
+    let mut input = rt.reader();
+    for _ in 0..u64::MAX {
+        if !one(&mut input, &rt)? {
+            break;
+        }
     }
+    Ok(())
 }

@@ -1,10 +1,10 @@
 // A table of four places on the stack: a message is received in it, and a key is looked up. It prints what each answers.
 #![tactic(auto)]
 
-use libc::STDOUT_FILENO;
 use messages::Decoded;
 use positions::Spot;
 use slice_table::{Head, Place, Received};
+use std::io;
 use track::{Holding, Looked};
 use whereabouts::Site;
 
@@ -57,59 +57,36 @@ fn rehearse(message: &[u8], time: u64, key: u32) -> Heard {
     both(r, slice_table::look_up(&places, head_in(r), key))
 }
 
-fn write(text: &[u8]) {
-    io::write_all(STDOUT_FILENO, text);
-}
-
-fn say_received(r: Received) {
-    let answer = r.answer;
-    match answer {
-        Decoded::Message(m) => {
-            write(b"message ");
-            io::print_decimal(STDOUT_FILENO, messages::key_of(m) as u64);
-        }
-        Decoded::Refused(n) => {
-            write(b"refused ");
-            io::print_decimal(STDOUT_FILENO, refusals::number(n) as u64);
-        }
+fn say_received(out: &impl Print, r: Received) -> io::Result<()> {
+    match r.answer {
+        Decoded::Message(m) => print!(out; "message {}", messages::key_of(m)),
+        Decoded::Refused(n) => print!(out; "refused {}", refusals::number(n)),
     }
 }
 
-fn say_looked(l: Looked) {
-    let answer = l.answer;
-    let t = l.track;
-    match answer {
-        Holding::Held => {
-            write(b" held ");
-            io::print_decimal(STDOUT_FILENO, t.heard);
-        }
-        Holding::Unheld => {
-            write(b" unheld");
-        }
-        Holding::Refused(n) => {
-            write(b" refused ");
-            io::print_decimal(STDOUT_FILENO, refusals::number(n) as u64);
-        }
-    }
-    write(b"\n");
+fn say_looked(out: &impl Print, l: Looked) -> io::Result<()> {
+    match l.answer {
+        Holding::Held => print!(out; " held {}", l.track.heard),
+        Holding::Unheld => out.print(" unheld"),
+        Holding::Refused(n) => print!(out; " refused {}", refusals::number(n)),
+    }?;
+    out.print("\n")
 }
 
-fn say(h: Heard) {
-    let r = h.received;
-    let l = h.look;
-    say_received(r);
-    say_looked(l);
+fn say(out: &impl Print, h: Heard) -> io::Result<()> {
+    say_received(out, h.received)?;
+    say_looked(out, h.look)
 }
 
-fn main() {
+fn main(rt: HostRuntime) -> io::Result<()> {
     let message = [
         0x8D, 0x40, 0x62, 0x1D, 0x58, 0xC3, 0x82, 0xD6, 0x90, 0xC8, 0xAC, 0x28, 0x63, 0xA7,
     ];
     let damaged = [
         0x8D, 0x40, 0x62, 0x1D, 0x58, 0xC3, 0x82, 0xD6, 0x90, 0xC8, 0xAC, 0x28, 0x63, 0xA6,
     ];
-    say(rehearse(&message, 1000, 0x140621D));
-    say(rehearse(&message, 1000, 0x240621D));
-    say(rehearse(&damaged, 1000, 0x140621D));
-    say(rehearse(&message[..13], 1000, 0x140621D));
+    say(&rt, rehearse(&message, 1000, 0x140621D))?;
+    say(&rt, rehearse(&message, 1000, 0x240621D))?;
+    say(&rt, rehearse(&damaged, 1000, 0x140621D))?;
+    say(&rt, rehearse(&message[..13], 1000, 0x140621D))
 }

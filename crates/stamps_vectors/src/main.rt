@@ -6,11 +6,11 @@
 // `reference/vectors/stamps_vectors.py` has what each writes.
 #![tactic(auto)]
 
-use libc::{STDIN_FILENO, STDOUT_FILENO};
 use messages::Decoded;
 use refusals::Refusal;
 use rules::{Clock, SetUp};
 use stamps::{Extended, Stamps};
+use std::io::{self, Read};
 
 // How many bytes are lent, and the state beside them.
 #[derive(Clone, Copy)]
@@ -21,22 +21,22 @@ struct Lent {
 
 // ---- what is read; where the input has ended, zeros
 
-fn byte() -> u8 {
+fn byte(input: &mut impl Read) -> io::Result<u8> {
     let mut b = [0u8; 1];
-    io::read_full(STDIN_FILENO, &mut b);
-    (fields::number_of(&b) % 256) as u8
+    streams::read_full(input, &mut b)?;
+    Ok((fields::number_of(&b) % 256) as u8)
 }
 
-fn word() -> u32 {
+fn word(input: &mut impl Read) -> io::Result<u32> {
     let mut b = [0u8; 4];
-    io::read_full(STDIN_FILENO, &mut b);
-    (fields::number_of(&b) % 4294967296) as u32
+    streams::read_full(input, &mut b)?;
+    Ok((fields::number_of(&b) % 4294967296) as u32)
 }
 
-fn long() -> u64 {
+fn long(input: &mut impl Read) -> io::Result<u64> {
     let mut b = [0u8; 8];
-    io::read_full(STDIN_FILENO, &mut b);
-    fields::number_of(&b)
+    streams::read_full(input, &mut b)?;
+    Ok(fields::number_of(&b))
 }
 
 fn fresh() -> Stamps {
@@ -46,185 +46,211 @@ fn fresh() -> Stamps {
     }
 }
 
-fn read_state() -> Stamps {
-    let started = byte() == 1;
-    let last = word();
-    Stamps { started, last }
+fn read_state(input: &mut impl Read) -> io::Result<Stamps> {
+    let started = byte(input)? == 1;
+    let last = word(input)?;
+    Ok(Stamps { started, last })
 }
 
 // ---- what is written
 
-fn write(text: &[u8]) {
-    io::write_all(STDOUT_FILENO, text);
-}
-
-fn say(n: u64) {
-    io::print_decimal(STDOUT_FILENO, n);
-}
-
-fn say_refused(r: Refusal) {
-    write(b"refused ");
-    say(refusals::number(r) as u64);
+fn say_refused(out: &impl Print, r: Refusal) -> io::Result<()> {
+    print!(out; "refused {}", refusals::number(r))
 }
 
 // A message is told by its key.
-fn say_answer(d: Decoded) {
+fn say_answer(out: &impl Print, d: Decoded) -> io::Result<()> {
     match d {
-        Decoded::Message(m) => say(messages::key_of(m) as u64),
-        Decoded::Refused(r) => say_refused(r),
+        Decoded::Message(m) => out.print(messages::key_of(m)),
+        Decoded::Refused(r) => say_refused(out, r),
     }
 }
 
-fn say_clock(c: Clock) {
+fn say_clock(out: &impl Print, c: Clock) -> io::Result<()> {
     match c {
-        Clock::At(t) => say(t),
-        Clock::Refused(r) => say_refused(r),
+        Clock::At(t) => out.print(t),
+        Clock::Refused(r) => say_refused(out, r),
     }
 }
 
-fn say_state(state: Stamps) {
+fn say_state(out: &impl Print, state: Stamps) -> io::Result<()> {
     if state.started {
-        say(state.last as u64);
+        out.print(state.last)
     } else {
-        write(b"-");
+        out.print("-")
     }
 }
 
 // The clock, the state, and the parity remainder of the whole table.
-fn say_left(lent: &[u8], state: Stamps) {
-    write(b" ");
-    say_clock(table::clock_of(lent));
-    write(b" ");
-    say_state(state);
-    write(b" ");
-    io::print_hex(STDOUT_FILENO, parity::remainder_of(lent) as u64, 6);
-    write(b"\n");
+fn say_left(out: &impl Print, lent: &[u8], state: Stamps) -> io::Result<()> {
+    out.print(" ")?;
+    say_clock(out, table::clock_of(lent))?;
+    out.print(" ")?;
+    say_state(out, state)?;
+    let remainder = parity::remainder_of(lent);
+    println!(out; " {remainder:06x}")
 }
 
 // ---- the calls
 
-fn set_up(buf: &mut [u8], n: usize) {
+fn set_up(out: &impl Print, buf: &mut [u8], n: usize) -> io::Result<()> {
     if n <= buf.len() {
-        let s = table::set_up(&mut buf[0..n]);
+        let s = table::set_up(&mut buf[..n]);
         match s {
-            SetUp::Done => write(b"done\n"),
-            SetUp::Refused(r) => {
-                say_refused(r);
-                write(b"\n");
-            }
-        }
+            SetUp::Done => out.print("done"),
+            SetUp::Refused(r) => say_refused(out, r),
+        }?;
+        out.print("\n")?;
     }
+    Ok(())
 }
 
-fn receive_stamp(lent: &mut [u8], state: Stamps, s: &[u8], stamp: u32) -> Stamps {
+fn receive_stamp(
+    out: &impl Print,
+    lent: &mut [u8],
+    state: Stamps,
+    s: &[u8],
+    stamp: u32,
+) -> io::Result<Stamps> {
     let stamped = stamps::receive(lent, state, s, stamp);
     let answer = stamped.answer;
     let next = stamped.state;
-    say_answer(answer);
-    say_left(lent, next);
-    next
+    say_answer(out, answer)?;
+    say_left(out, lent, next)?;
+    Ok(next)
 }
 
-fn with_stamp(buf: &mut [u8], n: usize, state: Stamps) -> Stamps {
-    let stamp = word();
-    let count = byte() as usize;
+fn with_stamp(
+    input: &mut impl Read,
+    out: &impl Print,
+    buf: &mut [u8],
+    n: usize,
+    state: Stamps,
+) -> io::Result<Stamps> {
+    let stamp = word(input)?;
+    let count = byte(input)? as usize;
     let mut space = [0u8; 256];
     let part: &mut [u8] = &mut space;
     if count <= part.len() && n <= buf.len() {
-        io::read_full(STDIN_FILENO, &mut part[0..count]);
-        let s: &[u8] = part;
-        return receive_stamp(&mut buf[0..n], state, &s[0..count], stamp);
+        streams::read_full(input, &mut part[..count])?;
+        return receive_stamp(out, &mut buf[..n], state, &part[..count], stamp);
     }
-    state
+    Ok(state)
 }
 
-fn receive_time(lent: &mut [u8], state: Stamps, s: &[u8], time: u64) {
-    say_answer(table::receive(lent, s, time));
-    say_left(lent, state);
+fn receive_time(
+    out: &impl Print,
+    lent: &mut [u8],
+    state: Stamps,
+    s: &[u8],
+    time: u64,
+) -> io::Result<()> {
+    say_answer(out, table::receive(lent, s, time))?;
+    say_left(out, lent, state)
 }
 
-fn at_time(buf: &mut [u8], n: usize, state: Stamps) {
-    let time = long();
-    let count = byte() as usize;
+fn at_time(
+    input: &mut impl Read,
+    out: &impl Print,
+    buf: &mut [u8],
+    n: usize,
+    state: Stamps,
+) -> io::Result<()> {
+    let time = long(input)?;
+    let count = byte(input)? as usize;
     let mut space = [0u8; 256];
     let part: &mut [u8] = &mut space;
     if count <= part.len() && n <= buf.len() {
-        io::read_full(STDIN_FILENO, &mut part[0..count]);
-        let s: &[u8] = part;
-        receive_time(&mut buf[0..n], state, &s[0..count], time);
+        streams::read_full(input, &mut part[..count])?;
+        receive_time(out, &mut buf[..n], state, &part[..count], time)?;
     }
+    Ok(())
 }
 
-fn extend(state: Stamps) {
-    let clock = long();
-    let stamp = word();
+fn extend(input: &mut impl Read, out: &impl Print, state: Stamps) -> io::Result<()> {
+    let clock = long(input)?;
+    let stamp = word(input)?;
     let time = stamps::extend(state, clock, stamp);
     match time {
-        Extended::At(t) => say(t),
-        Extended::Refused(r) => say_refused(r),
-    }
-    write(b"\n");
+        Extended::At(t) => out.print(t),
+        Extended::Refused(r) => say_refused(out, r),
+    }?;
+    out.print("\n")
 }
 
 // ---- the records
 
-fn lend(letter: u8, buf: &mut [u8], state: Stamps) -> Lent {
-    let n = word() as usize;
+fn lend(
+    input: &mut impl Read,
+    out: &impl Print,
+    letter: u8,
+    buf: &mut [u8],
+    state: Stamps,
+) -> io::Result<Lent> {
+    let length = word(input)? as usize;
     if letter == b'S' {
-        set_up(buf, n);
-        return Lent {
-            length: n,
+        set_up(out, buf, length)?;
+        return Ok(Lent {
+            length,
             state: fresh(),
-        };
+        });
     }
-    Lent {
-        length: n,
-        state: state,
-    }
+    Ok(Lent { length, state })
 }
 
 // One that leaves the length as it is; the state after it.
-fn use_lent(letter: u8, buf: &mut [u8], n: usize, state: Stamps) -> Stamps {
+fn use_lent(
+    input: &mut impl Read,
+    out: &impl Print,
+    letter: u8,
+    buf: &mut [u8],
+    lent: Lent,
+) -> io::Result<Stamps> {
+    let Lent { length, state } = lent;
     match letter {
-        b'K' => read_state(),
-        b'T' => with_stamp(buf, n, state),
+        b'K' => read_state(input),
+        b'T' => with_stamp(input, out, buf, length, state),
         b'R' => {
-            at_time(buf, n, state);
-            state
+            at_time(input, out, buf, length, state)?;
+            Ok(state)
         }
         _ => {
-            extend(state);
-            state
+            extend(input, out, state)?;
+            Ok(state)
         }
     }
 }
 
-fn one(letter: u8, buf: &mut [u8], lent: Lent) -> Lent {
-    let n = lent.length;
-    let state = lent.state;
+fn one(
+    input: &mut impl Read,
+    out: &impl Print,
+    letter: u8,
+    buf: &mut [u8],
+    lent: Lent,
+) -> io::Result<Lent> {
     match letter {
-        b'S' | b'L' => lend(letter, buf, state),
-        _ => Lent {
-            length: n,
-            state: use_lent(letter, buf, n, state),
-        },
+        b'S' | b'L' => lend(input, out, letter, buf, lent.state),
+        _ => Ok(Lent {
+            length: lent.length,
+            state: use_lent(input, out, letter, buf, lent)?,
+        }),
     }
 }
 
-fn main() {
+fn main(rt: HostRuntime) -> io::Result<()> {
+    let mut input = rt.reader();
     let mut space = [0u8; 1000];
     let buf: &mut [u8] = &mut space;
     let mut lent = Lent {
         length: 0,
         state: fresh(),
     };
-    let mut turns = u64::MAX;
-    while turns > 0 {
-        let letter = byte();
+    for _ in 0..u64::MAX {
+        let letter = byte(&mut input)?;
         if letter == 0 {
-            return;
+            break;
         }
-        lent = one(letter, buf, lent);
-        turns -= 1;
+        lent = one(&mut input, &rt, letter, buf, lent)?;
     }
+    Ok(())
 }

@@ -10,36 +10,36 @@
 
 use encoder::Encoded;
 use keys::Kind;
-use libc::{STDIN_FILENO, STDOUT_FILENO};
 use messages::{Decoded, Message};
 use positions::Spot;
 use refusals::Refusal;
 use rules::{Clock, NextKey, SetUp, Sited};
+use std::io::{self, Read};
 use track::{Groups, Holding, Looked, Track};
 use whereabouts::{Position, Saved, Site};
 
 // ---- what is read; where the input has ended, zeros
 
-fn byte() -> u8 {
+fn byte(input: &mut impl Read) -> io::Result<u8> {
     let mut b = [0u8; 1];
-    io::read_full(STDIN_FILENO, &mut b);
-    (fields::number_of(&b) % 256) as u8
+    streams::read_full(input, &mut b)?;
+    Ok((fields::number_of(&b) % 256) as u8)
 }
 
-fn word() -> u32 {
+fn word(input: &mut impl Read) -> io::Result<u32> {
     let mut b = [0u8; 4];
-    io::read_full(STDIN_FILENO, &mut b);
-    (fields::number_of(&b) % 4294967296) as u32
+    streams::read_full(input, &mut b)?;
+    Ok((fields::number_of(&b) % 4294967296) as u32)
 }
 
-fn long() -> u64 {
+fn long(input: &mut impl Read) -> io::Result<u64> {
     let mut b = [0u8; 8];
-    io::read_full(STDIN_FILENO, &mut b);
-    fields::number_of(&b)
+    streams::read_full(input, &mut b)?;
+    Ok(fields::number_of(&b))
 }
 
-fn length() -> usize {
-    word() as usize
+fn length(input: &mut impl Read) -> io::Result<usize> {
+    Ok(word(input)? as usize)
 }
 
 fn signed(x: u32) -> i32 {
@@ -50,177 +50,150 @@ fn signed(x: u32) -> i32 {
     }
 }
 
-fn read_spot() -> Spot {
-    let latitude = signed(word());
-    let longitude = word();
-    Spot {
+fn read_spot(input: &mut impl Read) -> io::Result<Spot> {
+    let latitude = signed(word(input)?);
+    let longitude = word(input)?;
+    Ok(Spot {
         latitude,
         longitude,
-    }
+    })
 }
 
 // ---- what is written
 
-fn write(text: &[u8]) {
-    io::write_all(STDOUT_FILENO, text);
-}
-
-fn say_number(n: u64) {
-    io::print_decimal(STDOUT_FILENO, n);
-}
-
 // A value, with the space that parts it from what stands before.
-fn say(n: u64) {
-    write(b" ");
-    say_number(n);
+fn say(out: &impl Print, n: impl Into<u64>) -> io::Result<()> {
+    let n: u64 = n.into();
+    print!(out; " {n}")
 }
 
-fn say_flag(b: bool) {
-    if b {
-        say(1);
-    } else {
-        say(0);
-    }
+fn say_flag(out: &impl Print, b: bool) -> io::Result<()> {
+    out.print(if b { " 1" } else { " 0" })
 }
 
-fn say_signed(z: i32) {
+fn say_signed(out: &impl Print, z: i32) -> io::Result<()> {
     let wide = signs::widen(z);
     if signs::is_below(wide) {
-        write(b"-");
+        out.print("-")?;
     }
-    say_number(signs::size_of(wide));
+    out.print(signs::size_of(wide))
 }
 
-fn say_spot(s: Spot) {
-    say_signed(s.latitude);
-    say(s.longitude as u64);
+fn say_spot(out: &impl Print, s: Spot) -> io::Result<()> {
+    say_signed(out, s.latitude)?;
+    say(out, s.longitude)
 }
 
-fn say_refused(r: Refusal) {
-    write(b"refused ");
-    say_number(refusals::number(r) as u64);
+fn say_refused(out: &impl Print, r: Refusal) -> io::Result<()> {
+    print!(out; "refused {}", refusals::number(r))
 }
 
-// A hex digit in upper case, which `io` does not write.
-fn digit(n: u8) -> u8 {
-    let d = n % 16;
-    if d < 10 { 48 + d } else { 55 + d }
-}
-
-fn say_byte(b: u8) {
-    let text = [digit(b / 16), digit(b)];
-    write(&text);
-}
-
-fn say_bytes(s: &[u8]) {
-    let mut i: usize = 0;
-    while i < s.len() {
-        say_byte(s[i]);
-        i += 1;
+fn say_bytes(out: &impl Print, s: &[u8]) -> io::Result<()> {
+    for b in s {
+        print!(out; "{b:02X}")?;
     }
+    Ok(())
 }
 
-fn say_message(m: Message) {
-    let mut out = [0u8; 14];
-    let e = encoder::encode(m, &mut out);
+fn say_message(out: &impl Print, m: Message) -> io::Result<()> {
+    let mut bytes = [0u8; 14];
+    let e = encoder::encode(m, &mut bytes);
     match e {
-        Encoded::Written => say_bytes(&out),
-        Encoded::Refused(r) => say_refused(r),
+        Encoded::Written => say_bytes(out, &bytes),
+        Encoded::Refused(r) => say_refused(out, r),
     }
 }
 
 // ---- a track, every value of it
 
-fn say_groups(g: Groups) {
-    say(g.identification);
-    say(g.velocity);
-    say(g.surface);
-    say(g.pressure as u64);
-    say(g.height as u64);
+fn say_groups(out: &impl Print, g: Groups) -> io::Result<()> {
+    say(out, g.identification)?;
+    say(out, g.velocity)?;
+    say(out, g.surface)?;
+    say(out, g.pressure)?;
+    say(out, g.height)
 }
 
 // What a status and the latest position message left, which stand last in a line.
-fn say_told(g: Groups) {
-    say(g.status);
-    say(g.typecode as u64);
-    say_flag(g.bit8);
-    say_flag(g.coarse);
+fn say_told(out: &impl Print, g: Groups) -> io::Result<()> {
+    say(out, g.status)?;
+    say(out, g.typecode)?;
+    say_flag(out, g.bit8)?;
+    say_flag(out, g.coarse)
 }
 
-fn say_position(p: Position) {
-    say_flag(p.known);
-    write(b" ");
-    let s = p.spot;
-    say_spot(s);
-    say(p.time);
+fn say_position(out: &impl Print, p: Position) -> io::Result<()> {
+    say_flag(out, p.known)?;
+    out.print(" ")?;
+    say_spot(out, p.spot)?;
+    say(out, p.time)
 }
 
-fn say_saved(v: Saved) {
-    say_flag(v.known);
-    say(v.counts.latitude.0 as u64);
-    say(v.counts.longitude.0 as u64);
-    say(v.time);
-    say_flag(v.coarse);
+fn say_saved(out: &impl Print, v: Saved) -> io::Result<()> {
+    say_flag(out, v.known)?;
+    say(out, v.counts.latitude.0)?;
+    say(out, v.counts.longitude.0)?;
+    say(out, v.time)?;
+    say_flag(out, v.coarse)
 }
 
-fn say_track(t: Track) {
-    say(t.heard);
+fn say_track(out: &impl Print, t: Track) -> io::Result<()> {
+    say(out, t.heard)?;
     let g = t.groups;
-    say_groups(g);
-    let p = t.position;
-    say_position(p);
+    say_groups(out, g)?;
+    say_position(out, t.position)?;
     let saved = t.saved;
     let even = saved[0];
-    say_saved(even);
+    say_saved(out, even)?;
     let odd = saved[1];
-    say_saved(odd);
-    say_told(g);
+    say_saved(out, odd)?;
+    say_told(out, g)
 }
 
-fn say_holding(h: Holding) {
+fn say_holding(out: &impl Print, h: Holding) -> io::Result<()> {
     match h {
-        Holding::Held => write(b"held"),
-        Holding::Unheld => write(b"unheld"),
-        Holding::Refused(r) => say_refused(r),
+        Holding::Held => out.print("held"),
+        Holding::Unheld => out.print("unheld"),
+        Holding::Refused(r) => say_refused(out, r),
     }
 }
 
 // A line's end: whether a key is held, and its track.
-fn say_found(looked: Looked) {
-    let answer = looked.answer;
-    say_holding(answer);
-    let t = looked.track;
-    say_track(t);
-    write(b"\n");
+fn say_found(out: &impl Print, looked: Looked) -> io::Result<()> {
+    say_holding(out, looked.answer)?;
+    say_track(out, looked.track)?;
+    out.print("\n")
 }
 
-fn say_looked(lent: &[u8], key: u32) {
-    say_found(table::look_up(lent, key));
+fn say_looked(out: &impl Print, lent: &[u8], key: u32) -> io::Result<()> {
+    say_found(out, table::look_up(lent, key))
 }
 
 // ---- the calls
 
-fn say_set_up(s: SetUp) {
+fn say_set_up(out: &impl Print, s: SetUp) -> io::Result<()> {
     match s {
-        SetUp::Done => write(b"done"),
-        SetUp::Refused(r) => say_refused(r),
-    }
-    write(b"\n");
+        SetUp::Done => out.print("done"),
+        SetUp::Refused(r) => say_refused(out, r),
+    }?;
+    out.print("\n")
 }
 
-fn set_up(buf: &mut [u8], n: usize) {
+fn set_up(out: &impl Print, buf: &mut [u8], n: usize) -> io::Result<()> {
     if n <= buf.len() {
-        let s = table::set_up(&mut buf[0..n]);
-        say_set_up(s);
+        let s = table::set_up(&mut buf[..n]);
+        say_set_up(out, s)?;
     }
+    Ok(())
 }
 
-fn set_up_at(buf: &mut [u8], n: usize) {
-    let site = read_spot();
+fn set_up_at(input: &mut impl Read, out: &impl Print, buf: &mut [u8], n: usize) -> io::Result<()> {
+    let site = read_spot(input)?;
     if n <= buf.len() {
-        let s = table::set_up_at(&mut buf[0..n], site);
-        say_set_up(s);
+        let s = table::set_up_at(&mut buf[..n], site);
+        say_set_up(out, s)?;
     }
+    Ok(())
 }
 
 // Each byte is the top one of a step of a small generator of 32 bits.
@@ -234,231 +207,245 @@ fn fill_all(lent: &mut [u8], seed: u32) {
     }
 }
 
-fn fill(buf: &mut [u8], n: usize) {
-    let seed = word();
+fn fill(input: &mut impl Read, buf: &mut [u8], n: usize) -> io::Result<()> {
+    let seed = word(input)?;
     if n <= buf.len() {
-        fill_all(&mut buf[0..n], seed);
+        fill_all(&mut buf[..n], seed);
     }
+    Ok(())
 }
 
-fn poke(buf: &mut [u8]) {
-    let at = length();
-    let count = byte() as usize;
-    if buf.len() < at {
-        return;
+fn poke(input: &mut impl Read, buf: &mut [u8]) -> io::Result<()> {
+    let at = length(input)?;
+    let count = byte(input)? as usize;
+    if at <= buf.len() && count <= buf.len() - at {
+        let end = at + count;
+        streams::read_full(input, &mut buf[at..end])?;
     }
-    if buf.len() - at < count {
-        return;
-    }
-    let end = at + count;
-    io::read_full(STDIN_FILENO, &mut buf[at..end]);
+    Ok(())
 }
 
-fn say_received(lent: &[u8], d: Decoded) {
+fn say_received(out: &impl Print, lent: &[u8], d: Decoded) -> io::Result<()> {
     match d {
         Decoded::Message(m) => {
             let key = messages::key_of(m);
-            say_message(m);
-            say(key as u64);
-            write(b" ");
-            say_looked(lent, key);
+            say_message(out, m)?;
+            print!(out; " {key} ")?;
+            say_looked(out, lent, key)
         }
         Decoded::Refused(r) => {
-            say_refused(r);
-            write(b"\n");
+            say_refused(out, r)?;
+            out.print("\n")
         }
     }
 }
 
-fn receive_message(lent: &mut [u8], s: &[u8], time: u64) {
+fn receive_message(out: &impl Print, lent: &mut [u8], s: &[u8], time: u64) -> io::Result<()> {
     let d = table::receive(lent, s, time);
-    say_received(lent, d);
+    say_received(out, lent, d)
 }
 
-fn receive(buf: &mut [u8], n: usize) {
-    let time = long();
-    let count = byte() as usize;
+fn receive(input: &mut impl Read, out: &impl Print, buf: &mut [u8], n: usize) -> io::Result<()> {
+    let time = long(input)?;
+    let count = byte(input)? as usize;
     let mut space = [0u8; 256];
     let part: &mut [u8] = &mut space;
     if count <= part.len() && n <= buf.len() {
-        io::read_full(STDIN_FILENO, &mut part[0..count]);
-        let s: &[u8] = part;
-        receive_message(&mut buf[0..n], &s[0..count], time);
+        streams::read_full(input, &mut part[..count])?;
+        receive_message(out, &mut buf[..n], &part[..count], time)?;
     }
+    Ok(())
 }
 
-fn look_up(buf: &[u8], n: usize) {
-    let key = word();
+fn look_up(input: &mut impl Read, out: &impl Print, buf: &[u8], n: usize) -> io::Result<()> {
+    let key = word(input)?;
     if n <= buf.len() {
-        say_looked(&buf[0..n], key);
+        say_looked(out, &buf[..n], key)?;
     }
+    Ok(())
 }
 
-fn read_kind() -> Kind {
-    let number = byte();
-    let flag = byte();
-    let station = byte();
+fn read_kind(input: &mut impl Read) -> io::Result<Kind> {
+    let number = byte(input)?;
+    let flag = byte(input)?;
+    let station = byte(input)?;
     if number == 6 {
-        return Kind::C(flag, station);
+        return Ok(Kind::C(flag, station));
     }
-    keys::kind_at(number as u32)
+    Ok(keys::kind_at(number as u32))
 }
 
-fn work_out(buf: &[u8]) {
-    let n = length();
-    let kind = read_kind();
-    let address = word();
-    let known = byte() == 1;
-    let spot = read_spot();
+fn work_out(input: &mut impl Read, out: &impl Print, buf: &[u8]) -> io::Result<()> {
+    let n = length(input)?;
+    let kind = read_kind(input)?;
+    let address = word(input)?;
+    let known = byte(input)? == 1;
+    let spot = read_spot(input)?;
     if n <= buf.len() {
-        say_found(replay::replay(&buf[0..n], kind, address, Site { known, spot }));
+        say_found(
+            out,
+            replay::replay(&buf[..n], kind, address, Site { known, spot }),
+        )?;
     }
+    Ok(())
 }
 
-fn say_next(n: NextKey) {
+fn say_next(out: &impl Print, n: NextKey) -> io::Result<()> {
     match n {
-        NextKey::Key(k) => say_number(k as u64),
-        NextKey::End => write(b"end"),
-        NextKey::Refused(r) => say_refused(r),
-    }
-    write(b"\n");
+        NextKey::Key(k) => out.print(k),
+        NextKey::End => out.print("end"),
+        NextKey::Refused(r) => say_refused(out, r),
+    }?;
+    out.print("\n")
 }
 
-fn say_next_key(buf: &[u8], n: usize) {
-    let above = word();
+fn say_next_key(input: &mut impl Read, out: &impl Print, buf: &[u8], n: usize) -> io::Result<()> {
+    let above = word(input)?;
     if n <= buf.len() {
-        let k = table::next(&buf[0..n], above);
-        say_next(k);
+        let k = table::next(&buf[..n], above);
+        say_next(out, k)?;
     }
+    Ok(())
 }
 
-fn say_clock(c: Clock) {
+fn say_clock(out: &impl Print, c: Clock) -> io::Result<()> {
     match c {
-        Clock::At(t) => say_number(t),
-        Clock::Refused(r) => say_refused(r),
-    }
-    write(b" ");
+        Clock::At(t) => out.print(t),
+        Clock::Refused(r) => say_refused(out, r),
+    }?;
+    out.print(" ")
 }
 
-fn say_site(s: Site) {
+fn say_site(out: &impl Print, s: Site) -> io::Result<()> {
     if s.known {
-        let at = s.spot;
-        say_spot(at);
+        say_spot(out, s.spot)
     } else {
-        write(b"-");
+        out.print("-")
     }
 }
 
-fn say_sited(s: Sited) {
+fn say_sited(out: &impl Print, s: Sited) -> io::Result<()> {
     match s {
-        Sited::Site(at) => say_site(at),
-        Sited::Refused(r) => say_refused(r),
-    }
-    write(b"\n");
+        Sited::Site(at) => say_site(out, at),
+        Sited::Refused(r) => say_refused(out, r),
+    }?;
+    out.print("\n")
 }
 
 // The line of the next key, which is answered, or how the walk ends, and 0.
-fn say_following(lent: &[u8], above: u32) -> u32 {
+fn say_following(out: &impl Print, lent: &[u8], above: u32) -> io::Result<u32> {
     let n = table::next(lent, above);
     match n {
         NextKey::Key(k) => {
-            say_number(k as u64);
-            write(b" ");
-            say_looked(lent, k);
-            k
+            print!(out; "{k} ")?;
+            say_looked(out, lent, k)?;
+            Ok(k)
         }
         NextKey::End => {
-            write(b"end\n");
-            0
+            out.print("end\n")?;
+            Ok(0)
         }
         NextKey::Refused(r) => {
-            say_refused(r);
-            write(b"\n");
-            0
+            say_refused(out, r)?;
+            out.print("\n")?;
+            Ok(0)
         }
     }
 }
 
-fn say_keys(lent: &[u8]) {
+fn say_keys(out: &impl Print, lent: &[u8]) -> io::Result<()> {
     let mut above: u32 = 0;
-    let mut left: u32 = 2000;
-    while left > 0 {
-        above = say_following(lent, above);
+    for _ in 0..2000 {
+        above = say_following(out, lent, above)?;
         if above == 0 {
-            return;
+            break;
         }
-        left -= 1;
     }
+    Ok(())
 }
 
-fn walk_all(lent: &[u8]) {
-    say_clock(table::clock_of(lent));
-    say_sited(table::site_of(lent));
-    say_keys(lent);
+fn walk_all(out: &impl Print, lent: &[u8]) -> io::Result<()> {
+    say_clock(out, table::clock_of(lent))?;
+    say_sited(out, table::site_of(lent))?;
+    say_keys(out, lent)
 }
 
-fn walk(buf: &[u8], n: usize) {
+fn walk(out: &impl Print, buf: &[u8], n: usize) -> io::Result<()> {
     if n <= buf.len() {
-        walk_all(&buf[0..n]);
+        walk_all(out, &buf[..n])?;
     }
+    Ok(())
 }
 
-fn say_remainder(buf: &[u8], n: usize) {
+fn say_remainder(out: &impl Print, buf: &[u8], n: usize) -> io::Result<()> {
     if n <= buf.len() {
-        io::print_hex(STDOUT_FILENO, parity::remainder_of(&buf[0..n]) as u64, 6);
-        write(b"\n");
+        let remainder = parity::remainder_of(&buf[..n]);
+        println!(out; "{remainder:06x}")?;
     }
+    Ok(())
 }
 
 // ---- the records
 
 // One that lends so many bytes anew.
-fn lend(letter: u8, buf: &mut [u8]) -> usize {
-    let n = length();
+fn lend(input: &mut impl Read, out: &impl Print, letter: u8, buf: &mut [u8]) -> io::Result<usize> {
+    let n = length(input)?;
     match letter {
-        b'S' => set_up(buf, n),
-        b'A' => set_up_at(buf, n),
-        b'F' => fill(buf, n),
-        _ => (),
-    }
-    n
+        b'S' => set_up(out, buf, n),
+        b'A' => set_up_at(input, out, buf, n),
+        b'F' => fill(input, buf, n),
+        _ => Ok(()),
+    }?;
+    Ok(n)
 }
 
 // One that leaves the length as it is.
-fn use_lent(letter: u8, buf: &mut [u8], n: usize) {
+fn use_lent(
+    input: &mut impl Read,
+    out: &impl Print,
+    letter: u8,
+    buf: &mut [u8],
+    n: usize,
+) -> io::Result<()> {
     match letter {
-        b'P' => poke(buf),
-        b'R' => receive(buf, n),
-        b'K' => look_up(buf, n),
-        b'N' => say_next_key(buf, n),
-        b'W' => walk(buf, n),
-        b'J' => work_out(buf),
-        _ => say_remainder(buf, n),
+        b'P' => poke(input, buf),
+        b'R' => receive(input, out, buf, n),
+        b'K' => look_up(input, out, buf, n),
+        b'N' => say_next_key(input, out, buf, n),
+        b'W' => walk(out, buf, n),
+        b'J' => work_out(input, out, buf),
+        _ => say_remainder(out, buf, n),
     }
 }
 
 // Carries one out, and says how many bytes are lent after it.
-fn one(letter: u8, buf: &mut [u8], n: usize) -> usize {
+fn one(
+    input: &mut impl Read,
+    out: &impl Print,
+    letter: u8,
+    buf: &mut [u8],
+    n: usize,
+) -> io::Result<usize> {
     match letter {
-        b'S' | b'A' | b'F' | b'L' => lend(letter, buf),
+        b'S' | b'A' | b'F' | b'L' => lend(input, out, letter, buf),
         _ => {
-            use_lent(letter, buf, n);
-            n
+            use_lent(input, out, letter, buf, n)?;
+            Ok(n)
         }
     }
 }
 
-fn main() {
+fn main(rt: HostRuntime) -> io::Result<()> {
+    let mut input = rt.reader();
     let mut space = [0u8; 88200];
     let buf: &mut [u8] = &mut space;
     let mut n: usize = 0;
-    let mut turns = u64::MAX;
-    while turns > 0 {
-        let letter = byte();
+    for _ in 0..u64::MAX {
+        let letter = byte(&mut input)?;
         if letter == 0 {
-            return;
+            break;
         }
-        n = one(letter, buf, n);
-        turns -= 1;
+        n = one(&mut input, &rt, letter, buf, n)?;
     }
+    Ok(())
 }
