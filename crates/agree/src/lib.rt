@@ -2,8 +2,8 @@
 #![tactic(auto)]
 
 ghost use Rattle.std.specs.Prelude.{◌≡◌};
-ghost use Rattle.agree.specs.Near.{shows as showsOf, along as alongOf, agrees_of, stepped as steppedOf, moved};
-ghost use Rattle.agree.specs.Near.{up as upOf, down as downOf, east as eastOf, west as westOf};
+ghost use Rattle.agree.specs.Near.{shows as shows_of, along as along_of, agrees_of, stepped as stepped_of, moved};
+ghost use Rattle.agree.specs.Near.{up as up_of, down as down_of, east as east_of, west as west_of};
 
 use text::{Figure, Row};
 
@@ -17,13 +17,13 @@ enum Way {
 }
 
 fn up(z: i64) -> i64
-    ensures { result ≡ upOf z }
+    ensures { result ≡ up_of z }
 {
     if z < 0x4000_0000_0000_0000 { z + 1 } else { z }
 }
 
 fn down(z: i64) -> i64
-    ensures { result ≡ downOf z }
+    ensures { result ≡ down_of z }
 {
     if 0 - 0x4000_0000_0000_0000 < z {
         z - 1
@@ -34,19 +34,19 @@ fn down(z: i64) -> i64
 
 // Around the circle: after the last longitude comes 0.
 fn east(z: i64) -> i64
-    ensures { result ≡ eastOf z }
+    ensures { result ≡ east_of z }
 {
     if z < 4294967295 { up(z) } else { 0 }
 }
 
 fn west(z: i64) -> i64
-    ensures { result ≡ westOf z }
+    ensures { result ≡ west_of z }
 {
     if 0 < z { down(z) } else { 4294967295 }
 }
 
 fn stepped(way: Way, z: i64) -> i64
-    ensures { result ≡ steppedOf way z }
+    ensures { result ≡ stepped_of way z }
 {
     match way {
         Way::North => up(z),
@@ -68,7 +68,7 @@ fn beside(way: Way, f: Figure) -> Figure
 
 // Whether the line is that of our row at another place.
 fn shows(line: &[u8], row: Row, latitude: Figure, longitude: Figure) -> bool
-    ensures { result ≡ showsOf line.now row latitude longitude }
+    ensures { result ≡ shows_of line.now row latitude longitude }
 {
     let altitude = row.altitude;
     let step = row.step;
@@ -88,7 +88,7 @@ fn shows(line: &[u8], row: Row, latitude: Figure, longitude: Figure) -> bool
 
 // .. at a latitude, and a longitude within one unit of ours.
 fn along(line: &[u8], row: Row, latitude: Figure) -> bool
-    ensures { result ≡ alongOf line.now row latitude }
+    ensures { result ≡ along_of line.now row latitude }
 {
     let x = row.longitude;
     shows(line, row, latitude, beside(Way::West, x))

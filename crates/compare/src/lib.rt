@@ -7,7 +7,7 @@ ghost use Rattle.table.specs.Table.{next_above};
 ghost use Rattle.report.specs.Listing.{header_for, rows_in};
 ghost use Rattle.report.specs.Code.{key_or_limit};
 ghost use Rattle.form.specs.Scan.{lines_from};
-ghost use Rattle.compare.specs.Compared.{compared, against as againstOf, verdict as verdictOf, checked};
+ghost use Rattle.compare.specs.Compared.{compared, against as against_of, verdict as verdict_of, checked};
 
 use feed::Fed;
 use refusals::Refusal;
@@ -66,7 +66,7 @@ fn rows_compared(table: &[u8], theirs: &[u8], from: usize) -> Checked
 // Their text against the listing of a table: its header, byte for byte, then its rows.
 fn against(table: &[u8], bad: u64, theirs: &[u8]) -> Checked
     requires { whole_places (length table.now) ≡ true }
-    ensures { result ≡ againstOf (lines_from theirs.now 0) (header_for true table.now bad) (rows_in true table.now) }
+    ensures { result ≡ against_of (lines_from theirs.now 0) (header_for true table.now bad) (rows_in true table.now) }
 {
     let end = form::line_end(theirs, 0);
     let ours = report::header_of(table, bad, true);
@@ -81,7 +81,7 @@ fn against(table: &[u8], bad: u64, theirs: &[u8]) -> Checked
 
 // Their text against ours, made of the capture in a table of our own, so that nothing is lent.
 fn verdict(capture: &[u8], listing: &[u8]) -> Checked
-    ensures { result ≡ verdictOf capture.now listing.now }
+    ensures { result ≡ verdict_of capture.now listing.now }
 {
     let mut table = [0u8; TABLE];
     table::set_up(&mut table);

@@ -15,7 +15,7 @@ use Rattle.readings.specs.declared.amounts.Rate.TheVariants as rate
 use Rattle.readings.specs.declared.amounts.Difference.{Difference}
 use Rattle.readings.specs.declared.amounts.Difference.TheVariants as difference
 use Rattle.readings.specs.declared.coarse.CoarseSpeed.{CoarseSpeed}
-use Rattle.readings.specs.declared.coarse.CoarseSpeed.TheVariants as coarseSpeed
+use Rattle.readings.specs.declared.coarse.CoarseSpeed.TheVariants as coarse_speed
 use Rattle.readings.specs.declared.headings.Heading.{Heading}
 use Rattle.readings.specs.declared.headings.Heading.TheVariants as heading
 use Rattle.readings.specs.declared.movement.Movement.{Movement}
@@ -71,10 +71,10 @@ movement_given movement.Reserved g = omega arith
 movement_given (movement.Refused r) g = absurd g
 
 pub coarse_speed_given : (x : CoarseSpeed) → Given (coarse_speed_said x) → (coarse_speed_reading x).what < 5
-coarse_speed_given coarseSpeed.Unknown g = omega arith
-coarse_speed_given (coarseSpeed.LowerEdge n) g = omega arith
-coarse_speed_given (coarseSpeed.AndUp n) g = omega arith
-coarse_speed_given (coarseSpeed.Refused r) g = absurd g
+coarse_speed_given coarse_speed.Unknown g = omega arith
+coarse_speed_given (coarse_speed.LowerEdge n) g = omega arith
+coarse_speed_given (coarse_speed.AndUp n) g = omega arith
+coarse_speed_given (coarse_speed.Refused r) g = absurd g
 
 pub set_given : (x : CategorySet) → Given (category_set_said x) → (set_reading x).what < 5
 set_given set.A g = omega arith

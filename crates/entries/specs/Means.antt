@@ -10,7 +10,7 @@ use Rattle.readings.specs.declared.amounts.Rate.TheVariants as rate
 use Rattle.readings.specs.declared.amounts.Difference.{Difference}
 use Rattle.readings.specs.declared.amounts.Difference.TheVariants as difference
 use Rattle.readings.specs.declared.coarse.CoarseSpeed.{CoarseSpeed}
-use Rattle.readings.specs.declared.coarse.CoarseSpeed.TheVariants as coarseSpeed
+use Rattle.readings.specs.declared.coarse.CoarseSpeed.TheVariants as coarse_speed
 use Rattle.readings.specs.declared.headings.Heading.{Heading}
 use Rattle.readings.specs.declared.headings.Heading.TheVariants as heading
 use Rattle.readings.specs.declared.movement.Movement.{Movement}
@@ -80,10 +80,10 @@ movement_reading (movement.Refused r) = reading 5 0
 
 -- knots, the lower edge
 abbrev pub coarse_speed_reading : CoarseSpeed → Reading
-coarse_speed_reading coarseSpeed.Unknown = reading 0 0
-coarse_speed_reading (coarseSpeed.LowerEdge n) = reading 1 n
-coarse_speed_reading (coarseSpeed.AndUp n) = reading 2 n
-coarse_speed_reading (coarseSpeed.Refused r) = reading 5 0
+coarse_speed_reading coarse_speed.Unknown = reading 0 0
+coarse_speed_reading (coarse_speed.LowerEdge n) = reading 1 n
+coarse_speed_reading (coarse_speed.AndUp n) = reading 2 n
+coarse_speed_reading (coarse_speed.Refused r) = reading 5 0
 
 -- the letter, in ASCII
 abbrev pub set_reading : CategorySet → Reading

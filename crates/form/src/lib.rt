@@ -4,7 +4,7 @@
 mod words;
 
 ghost use Rattle.std.specs.Prelude.{◌≡◌, ◌≤◌, length};
-ghost use Rattle.form.specs.Form.{same as sameText, in_form};
+ghost use Rattle.form.specs.Form.{same as same_text, in_form};
 ghost use Rattle.form.specs.Scan.{lines_from, end_of, NextLine};
 ghost use Rattle.form.specs.Code.{Ends};
 
@@ -12,7 +12,7 @@ use words::{line_fits, words_fit};
 
 // Whether two texts are equal, byte for byte.
 pub fn same(a: &[u8], b: &[u8]) -> bool
-    ensures { result ≡ sameText a.now b.now }
+    ensures { result ≡ same_text a.now b.now }
 {
     if a.len() != b.len() {
         return false;

@@ -2,7 +2,7 @@
 ghost use Rattle.std.specs.Prelude.{◌≡◌, ◌&&◌, ◌+◌, ◌≤◌, eqb, leb, length, drop};
 ghost use Rattle.form.specs.Form.{is_digit};
 ghost use Rattle.form.specs.Scan.{lines_from};
-ghost use Rattle.merge.specs.Merged.{most, further as furtherOf};
+ghost use Rattle.merge.specs.Merged.{most, further as further_of};
 ghost use Rattle.merge.specs.Code.{FieldAt, HeadOf};
 
 const MOST: u64 = 0xffff_ffff_ffff_ffff;
@@ -36,7 +36,7 @@ fn is_digit(b: u8) -> bool
 // A number with a digit behind it; one of more than 64 bits becomes the largest of them.
 fn further(n: u64, b: u8) -> u64
     requires { (48 ≤ b) × (b ≤ 57) }
-    ensures { result ≡ furtherOf n b }
+    ensures { result ≡ further_of n b }
 {
     let d = (b - 48) as u64;
     if n < 0x1999_9999_9999_9999 {

@@ -9,12 +9,12 @@ use native.Mathlib.Omega.{arith}
 use lib.IntN.{ℤ, pos, negsuc, sub_ℕ}
 use lib.Signed.{mag}
 use borrow.Author.Tests.{le-leb, leb-true}
-use Rattle.signs.specs.Raised.{raised as turnUp}
+use Rattle.signs.specs.Raised.{raised as turn_up}
 use Rattle.positions.specs.Positions.{pole_to_pole}
 use Rattle.positions.proofs.Shift.{sub_pos, sub_neg, order}
 use Rattle.place.specs.Place.{above_pole, lowered}
 
-pub above_pole_is : (z : ℤ) → mag z < 2147483648 → turnUp z + 1073741824 ≡ above_pole z
+pub above_pole_is : (z : ℤ) → mag z < 2147483648 → turn_up z + 1073741824 ≡ above_pole z
 unfolding above_pole
 above_pole_is (pos a) h = omega arith
 above_pole_is (negsuc a) h = omega arith

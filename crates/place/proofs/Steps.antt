@@ -32,7 +32,7 @@ use Rattle.positions.specs.Positions.{
   rounded,
   inside,
   pair_latitude,
-  pair_nL,
+  pair_nl,
   pair_spot,
   pair_found,
   fit,
@@ -124,7 +124,7 @@ paired_polar P some even odd later =
     by_test PolarFound (fit P even && fit P odd) (pair_found P even odd later) (Refused Field)
     (λ _.
     by_test PolarFound (inside (60 * P) (pair_latitude P Even a b) && inside (59 * P) (pair_latitude P Odd a b)) _ (Refused Latitude)
-    (λ e. by_test PolarFound (eqb (pair_nL P Even a b) (pair_nL P Odd a b)) _ (Refused Zones) (λ _. pair_inside P some later a b e) (λ _. tt))
+    (λ e. by_test PolarFound (eqb (pair_nl P Even a b) (pair_nl P Odd a b)) _ (Refused Zones) (λ _. pair_inside P some later a b e) (λ _. tt))
     (λ _. tt))
     (λ _. tt)
 

@@ -18,7 +18,7 @@ use Rattle.positions.specs.declared.Found.TheVariants.{At, Refused}
 use Rattle.positions.specs.Whole.{modulo}
 use Rattle.positions.specs.Zones.{zone_count}
 use Rattle.positions.specs.Code.{Within, Paired}
-use Rattle.positions.specs.Positions.{units, own, latitude_zones, longitude_zones, all_round, whole, count, spot_zones, counts_of, rounded, rounded_turn, inside, pair_zone, in_zone, pair_latitude, pair_longitude, pair_nL, pair_spot, pair_found, fit, near_zone, near, near_spot, near_found}
+use Rattle.positions.specs.Positions.{units, own, latitude_zones, longitude_zones, all_round, whole, count, spot_zones, counts_of, rounded, rounded_turn, inside, pair_zone, in_zone, pair_latitude, pair_longitude, pair_nl, pair_spot, pair_found, fit, near_zone, near, near_spot, near_found}
 use Rattle.fields.proofs.Bools.{each, either, neither, and-false}
 use Rattle.positions.proofs.Shift.{sub_modulo}
 use Rattle.positions.proofs.Naturals.{inside_yes, inside_north, inside_south, near_longitude}
@@ -94,12 +94,12 @@ module _ (even odd : Counts) (r s : ℕ) (er : Paired Even even.latitude.0 odd.l
     odd_inside = rw es.is (inside_yes s 7733248 es.south odd_north)
 
     module _ (NL m : ℕ) (eNL : NL ≡ zone_count 7864320 (sub_ℕ r 7864320)) (em : m ≡ zone_count 7733248 (sub_ℕ s 7733248)) where
-      even_count : pair_nL 131072 Even even.latitude.0 odd.latitude.0 ≡ NL
-      unfolding pair_nL
+      even_count : pair_nl 131072 Even even.latitude.0 odd.latitude.0 ≡ NL
+      unfolding pair_nl
       even_count = rw er.is (sym eNL)
 
-      odd_count : pair_nL 131072 Odd even.latitude.0 odd.latitude.0 ≡ m
-      unfolding pair_nL
+      odd_count : pair_nl 131072 Odd even.latitude.0 odd.latitude.0 ≡ m
+      unfolding pair_nl
       odd_count = rw es.is (sym em)
 
       pub pair_apart_lem : (later : Format) → (NL ≡ m → ⊥) → Refused Zones ≡ pair_found 131072 even odd later

@@ -26,7 +26,7 @@ use Rattle.positions.specs.declared.Found.TheVariants.{At, Refused}
 use Rattle.positions.specs.Whole.{modulo}
 use Rattle.positions.specs.Zones.{zone_count}
 use Rattle.positions.specs.Positions.{units, count_size, latitude_zones, longitude_zones, all_round, whole, spot_zones, counts_of, pole_to_pole, rounded_turn, inside, fit, paired, near, near_spot, near_found}
-use Rattle.positions.specs.Rounded.{rounded_nL, rounded_spot, round_trip, Nearby, Handed, HandedBy, pair_zones, pair_exact, single_zones, single_exact, last_short, HalfACount}
+use Rattle.positions.specs.Rounded.{rounded_nl, rounded_spot, round_trip, Nearby, Handed, HandedBy, pair_zones, pair_exact, single_zones, single_exact, last_short, HalfACount}
 use Rattle.fields.proofs.Bools.{each}
 use Rattle.positions.proofs.Answers.{fit_counts}
 use Rattle.positions.proofs.RoundTrip.{round_trip_lem}
@@ -128,11 +128,11 @@ module _ (size : Size) (s : Spot) where
       ∙ sized_trip size s ge.0 later
 
   module _ (east : s.longitude < units) where
-    rounded_half : (f : Format) → HalfACount P (latitude_zones f) (longitude_zones f (rounded_nL P f s.latitude)) s (rounded_spot P f s)
+    rounded_half : (f : Format) → HalfACount P (latitude_zones f) (longitude_zones f (rounded_nl P f s.latitude)) s (rounded_spot P f s)
     unfolding rounded_spot
     rounded_half f =
         let N = latitude_zones f in
-        let n = longitude_zones f (rounded_nL P f s.latitude) in
+        let n = longitude_zones f (rounded_nl P f s.latitude) in
         record {
           exact_latitude = whole P N s.latitude;
           exact_longitude = modulo (whole P n (pos s.longitude)) (n * P);
@@ -144,11 +144,11 @@ module _ (size : Size) (s : Spot) where
 
     -- and so the place is within half a count of the one that was encoded
     pub code_half_a_count : (e o : Counts) (later : Format) (r : Spot) → EncodeMet size s Airborne Even (As e) → EncodeMet size s Airborne Odd (As o) → PairMet size e o later (At r)
-        → HalfACount P (latitude_zones later) (longitude_zones later (rounded_nL P later s.latitude)) s r
+        → HalfACount P (latitude_zones later) (longitude_zones later (rounded_nl P later s.latitude)) s r
     unfolding round_trip
     code_half_a_count e o later r pe po pr =
-        let same = at_trip (eqb (rounded_nL P Even s.latitude) (rounded_nL P Odd s.latitude)) r (rounded_spot P later s) (encode_both_and_pair e o later (At r) pe po pr) in
-        subst (λ (p : Spot). HalfACount P (latitude_zones later) (longitude_zones later (rounded_nL P later s.latitude)) s p) (sym same) (rounded_half later)
+        let same = at_trip (eqb (rounded_nl P Even s.latitude) (rounded_nl P Odd s.latitude)) r (rounded_spot P later s) (encode_both_and_pair e o later (At r) pe po pr) in
+        subst (λ (p : Spot). HalfACount P (latitude_zones later) (longitude_zones later (rounded_nl P later s.latitude)) s p) (sym same) (rounded_half later)
 
     -- ---- one message, against a reference
 

@@ -18,7 +18,7 @@ use Rattle.positions.specs.declared.Size.TheVariants.{Fine, Coarse}
 use Rattle.positions.specs.Whole.{modulo}
 use Rattle.positions.specs.Code.{nearestℕ}
 use Rattle.positions.specs.Zones.{latitudes, zone_count}
-use Rattle.positions.specs.Positions.{count_size, inside, pair_zone, in_zone, less360, pair_latitude, pair_nL}
+use Rattle.positions.specs.Positions.{count_size, inside, pair_zone, in_zone, less360, pair_latitude, pair_nl}
 use Rattle.fields.proofs.Bools.{not_each}
 use Rattle.positions.proofs.Shift.{order, abs_is}
 use Rattle.positions.proofs.Naturals.{pair_zone_is, less_high, less_low}
@@ -140,8 +140,8 @@ module _ (a b : ℕ) (ha : a < 131072) (hb : b < 131072) where
 
   both_one : Close (u * 131072 + a) (t * 131072 + b) →
       ((7864320 < 4 * (u * 131072 + a)) × (4 * (u * 131072 + a) < 23592960)) ⊎ ((7733248 < 4 * (t * 131072 + b)) × (4 * (t * 131072 + b) < 23199744)) →
-      pair_nL 131072 Even a b ≡ pair_nL 131072 Odd a b
-  unfolding pair_nL pair_latitude in_zone
+      pair_nl 131072 Even a b ≡ pair_nl 131072 Odd a b
+  unfolding pair_nl pair_latitude in_zone
   both_one c p =
       let ue = u_lt in
       let te = t_lt in
@@ -153,7 +153,7 @@ module _ (a b : ℕ) (ha : a < 131072) (hb : b < 131072) where
       p
 
   fine_order : (inside (60 * 131072) (pair_latitude 131072 Even a b) && inside (59 * 131072) (pair_latitude 131072 Odd a b)) ≡ false →
-      pair_nL 131072 Even a b ≡ pair_nL 131072 Odd a b
+      pair_nl 131072 Even a b ≡ pair_nl 131072 Odd a b
   unfolding pair_latitude in_zone
   fine_order e =
       let ue = u_lt in
@@ -170,7 +170,7 @@ module _ (a b : ℕ) (ha : a < 131072) (hb : b < 131072) where
 -- where either latitude is outside, the two have one NL; of coarse counts by the law of Scaled
 pub nine_is_never_ten : (size : Size) (a b : ℕ) → a < count_size size → b < count_size size
     → (inside (60 * count_size size) (pair_latitude (count_size size) Even a b) && inside (59 * count_size size) (pair_latitude (count_size size) Odd a b)) ≡ false
-    → pair_nL (count_size size) Even a b ≡ pair_nL (count_size size) Odd a b
+    → pair_nl (count_size size) Even a b ≡ pair_nl (count_size size) Odd a b
 nine_is_never_ten Fine a b ha hb e = fine_order a b ha hb e
 nine_is_never_ten Coarse a b ha hb e =
     let zones = count_scale 32 (lit< tt) 4096 (lit< tt) in

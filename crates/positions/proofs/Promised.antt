@@ -22,7 +22,7 @@ use Rattle.positions.specs.declared.Size.TheVariants.{Fine, Coarse}
 use Rattle.positions.specs.declared.Counts.{Counts}
 use Rattle.positions.specs.declared.Encoded.TheVariants as encoding
 use Rattle.positions.specs.declared.Found.TheVariants as finding
-use Rattle.positions.specs.Positions.{count_size, latitude_zones, all_round, counts_of, pole_to_pole, encoded, inside, pair_latitude, pair_nL, pair_found, fit, paired, near, near_found, singly}
+use Rattle.positions.specs.Positions.{count_size, latitude_zones, all_round, counts_of, pole_to_pole, encoded, inside, pair_latitude, pair_nl, pair_found, fit, paired, near, near_found, singly}
 use Rattle.positions.specs.Said.{encoded_said, found_said, past_pole, too_high, encode_table, pair_table, single_table}
 use Rattle.positions.proofs.Shift.{order}
 use Rattle.positions.proofs.encode.Kinds as encode-kinds
@@ -75,7 +75,7 @@ pair_says size even odd later =
     let a = even.latitude.0 in
     let b = odd.latitude.0 in
     rw (fits size even, fits size odd)
-    (by_tests (too_high size even) (too_high size odd) (inside (60 * P) (pair_latitude P Even a b)) (inside (59 * P) (pair_latitude P Odd a b)) (eqb (pair_nL P Even a b) (pair_nL P Odd a b)) _)
+    (by_tests (too_high size even) (too_high size odd) (inside (60 * P) (pair_latitude P Even a b)) (inside (59 * P) (pair_latitude P Odd a b)) (eqb (pair_nl P Even a b) (pair_nl P Odd a b)) _)
   where
     by_tests : (a b i j n : Bool) (s : Spot)
         → found_said (cond (not a && not b) (cond (i && j) (cond n (finding.At s) (finding.Refused Zones)) (finding.Refused Latitude)) (finding.Refused Field))

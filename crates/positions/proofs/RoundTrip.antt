@@ -16,8 +16,8 @@ use Rattle.positions.specs.declared.Counts.{Counts}
 use Rattle.positions.specs.declared.Found.TheVariants.{At}
 use Rattle.positions.specs.Whole.{modulo}
 use Rattle.positions.specs.Zones.{zone_count}
-use Rattle.positions.specs.Positions.{latitude_zones, longitude_zones, all_round, whole, count, spot_zones, counts_of, pole_to_pole, inside, pair_latitude, pair_longitude, pair_nL, pair_spot, pair_found, fit, paired}
-use Rattle.positions.specs.Rounded.{rounded_nL, rounded_spot, round_trip}
+use Rattle.positions.specs.Positions.{latitude_zones, longitude_zones, all_round, whole, count, spot_zones, counts_of, pole_to_pole, inside, pair_latitude, pair_longitude, pair_nl, pair_spot, pair_found, fit, paired}
+use Rattle.positions.specs.Rounded.{rounded_nl, rounded_spot, round_trip}
 use Rattle.positions.proofs.Shift.{modulo_lt}
 use Rattle.positions.proofs.Latitudes.{zones_range}
 use Rattle.positions.proofs.Trip.{latitude_again, longitude_again, whole_inside}
@@ -44,24 +44,24 @@ module _ (q : ℕ) (large : 118 < 4 * q) (s : Spot) (t : T (pole_to_pole s.latit
   unfolding counts_of
   latitude_of f = rw (air 60, air 59) (latitude_again q large s.latitude t f)
 
-  count_of : (f : Format) → pair_nL (4 * q) f even.latitude.0 odd.latitude.0 ≡ rounded_nL (4 * q) f s.latitude
-  unfolding pair_nL rounded_nL
+  count_of : (f : Format) → pair_nl (4 * q) f even.latitude.0 odd.latitude.0 ≡ rounded_nl (4 * q) f s.latitude
+  unfolding pair_nl rounded_nl
   count_of f = ap (zone_count (latitude_zones f * (4 * q))) (latitude_of f)
 
   inside_of : (f : Format) → inside (latitude_zones f * (4 * q)) (pair_latitude (4 * q) f even.latitude.0 odd.latitude.0) ≡ true
   inside_of Even = rw (latitude_of Even) (whole_inside q large s.latitude t 60 (lit< tt))
   inside_of Odd = rw (latitude_of Odd) (whole_inside q large s.latitude t 59 (lit< tt))
 
-  zones_of : (f : Format) → spot_zones (4 * q) Airborne f s.latitude ≡ longitude_zones f (rounded_nL (4 * q) f s.latitude)
-  unfolding spot_zones rounded_nL
+  zones_of : (f : Format) → spot_zones (4 * q) Airborne f s.latitude ≡ longitude_zones f (rounded_nl (4 * q) f s.latitude)
+  unfolding spot_zones rounded_nl
   zones_of f = rw (air (latitude_zones f), air (longitude_zones f (zone_count (latitude_zones f * (4 * q)) (whole (4 * q) (latitude_zones f) s.latitude))))
 
-  range_of : (0 < rounded_nL (4 * q) Even s.latitude) × (rounded_nL (4 * q) Even s.latitude ≤ 59)
-  unfolding rounded_nL
+  range_of : (0 < rounded_nl (4 * q) Even s.latitude) × (rounded_nl (4 * q) Even s.latitude ≤ 59)
+  unfolding rounded_nl
   range_of = zones_range (60 * (4 * q)) (whole (4 * q) 60 s.latitude)
 
   -- with one NL for both, the spot of either message
-  module _ (NL : ℕ) (same : (f : Format) → rounded_nL (4 * q) f s.latitude ≡ NL) where
+  module _ (NL : ℕ) (same : (f : Format) → rounded_nl (4 * q) f s.latitude ≡ NL) where
     ranged : (0 < NL) × (NL ≤ 59)
     ranged = rw (same Even) at range_of
 
@@ -85,12 +85,12 @@ module _ (q : ℕ) (large : 118 < 4 * q) (s : Spot) (t : T (pole_to_pole s.latit
       (if_true (eqb n m) _ _ _ (λ (h : T (eqb n m)). ap At (spot_of n (both (eqb→eq n m h)) later)))
     where
       n : ℕ
-      n = rounded_nL (4 * q) Even s.latitude
+      n = rounded_nl (4 * q) Even s.latitude
 
       m : ℕ
-      m = rounded_nL (4 * q) Odd s.latitude
+      m = rounded_nl (4 * q) Odd s.latitude
 
-      both : n ≡ m → (f : Format) → rounded_nL (4 * q) f s.latitude ≡ n
+      both : n ≡ m → (f : Format) → rounded_nl (4 * q) f s.latitude ≡ n
       both e Even = refl
       both e Odd = sym e
 

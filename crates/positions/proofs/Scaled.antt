@@ -23,7 +23,7 @@ use Rattle.positions.specs.Code.{factor, times, nearestℕ, Polar}
 use Rattle.positions.specs.declared.Size.{Size}
 use Rattle.positions.specs.declared.Size.TheVariants.{Fine, Coarse}
 use Rattle.positions.specs.Zones.{latitudes, first, zone_count}
-use Rattle.positions.specs.Positions.{count_size, units, own, latitude_zones, longitude_zones, all_round, rounded, rounded_turn, inside, pair_zone, in_zone, less360, pair_latitude, pair_longitude, pair_nL, pair_spot, pair_found, fit, paired, near_zone, near, near_spot, near_found, singly}
+use Rattle.positions.specs.Positions.{count_size, units, own, latitude_zones, longitude_zones, all_round, rounded, rounded_turn, inside, pair_zone, in_zone, less360, pair_latitude, pair_longitude, pair_nl, pair_spot, pair_found, fit, paired, near_zone, near, near_spot, near_found, singly}
 use Rattle.positions.proofs.Shift.{order, sub_eq, sub_add, sub_less, pos_sub, sub_mul, sub_modulo, sub_nearest, lifted, lifted_is}
 use Rattle.positions.proofs.Naturals.{less_high, less_low}
 use Rattle.positions.proofs.Answers.{same}
@@ -189,8 +189,8 @@ module _ (k : ℕ) (some : 0 < k) where
     longitude_scale f NL a b =
         rw (pair_zone_scale NL a b, own_scale f a b) (in_zone_scale (longitude_zones f NL) (pair_zone P NL a b) (own f a b))
 
-    pub count_scale : (f : Format) (a b : ℕ) → pair_nL (P * k) f (a * k) (b * k) ≡ pair_nL P f a b
-    unfolding pair_nL
+    pub count_scale : (f : Format) (a b : ℕ) → pair_nl (P * k) f (a * k) (b * k) ≡ pair_nl P f a b
+    unfolding pair_nl
     count_scale f a b = rw (latitude_scale f a b, over (latitude_zones f)) (zone_scale (latitude_zones f * P) (pair_latitude P f a b))
 
     pub in_scale : (f : Format) (a b : ℕ) → inside (latitude_zones f * (P * k)) (pair_latitude (P * k) f (a * k) (b * k)) ≡ inside (latitude_zones f * P) (pair_latitude P f a b)
@@ -218,7 +218,7 @@ module _ (k : ℕ) (some : 0 < k) where
           count_scale Even a b,
           count_scale Odd a b,
           latitude_scale later a b,
-          spot_scale later (pair_latitude P later a b) (pair_nL P Even a b) even.longitude.0 odd.longitude.0,
+          spot_scale later (pair_latitude P later a b) (pair_nl P Even a b) even.longitude.0 odd.longitude.0,
         )
 
     -- a pair of counts of the size P is the pair of those counts times k, of the size P * k

@@ -22,7 +22,7 @@ use Rattle.positions.specs.declared.Found.TheVariants.{Refused}
 use Rattle.positions.specs.Whole.{floor, modulo, nearest}
 use Rattle.positions.specs.Zones.{zone_count}
 use Rattle.positions.specs.Code.{nearestℕ}
-use Rattle.positions.specs.Positions.{units, count_size, own, latitude_zones, longitude_zones, all_round, pole_to_pole, rounded, rounded_turn, inside, pair_zone, in_zone, pair_latitude, pair_longitude, pair_nL, pair_spot, pair_found, fit, paired, near, near_spot, near_found, singly}
+use Rattle.positions.specs.Positions.{units, count_size, own, latitude_zones, longitude_zones, all_round, pole_to_pole, rounded, rounded_turn, inside, pair_zone, in_zone, pair_latitude, pair_longitude, pair_nl, pair_spot, pair_found, fit, paired, near, near_spot, near_found, singly}
 use Rattle.positions.specs.Rounded.{ShortBy, Room, Handed, HandedBy, pair_zones, pair_exact, single_zones, single_exact, last_short}
 use Rattle.fields.proofs.Bools.{each, by_test}
 use Rattle.positions.proofs.Shift.{modulo_lt}
@@ -107,7 +107,7 @@ module _ (P u : ℕ) where
   -- the longitude of every pair
   pub paired_handed : Room P u 59 → (even odd : Counts) (later : Format)
       → HandedBy P (pair_zones P even odd later) (pair_exact P even odd later) (suc u) (paired P even odd later)
-  unfolding pair_found pair_spot pair_nL pair_longitude in_zone
+  unfolding pair_found pair_spot pair_nl pair_longitude in_zone
   paired_handed room even odd later =
       let a = even.latitude.0 in
       let b = odd.latitude.0 in
@@ -116,12 +116,12 @@ module _ (P u : ℕ) where
       by_test Due (fit P even && fit P odd) (pair_found P even odd later) (Refused Field)
       (λ e.
       let t = each (fit P even) (fit P odd) e in
-      let z = zones_most later (pair_nL P Even a b) (zones_range (60 * P) (pair_latitude P Even a b)).1 in
-      let zone = pair_zone P (pair_nL P Even a b) even.longitude.0 odd.longitude.0 in
+      let z = zones_most later (pair_nl P Even a b) (zones_range (60 * P) (pair_latitude P Even a b)).1 in
+      let zone = pair_zone P (pair_nl P Even a b) even.longitude.0 odd.longitude.0 in
       let own-count = own later even.longitude.0 odd.longitude.0 in
       by_test Due (inside (60 * P) (pair_latitude P Even a b) && inside (59 * P) (pair_latitude P Odd a b)) _ (Refused Latitude)
       (λ _.
-      by_test Due (eqb (pair_nL P Even a b) (pair_nL P Odd a b)) _ (Refused Zones)
+      by_test Due (eqb (pair_nl P Even a b) (pair_nl P Odd a b)) _ (Refused Zones)
       (λ _. handed P u n _ (fewer P u n 59 z.1 room) (in_turn_lem P n (modulo zone n) own-count (modulo_lt zone n z.0) (own_small later (fit_counts P even t.0).1 (fit_counts P odd t.1).1)))
       (λ _. tt))
       (λ _. tt))

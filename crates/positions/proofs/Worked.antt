@@ -12,7 +12,7 @@ use Rattle.positions.specs.declared.Encoded.TheVariants.{As, Refused as NotEncod
 use Rattle.positions.specs.declared.Found.TheVariants.{At, Refused}
 use Rattle.positions.specs.Whole.{floor, modulo, nearest}
 use Rattle.positions.specs.Zones.{latitudes, first, zone_count}
-use Rattle.positions.specs.Positions.{units, longitude_zones, all_round, whole, count, spot_zones, counts_of, encoded, rounded, rounded_turn, inside, pair_zone, in_zone, less360, pair_latitude, pair_longitude, pair_nL, pair_spot, pair_found, paired, near_zone, near, near_spot, near_found, singly}
+use Rattle.positions.specs.Positions.{units, longitude_zones, all_round, whole, count, spot_zones, counts_of, encoded, rounded, rounded_turn, inside, pair_zone, in_zone, less360, pair_latitude, pair_longitude, pair_nl, pair_spot, pair_found, paired, near_zone, near, near_spot, near_found, singly}
 
 abbrev spot : ℤ → ℕ → Spot
 spot y x = record { latitude = y; longitude = x }
@@ -26,7 +26,7 @@ pub refused :
     × (singly 131072 (spot (pos 1073741825) 0) (counts 0 0) Surface Even ≡ Refused Field)
     × (encoded 131072 (spot (negsuc 1073741824) 0) Airborne Even ≡ NotEncoded Field)
     × (paired 131072 (counts 97659 0) (counts 93846 0) Odd ≡ Refused Zones)
-unfolding floor modulo nearest latitudes first zone_count all_round whole count spot_zones counts_of rounded rounded_turn inside pair_zone in_zone less360 pair_latitude pair_longitude pair_nL pair_spot pair_found near_zone near near_spot near_found
+unfolding floor modulo nearest latitudes first zone_count all_round whole count spot_zones counts_of rounded rounded_turn inside pair_zone in_zone less360 pair_latitude pair_longitude pair_nl pair_spot pair_found near_zone near near_spot near_found
 refused = (refl, refl, refl, refl)
 
 -- NL of the unrounded latitude: 124917351 lies below the first edge and is rounded above it, so the longitude count is 65536, not 98304
@@ -53,7 +53,7 @@ pub not_one_addition :
     × (modulo (pair_zone 131072 59 0 131071) 58 ≡ 57)
     × (pair_zone 131072 59 0 131071 +ℤ pos 58 ≡ negsuc 0)
     × (paired 131072 (counts 0 0) (counts 0 131071) Odd ≡ At (spot (pos 0) 4294966731))
-unfolding floor modulo nearest latitudes first zone_count rounded rounded_turn inside pair_zone in_zone less360 pair_latitude pair_longitude pair_nL pair_spot pair_found
+unfolding floor modulo nearest latitudes first zone_count rounded rounded_turn inside pair_zone in_zone less360 pair_latitude pair_longitude pair_nl pair_spot pair_found
 not_one_addition = (refl, refl, refl, refl)
 
 -- above 270 for from 270 up: the south pole is 270 degrees exactly, and is a latitude, not 9
@@ -62,7 +62,7 @@ pub from_270 :
     × (encoded 131072 (spot (negsuc 1073741823) 0) Airborne Odd ≡ As (counts 32768 0))
     × (paired 131072 (counts 0 0) (counts 32768 0) Even ≡ At (spot (negsuc 1073741823) 0))
     × (paired 131072 (counts 0 0) (counts 32768 0) Odd ≡ At (spot (negsuc 1073741823) 0))
-unfolding floor modulo nearest latitudes first zone_count all_round whole count spot_zones counts_of rounded rounded_turn inside pair_zone in_zone less360 pair_latitude pair_longitude pair_nL pair_spot pair_found
+unfolding floor modulo nearest latitudes first zone_count all_round whole count spot_zones counts_of rounded rounded_turn inside pair_zone in_zone less360 pair_latitude pair_longitude pair_nl pair_spot pair_found
 from_270 = (refl, refl, refl, refl)
 
 -- the north pole is a latitude too: a reference there finds it
@@ -82,7 +82,7 @@ pub last_longitudes :
     × (singly 131072 (spot (pos 0) 0) (counts 0 131071) Surface Even ≡ At (spot (pos 0) 4294967157))
     × (singly 131072 (spot (pos 1073741824) 0) (counts 0 131071) Airborne Even ≡ At (spot (pos 1073741824) 4294934528))
     × (singly 131072 (spot (pos 1073741824) 0) (counts 0 131071) Surface Even ≡ At (spot (pos 1073741824) 4294959104))
-unfolding floor modulo nearest latitudes first zone_count all_round rounded rounded_turn inside pair_zone in_zone less360 pair_latitude pair_longitude pair_nL pair_spot pair_found near_zone near near_spot near_found
+unfolding floor modulo nearest latitudes first zone_count all_round rounded rounded_turn inside pair_zone in_zone less360 pair_latitude pair_longitude pair_nl pair_spot pair_found near_zone near near_spot near_found
 last_longitudes = (refl, refl, refl, refl, refl)
 
 -- coarse counts: 45 degrees north and 90 east, encoded both ways, paired and read singly
@@ -91,7 +91,7 @@ pub coarse_place :
     × (encoded 4096 (spot (pos 536870912) 1073741824) Airborne Odd ≡ As (counts 1536 1024))
     × (paired 4096 (counts 2048 2048) (counts 1536 1024) Odd ≡ At (spot (pos 536870912) 1073741824))
     × (singly 4096 (spot (pos 536870912) 1073741824) (counts 1536 1024) Airborne Odd ≡ At (spot (pos 536870912) 1073741824))
-unfolding floor modulo nearest latitudes first zone_count all_round whole count spot_zones counts_of rounded rounded_turn inside pair_zone in_zone less360 pair_latitude pair_longitude pair_nL pair_spot pair_found near_zone near near_spot near_found
+unfolding floor modulo nearest latitudes first zone_count all_round whole count spot_zones counts_of rounded rounded_turn inside pair_zone in_zone less360 pair_latitude pair_longitude pair_nl pair_spot pair_found near_zone near near_spot near_found
 coarse_place = (refl, refl, refl, refl)
 
 -- 4,096 is 8; 4,095 of 59 zones is the last longitude, 17,772 units short of a turn
@@ -100,7 +100,7 @@ pub coarse_ends :
     × (singly 4096 (spot (pos 0) 0) (counts 0 4096) Airborne Even ≡ Refused Field)
     × (paired 4096 (counts 0 4095) (counts 0 4095) Even ≡ At (spot (pos 0) 4294949524))
     × (singly 4096 (spot (pos 0) 0) (counts 0 4095) Airborne Even ≡ At (spot (pos 0) 4294949524))
-unfolding floor modulo nearest latitudes first zone_count all_round rounded rounded_turn inside pair_zone in_zone less360 pair_latitude pair_longitude pair_nL pair_spot pair_found near_zone near near_spot near_found
+unfolding floor modulo nearest latitudes first zone_count all_round rounded rounded_turn inside pair_zone in_zone less360 pair_latitude pair_longitude pair_nl pair_spot pair_found near_zone near near_spot near_found
 coarse_ends = (refl, refl, refl, refl)
 
 -- coarse counts as they are, or times 16, for times 32: the pair of 45 degrees north would lie elsewhere
@@ -108,7 +108,7 @@ pub not_sixteen :
     (paired 131072 (counts (2048 * 32) (2048 * 32)) (counts (1536 * 32) (1024 * 32)) Even ≡ At (spot (pos 536870912) 1073741824))
     × (paired 131072 (counts (2048 * 16) (2048 * 16)) (counts (1536 * 16) (1024 * 16)) Even ≡ At (spot (pos 304226850) 576639128))
     × (paired 131072 (counts 2048 2048) (counts 1536 1024) Even ≡ At (spot (pos 1118481) 1137438))
-unfolding floor modulo nearest latitudes first zone_count rounded rounded_turn inside pair_zone in_zone less360 pair_latitude pair_longitude pair_nL pair_spot pair_found
+unfolding floor modulo nearest latitudes first zone_count rounded rounded_turn inside pair_zone in_zone less360 pair_latitude pair_longitude pair_nl pair_spot pair_found
 not_sixteen = (refl, refl, refl)
 
 -- the fine count without its last five bits for the coarse count: 16 of 2^17 are half a count of 2^12, and that rounds up

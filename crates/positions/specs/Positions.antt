@@ -119,8 +119,8 @@ pair_longitude P f NL even odd =
     in_zone P (longitude_zones f NL) (pair_zone P NL even odd) (own f even odd)
 
 -- RULES 7.10: its NL
-unfoldable pub pair_nL : ℕ → Format → ℕ → ℕ → ℕ
-pair_nL P f even odd = zone_count (latitude_zones f * P) (pair_latitude P f even odd)
+unfoldable pub pair_nl : ℕ → Format → ℕ → ℕ → ℕ
+pair_nl P f even odd = zone_count (latitude_zones f * P) (pair_latitude P f even odd)
 
 -- RULES 7.11: the spot of the message of format f, with NL that of both latitudes
 unfoldable pub pair_spot : ℕ → Format → ℤ → ℕ → ℕ → ℕ → Spot
@@ -136,8 +136,8 @@ pair_found P even odd later =
     let a = even.latitude.0 in
     let b = odd.latitude.0 in
     cond (inside (60 * P) (pair_latitude P Even a b) && inside (59 * P) (pair_latitude P Odd a b))
-    (cond (eqb (pair_nL P Even a b) (pair_nL P Odd a b))
-    (At (pair_spot P later (pair_latitude P later a b) (pair_nL P Even a b) even.longitude.0 odd.longitude.0))
+    (cond (eqb (pair_nl P Even a b) (pair_nl P Odd a b))
+    (At (pair_spot P later (pair_latitude P later a b) (pair_nl P Even a b) even.longitude.0 odd.longitude.0))
     (Refused Zones))
     (Refused Latitude)
 

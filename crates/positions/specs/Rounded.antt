@@ -13,16 +13,16 @@ use Rattle.positions.specs.declared.Found.{Found}
 use Rattle.positions.specs.declared.Found.TheVariants.{At, Refused}
 use Rattle.positions.specs.Whole.{modulo}
 use Rattle.positions.specs.Zones.{zone_count}
-use Rattle.positions.specs.Positions.{units, latitude_zones, longitude_zones, all_round, whole, rounded, rounded_turn, pair_longitude, pair_nL, near}
+use Rattle.positions.specs.Positions.{units, latitude_zones, longitude_zones, all_round, whole, rounded, rounded_turn, pair_longitude, pair_nl, near}
 
 -- NL of the rounded latitude of the airborne message of format f
-unfoldable pub rounded_nL : ℕ → Format → ℤ → ℕ
-rounded_nL P f latitude = zone_count (latitude_zones f * P) (whole P (latitude_zones f) latitude)
+unfoldable pub rounded_nl : ℕ → Format → ℤ → ℕ
+rounded_nl P f latitude = zone_count (latitude_zones f * P) (whole P (latitude_zones f) latitude)
 
 -- its rounded place, the longitude modulo 360 degrees, rounded to 2^-32
 unfoldable pub rounded_spot : ℕ → Format → Spot → Spot
 rounded_spot P f s =
-    let n = longitude_zones f (rounded_nL P f s.latitude) in
+    let n = longitude_zones f (rounded_nl P f s.latitude) in
     record {
       latitude = rounded (latitude_zones f * P) (whole P (latitude_zones f) s.latitude);
       longitude = rounded_turn (n * P) (modulo (whole P n (pos s.longitude)) (n * P));
@@ -31,7 +31,7 @@ rounded_spot P f s =
 -- the rounded place of the later message, or 10 just where the two rounded latitudes differ in NL
 unfoldable pub round_trip : ℕ → Spot → Format → Found
 round_trip P s later =
-    cond (eqb (rounded_nL P Even s.latitude) (rounded_nL P Odd s.latitude)) (At (rounded_spot P later s)) (Refused Zones)
+    cond (eqb (rounded_nl P Even s.latitude) (rounded_nl P Odd s.latitude)) (At (rounded_spot P later s)) (Refused Zones)
 
 -- how far apart two numbers are on a circle of C
 abbrev pub around : ℕ → ℕ → ℕ → ℕ
@@ -69,10 +69,10 @@ HandedBy P N r u (Refused e) = Unit
 
 -- the zones of a pair and its exact longitude, with NL that of both latitudes
 abbrev pub pair_zones : ℕ → Counts → Counts → Format → ℕ
-pair_zones P even odd later = longitude_zones later (pair_nL P Even even.latitude.0 odd.latitude.0)
+pair_zones P even odd later = longitude_zones later (pair_nl P Even even.latitude.0 odd.latitude.0)
 
 abbrev pub pair_exact : ℕ → Counts → Counts → Format → ℕ
-pair_exact P even odd later = pair_longitude P later (pair_nL P Even even.latitude.0 odd.latitude.0) even.longitude.0 odd.longitude.0
+pair_exact P even odd later = pair_longitude P later (pair_nl P Even even.latitude.0 odd.latitude.0) even.longitude.0 odd.longitude.0
 
 -- .. and of a single message, with NL that of the decoded latitude
 abbrev pub single_zones : ℕ → Spot → Counts → Turn → Format → ℕ

@@ -14,7 +14,7 @@ use Rattle.positions.specs.declared.Encoded.TheVariants as encode
 use Rattle.positions.specs.declared.Found.{Found}
 use Rattle.positions.specs.declared.Found.TheVariants as find
 use Rattle.positions.specs.Zones.{zone_count}
-use Rattle.positions.specs.Positions.{count_size, latitude_zones, longitude_zones, all_round, counts_of, inside, pair_latitude, pair_nL, pair_spot, near, near_spot}
+use Rattle.positions.specs.Positions.{count_size, latitude_zones, longitude_zones, all_round, counts_of, inside, pair_latitude, pair_nl, pair_spot, near, near_spot}
 
 abbrev pub encoded_said : Encoded → Said Counts
 encoded_said (encode.As c) = gives c
@@ -50,7 +50,7 @@ abbrev pub pair_apart : ℕ → Counts → Counts → Bool
 pair_apart P even odd =
     let a = even.latitude.0 in
     let b = odd.latitude.0 in
-    not (eqb (pair_nL P Even a b) (pair_nL P Odd a b))
+    not (eqb (pair_nl P Even a b) (pair_nl P Odd a b))
 
 -- ---- what is due: for positions 8, 9, 10
 
@@ -65,7 +65,7 @@ pair_table size even odd later =
     cond (too_high size even || too_high size odd) (number 8)
     (cond (pair_outside P even odd) (number 9)
     (cond (pair_apart P even odd) (number 10)
-    (gives (pair_spot P later (pair_latitude P later a b) (pair_nL P Even a b) even.longitude.0 odd.longitude.0))))
+    (gives (pair_spot P later (pair_latitude P later a b) (pair_nl P Even a b) even.longitude.0 odd.longitude.0))))
 
 abbrev pub single_table : Size → Spot → Counts → Turn → Format → Said Spot
 single_table size reference c k f =

@@ -23,7 +23,7 @@ use Rattle.readings.specs.declared.amounts.Speed.TheVariants as speed
 use Rattle.readings.specs.declared.amounts.Rate.TheVariants as rate
 use Rattle.readings.specs.declared.amounts.Difference.{Difference}
 use Rattle.readings.specs.declared.amounts.Difference.TheVariants as difference
-use Rattle.readings.specs.declared.coarse.CoarseSpeed.TheVariants as coarseSpeed
+use Rattle.readings.specs.declared.coarse.CoarseSpeed.TheVariants as coarse_speed
 use Rattle.readings.specs.declared.headings.Heading.TheVariants as heading
 use Rattle.readings.specs.declared.movement.Movement.TheVariants as movement
 use Rattle.readings.specs.declared.bodies.GroundReadings.{GroundReadings}
@@ -73,12 +73,12 @@ pub angle_quarter : (heading_of 5 8 ≡ heading.Turn 0x4000_0000) × (heading_of
 angle_quarter = (refl, refl)
 
 -- its speeds: 1 is 0 knots and no step of 32 below 16, 62 has an upper edge and 63 has none
-pub coarse_speeds : (coarse_speed_of 1 ≡ coarseSpeed.LowerEdge 0)
-    × (coarse_speed_of 2 ≡ coarseSpeed.LowerEdge 16)
-    × (coarse_speed_of 3 ≡ coarseSpeed.LowerEdge 48)
-    × (coarse_speed_of 62 ≡ coarseSpeed.LowerEdge 1936)
-    × (coarse_speed_of 63 ≡ coarseSpeed.AndUp 1968)
-    × (coarse_speed_of 64 ≡ coarseSpeed.Refused Field)
+pub coarse_speeds : (coarse_speed_of 1 ≡ coarse_speed.LowerEdge 0)
+    × (coarse_speed_of 2 ≡ coarse_speed.LowerEdge 16)
+    × (coarse_speed_of 3 ≡ coarse_speed.LowerEdge 48)
+    × (coarse_speed_of 62 ≡ coarse_speed.LowerEdge 1936)
+    × (coarse_speed_of 63 ≡ coarse_speed.AndUp 1968)
+    × (coarse_speed_of 64 ≡ coarse_speed.Refused Field)
 unfolding coarse_speed_of
 coarse_speeds = (refl, refl, refl, refl, refl, refl)
 
@@ -135,7 +135,7 @@ abbrev coarse_as : ℕ → Body
 coarse_as station = body.Coarse (record { flag = 0; surveillance = 0; station = station; altitude = 888; status = 1; angle = 8; speed = 10; f = 0; latitude = record { 0 = 2048 }; longitude = record { 0 = 1024 } })
 
 pub coarse_body : (body.Coarse (coarse_of 0x066F1414800400) ≡ coarse_as 3)
-    × (readings_of (coarse_as 3) true ≡ readings.Coarse (record { altitude = altitude.Feet (pos 10000) 25; angle = heading.Turn 0x4000_0000; speed = coarseSpeed.LowerEdge 272 }))
+    × (readings_of (coarse_as 3) true ≡ readings.Coarse (record { altitude = altitude.Feet (pos 10000) 25; angle = heading.Turn 0x4000_0000; speed = coarse_speed.LowerEdge 272 }))
     × (readings_of (coarse_as 16) true ≡ readings.Refused Field)
 unfolding readings_of altitude_of coarse_speed_of
 coarse_body = (refl, refl, refl)

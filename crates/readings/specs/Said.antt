@@ -25,7 +25,7 @@ use Rattle.readings.specs.declared.amounts.Rate.TheVariants as rate
 use Rattle.readings.specs.declared.amounts.Difference.{Difference}
 use Rattle.readings.specs.declared.amounts.Difference.TheVariants as difference
 use Rattle.readings.specs.declared.coarse.CoarseSpeed.{CoarseSpeed}
-use Rattle.readings.specs.declared.coarse.CoarseSpeed.TheVariants as coarseSpeed
+use Rattle.readings.specs.declared.coarse.CoarseSpeed.TheVariants as coarse_speed
 use Rattle.readings.specs.declared.headings.Heading.{Heading}
 use Rattle.readings.specs.declared.headings.Heading.TheVariants as heading
 use Rattle.readings.specs.declared.movement.Movement.{Movement}
@@ -87,10 +87,10 @@ movement_said movement.Reserved = gives reserved
 movement_said (movement.Refused r) = number (number_of r)
 
 abbrev pub coarse_speed_said : CoarseSpeed → Said Amount
-coarse_speed_said coarseSpeed.Unknown = gives unknown
-coarse_speed_said (coarseSpeed.LowerEdge n) = gives (edge n)
-coarse_speed_said (coarseSpeed.AndUp n) = gives (andUp n)
-coarse_speed_said (coarseSpeed.Refused r) = number (number_of r)
+coarse_speed_said coarse_speed.Unknown = gives unknown
+coarse_speed_said (coarse_speed.LowerEdge n) = gives (edge n)
+coarse_speed_said (coarse_speed.AndUp n) = gives (andUp n)
+coarse_speed_said (coarse_speed.Refused r) = number (number_of r)
 
 abbrev pub version_said : Version → Said Amount
 version_said (version.Number n) = gives (numeral n)

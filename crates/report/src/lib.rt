@@ -9,7 +9,7 @@ ghost use Rattle.text.specs.Lines.{line_of};
 ghost use Rattle.table.specs.Table.{looked_up};
 ghost use Rattle.memory.specs.Offsets.{Room, whole_places};
 ghost use Rattle.report.specs.Listing.{shown, row_of, row_for, rows_in, reported, header_in, line_in};
-ghost use Rattle.report.specs.Listing.{without as withoutLine};
+ghost use Rattle.report.specs.Listing.{without as without_line};
 ghost use Rattle.report.specs.Code.{has_row};
 
 use refusals::Refusal;
@@ -44,7 +44,7 @@ fn no_line() -> Line
 }
 
 fn without(answer: Printed) -> Report
-    ensures { result ≡ withoutLine answer }
+    ensures { result ≡ without_line answer }
 {
     Report {
         answer: answer,

@@ -1,7 +1,7 @@
 // What a line of the listing says of a track.
 ghost use Rattle.std.specs.Prelude.{◌≡◌};
 ghost use Rattle.report.specs.Listing.{latitude_in, longitude_in, row_from, row_of};
-ghost use Rattle.report.specs.Listing.{feet as feetOf, step_in};
+ghost use Rattle.report.specs.Listing.{feet as feet_of, step_in};
 
 use readings::Altitude;
 use text::{Figure, Row};
@@ -29,7 +29,7 @@ fn longitude_in(p: Position) -> Figure
 }
 
 fn feet(a: Altitude) -> Figure
-    ensures { result ≡ feetOf a }
+    ensures { result ≡ feet_of a }
 {
     match a {
         Altitude::Feet { feet, step: _ } => Figure::Known(feet as i64),

@@ -7,7 +7,7 @@ use Rattle.readings.specs.Code.{by_hundreds}
 use Rattle.readings.specs.Amounts.{speed_of, rate_of, amount, signed, times}
 use Rattle.positions.specs.Whole.{floor, modulo, nearest}
 use Rattle.positions.specs.Zones.{latitudes, first, zone_count}
-use Rattle.positions.specs.Positions.{all_round, whole, count, spot_zones, counts_of, rounded, rounded_turn, inside, pair_zone, in_zone, less360, pair_latitude, pair_longitude, pair_nL, pair_spot, pair_found, near_zone, near, near_spot, near_found}
+use Rattle.positions.specs.Positions.{all_round, whole, count, spot_zones, counts_of, rounded, rounded_turn, inside, pair_zone, in_zone, less360, pair_latitude, pair_longitude, pair_nl, pair_spot, pair_found, near_zone, near, near_spot, near_found}
 use Rattle.parity.specs.Division.{reduce, remainder_from}
 use Rattle.parity.specs.Parity.{remainder}
 use Rattle.messages.specs.Message.{opened}
@@ -17,6 +17,6 @@ pub starred : map answer_to examples ≡ map due examples
 unfolding answer examples
     altitude_of by_hundreds six_less straight five_hundreds hundreds gray_step speed_of rate_of amount signed times
     floor modulo nearest latitudes first zone_count all_round whole count spot_zones counts_of rounded rounded_turn inside
-    pair_zone in_zone less360 pair_latitude pair_longitude pair_nL pair_spot pair_found near_zone near near_spot near_found
+    pair_zone in_zone less360 pair_latitude pair_longitude pair_nl pair_spot pair_found near_zone near near_spot near_found
     reduce remainder_from remainder opened
 starred = refl

@@ -23,7 +23,7 @@ use Rattle.positions.specs.declared.Size.{Size}
 use Rattle.positions.specs.declared.Size.TheVariants.{Fine, Coarse}
 use Rattle.positions.specs.declared.Found.{Found}
 use Rattle.positions.specs.declared.Found.TheVariants.{At, Refused}
-use Rattle.positions.specs.Positions.{count_size, latitude_zones, all_round, pole_to_pole, inside, pair_latitude, pair_nL, pair_found, fit, paired, near, near_found, singly}
+use Rattle.positions.specs.Positions.{count_size, latitude_zones, all_round, pole_to_pole, inside, pair_latitude, pair_nl, pair_found, fit, paired, near, near_found, singly}
 use Rattle.whereabouts.specs.declared.Saved.{Saved}
 use Rattle.whereabouts.specs.declared.Position.{Position}
 use Rattle.whereabouts.specs.declared.Site.{Site}
@@ -91,7 +91,7 @@ paired_sound P even odd later p q =
     by_test Sound
     (inside (60 * P) (pair_latitude P Even even.latitude.0 odd.latitude.0) && inside (59 * P) (pair_latitude P Odd even.latitude.0 odd.latitude.0))
     _ (Refused Latitude)
-    (λ _. by_test Sound (eqb (pair_nL P Even even.latitude.0 odd.latitude.0) (pair_nL P Odd even.latitude.0 odd.latitude.0)) _ (Refused Zones) (λ _. tt) (λ _. refl))
+    (λ _. by_test Sound (eqb (pair_nl P Even even.latitude.0 odd.latitude.0) (pair_nl P Odd even.latitude.0 odd.latitude.0)) _ (Refused Zones) (λ _. tt) (λ _. refl))
     (λ _. refl))
     (λ e. absurd (never (fit P even && fit P odd) (both p q) e))
 
