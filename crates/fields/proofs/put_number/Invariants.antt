@@ -1,11 +1,7 @@
 -- `fields::put_number` meets its contract: from `i` on the bytes are written, and `rest` is what is above them.
-use Prim.Native.Nat.{ℕ, suc, ◌*◌, ◌-◌, ◌/◌, ◌^◌, ◌≤◌}
-use mathlib.Core.Path.{◌≡◌, refl, sym, ap, ◌∙◌}
-use native.Mathlib.Omega.{arith}
-use borrow.Author.Rules.{rules}
-use lib.ListN.{length, drop, length-set}
-use lib.Seq.{drop-length}
-use Rattle.fields.proofs.Bytes.{put_byte, shr_byte}
+use Prim.Native.Nat.{◌*◌, ◌-◌, ◌/◌, ◌^◌, ◌≤◌}
+use mathlib.Core.Path.{◌≡◌}
+use lib.ListN.{length, drop}
 use Rattle.fields.specs.Bytes.{bytes_of}
 use Rattle.fields.proofs.put_number.Given as goal
 
