@@ -99,4 +99,4 @@ pub code_isolated : (key : ℕ) (site : Option Spot) → East (given site) → (
     → {xs ys : List Call} → Alike key xs ys → {ps qs : List (After Decoded)} → Ran a.table xs ps → Ran b.table ys qs
     → NotFull key xs ps → NotFull key ys qs → shown bytes key xs ps ≡ shown bytes key ys qs
 code_isolated key site east s t a b u v p q {xs} {ys} alike {ps} {qs} x y =
-    played_isolated bytes bytes bytes_isolated key (given site) east s t a b (begun_is site s a u) (begun_is site t b v) p q xs ys alike ps qs (ran_played x) (ran_played y)
+    played_isolated bytes bytes received received bytes_isolated key (given site) east s t a b (begun_is site s a u) (begun_is site t b v) p q xs ys alike ps qs (ran_played x) (ran_played y)

@@ -94,4 +94,4 @@ module _ {M : Type 1} {𝓤 : Ura M} (𝓛 : Logic 𝓤) (mem : Memory → SProp
       both_say 𝓤 (sep 𝓤 (begun u) (ran x)) (sep 𝓤 (begun v) (ran y)) ((a ≡ set_up slice s site) × Played (received slice) a.table xs rs) ((b ≡ set_up slice t site) × Played (received slice) b.table ys zs) _
       (both_say 𝓤 (begun u) (ran x) _ _ _ (begun_is u) (ran_played x) (λ p q. (p, q)))
       (both_say 𝓤 (begun v) (ran y) _ _ _ (begun_is v) (ran_played y) (λ p q. (p, q)))
-      (λ p q. played_isolated slice slice slice_isolated key site east s t a b p.0 q.0 d e xs ys alike rs zs p.1 q.1 f g)
+      (λ p q. played_isolated slice slice (received slice) (received slice) slice_isolated key site east s t a b p.0 q.0 d e xs ys alike rs zs p.1 q.1 f g)

@@ -56,6 +56,6 @@ pub code_stamped_isolated : (key : ℕ) (site : Option Spot) → East (given sit
     → {xs ys : List Call} → Alike key xs ys → {ps qs : List (rules.After (Kept (List ℕ)) Decoded)} → Ran (beside a.table fresh) xs ps → Ran (beside b.table fresh) ys qs
     → NotFull key xs ps → NotFull key ys qs → shown (kept bytes) key xs ps ≡ shown (kept bytes) key ys qs
 code_stamped_isolated key site east s t a b u v d e {xs} {ys} alike {ps} {qs} x y =
-    played_isolated (kept bytes) (kept bytes) bytes_stamped key (given site) east (beside s fresh) (beside t fresh)
+    played_isolated (kept bytes) (kept bytes) (by_stamp bytes) (by_stamp bytes) bytes_stamped key (given site) east (beside s fresh) (beside t fresh)
     (rules.after a.answer (beside a.table fresh)) (rules.after b.answer (beside b.table fresh))
     (begun_beside site s a u d) (begun_beside site t b v e) d e xs ys alike ps qs (ran_played x) (ran_played y)

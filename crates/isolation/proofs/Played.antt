@@ -39,7 +39,7 @@ module _ {S : Type 0} (F : Form S) (rule : Rule S) (key : ℕ) where
   played_never s (c ∷ cs) [] p n = absurd p
 
 -- two runs from a set-up each, alike for an aircraft, show it the same
-module _ {S T : Type 0} (F : Form S) (G : Form T) {rule : Rule S} {rule' : Rule T} (isolated : Isolation F G rule rule') where
+module _ {S T : Type 0} (F : Form S) (G : Form T) (rule : Rule S) (rule' : Rule T) (isolated : Isolation F G rule rule') where
   pub played_isolated : (key : ℕ) (site : Site) → East site → (s : S) (t : T) (a : After S SetUp) (b : After T SetUp) → a ≡ set_up F s site → b ≡ set_up G t site → a.answer ≡ Done → b.answer ≡ Done
       → (xs ys : List Call) → Alike key xs ys → (ps : List (After S Decoded)) (qs : List (After T Decoded)) → Played rule a.table xs ps → Played rule' b.table ys qs
       → NotFull key xs ps → NotFull key ys qs → shown F key xs ps ≡ shown G key ys qs

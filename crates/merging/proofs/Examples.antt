@@ -56,7 +56,7 @@ abbrev pub damaged : Call
 damaged = record { message = flipped 112 first.message; time = 1000; fits = omega arith }
 
 abbrev pub silent : Call
-silent = record { message = no-position.message; time = 1000; fits = omega arith }
+silent = record { message = no_position_lem.message; time = 1000; fits = omega arith }
 
 abbrev pub other : Call
 other = record { message = stranger_first.message; time = 1000; fits = omega arith }

@@ -35,9 +35,9 @@ abbrev pub unheard : Own
 unheard = record { clock = 0; track = none }
 
 -- after the first n records, from what was seen before them
-abbrev pub field_own : Site → ℕ → Own → List ℕ → ℕ → Own
-field_own site key o log zero = o
-field_own site key o log (suc n) = own_after site (field_own site key o log n) (heard_at key (record_at log n))
+abbrev pub own_at : Site → ℕ → Own → List ℕ → ℕ → Own
+own_at site key o log zero = o
+own_at site key o log (suc n) = own_after site (own_at site key o log n) (heard_at key (record_at log n))
 
 -- the spot of a site that is not known is not looked at
 abbrev pub sited : Site → Site
@@ -61,4 +61,4 @@ unfoldable pub replayed : List ℕ → Kind → ℕ → Site → Looked
 replayed log kind address site =
     cond (not (is_log (length log))) (not_looked Log)
     (cond (leb addresses address || is_wide kind || bad_site site) (not_looked Field)
-    (looked_as (field_own (sited site) (key_for kind address) unheard log (length log / 22)).track))
+    (looked_as (own_at (sited site) (key_for kind address) unheard log (length log / 22)).track))

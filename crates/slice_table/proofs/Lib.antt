@@ -1,8 +1,6 @@
 pub mod Ways
 pub mod Filled
 pub mod Scanned
-pub mod Again
-pub mod Walk
 pub mod Delivered
 pub mod Unique
 pub mod Lawful

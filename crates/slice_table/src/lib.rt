@@ -1,6 +1,6 @@
 // The lent table as a slice of places, 1 to 1,024 of them, with its head by value. The calls are those of the bytes form, and both answer the same.
 // A place is a struct of `slice_places`, where the range of each of its values stands, and all that is decided of one.
-// The functions below are thin, since their proofs follow each step by hand: they read, call by value and store.
+// The functions below are thin: they read, call by value and store.
 #![tactic(auto)]
 
 mod search;

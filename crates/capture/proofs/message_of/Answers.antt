@@ -5,10 +5,6 @@ use Rattle.capture.proofs.Records.{inside, message_at, message_ended}
 use borrow.Author.Rules.{rules}
 use Rattle.capture.proofs.message_of.Goals as goal
 
-record-of-requires : tie.Need-record-of-requires
-
-record-of-requires c κs = search rules
-
 pub overflow_add-end : goal.overflow_add-end
 overflow_add-end c =
     let a = c.args in

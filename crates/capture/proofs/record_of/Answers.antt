@@ -11,25 +11,6 @@ use Rattle.capture.proofs.Records.{there, no_block, count_ended, past_ended, tim
 use borrow.Author.Rules.{rules}
 use Rattle.capture.proofs.record_of.Goals as goal
 
-pub record-of-spec : {M : Type 1} → statement M
-
-record-of-spec =
-    tie.close
-    (tie.spec
-    returns
-    shared-slice-read-size
-    size-requires
-    returns-2
-    returns-3
-    mul-from
-    add-from
-    add_start
-    sub-number-of
-    part-number-of-start
-    part-number-of-end
-    number-of-requires
-    returns-4)
-
 pub returns-then-b-ne512 : goal.returns-then-b-ne512
 returns-then-b-ne512 c = sym (no_block _ _ (ne_eqb _ _ c.if-b-ne512.true))
 

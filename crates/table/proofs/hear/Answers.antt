@@ -1,4 +1,5 @@
 -- `table::hear` meets its contract: its ways out are those of a received message, with the answer cut to done or a number.
+use mathlib.Core.Bool.{not}
 use mathlib.Core.Path.{◌≡◌, refl, sym, ap, ◌∙◌}
 use Rattle.messages.specs.declared.Accepted.TheVariants as accept
 use Rattle.messages.specs.Accepted.{accepted, opened_as}
@@ -15,20 +16,20 @@ pub returns-then-message-ne14 : goal.returns-then-message-ne14
 returns-then-message-ne14 c = ap heard (receive_length _ _ _ c.if-message-ne14.true)
 
 pub returns-then-not-whole_places : goal.returns-then-not-whole_places
-returns-then-not-whole_places c = ap heard (receive_size _ _ _ c.if-message-ne14.false c.whole_places.ensures c.if-not-whole_places.true)
+returns-then-not-whole_places c = ap heard (receive_size _ _ _ c.if-message-ne14.false c.whole_places.ensures (ap not c.if-not-whole_places.true))
 
 pub clock_of-requires : goal.clock_of-requires
-clock_of-requires c = whole_head _ (whole _ c.whole_places.ensures c.if-not-whole_places.false)
+clock_of-requires c = whole_head _ (whole _ c.whole_places.ensures (ap not c.if-not-whole_places.false))
 
 pub returns-then-time-clock_of : goal.returns-then-time-clock_of
-returns-then-time-clock_of c = ap heard (receive_late _ _ _ c.if-message-ne14.false c.whole_places.ensures c.if-not-whole_places.false c.clock_of.ensures c.if-time-clock_of.true)
+returns-then-time-clock_of c = ap heard (receive_late _ _ _ c.if-message-ne14.false c.whole_places.ensures (ap not c.if-not-whole_places.false) c.clock_of.ensures c.if-time-clock_of.true)
 
 pub move_clock-requires : goal.move_clock-requires
-move_clock-requires c = whole_head _ (whole _ c.whole_places.ensures c.if-not-whole_places.false)
+move_clock-requires c = whole_head _ (whole _ c.whole_places.ensures (ap not c.if-not-whole_places.false))
 
 pub deliver-requires : goal.deliver-requires
 deliver-requires c = (
-  rw (c.move_clock.ensures, moved_length) (whole _ c.whole_places.ensures c.if-not-whole_places.false),
+  rw (c.move_clock.ensures, moved_length) (whole _ c.whole_places.ensures (ap not c.if-not-whole_places.false)),
   (c.args.message.now, sym c.accept-answer.ensures ∙ c.in-Frame.is),
 )
 
@@ -37,10 +38,10 @@ returns-in-Frame c =
     let m = c.args.message.now in
     let e : accepted m ≡ accept.Frame _ = sym c.accept-answer.ensures ∙ c.in-Frame.is in
     c.deliver.ensures
-    ∙ ap heard (receive_on _ m _ c.if-message-ne14.false c.whole_places.ensures c.if-not-whole_places.false c.clock_of.ensures c.if-time-clock_of.false c.move_clock.ensures (sym (accepted_opened m ∙ ap opened_as e)) refl)
+    ∙ ap heard (receive_on _ m _ c.if-message-ne14.false c.whole_places.ensures (ap not c.if-not-whole_places.false) c.clock_of.ensures c.if-time-clock_of.false c.move_clock.ensures (sym (accepted_opened m ∙ ap opened_as e)) refl)
 
 pub returns-in-Refused : goal.returns-in-Refused
 returns-in-Refused c =
     let m = c.args.message.now in
     let e : accepted m ≡ accept.Refused _ = sym c.accept-answer.ensures ∙ c.in-Refused.is in
-    ap heard (receive_on _ m _ c.if-message-ne14.false c.whole_places.ensures c.if-not-whole_places.false c.clock_of.ensures c.if-time-clock_of.false c.move_clock.ensures (sym (accepted_opened m ∙ ap opened_as e)) (deliver_refused _ _ _ refl))
+    ap heard (receive_on _ m _ c.if-message-ne14.false c.whole_places.ensures (ap not c.if-not-whole_places.false) c.clock_of.ensures c.if-time-clock_of.false c.move_clock.ensures (sym (accepted_opened m ∙ ap opened_as e)) (deliver_refused _ _ _ refl))

@@ -1,6 +1,6 @@
 -- `slice_places::arrivals::judge` meets its contract: its four ways out are the definition's.
 use mathlib.Core.Path.{sym, ◌∙◌}
-use borrow.Author.Tests.{lt-ltb, eq-eqb, ne_eqb, not-false}
+use borrow.Author.Tests.{lt-ltb, eq-eqb, ne_eqb}
 use Rattle.slice_places.specs.Arrivals.{judged}
 use Rattle.slice_places.proofs.Judged.{judged_on}
 use borrow.Author.Rules.{rules}
@@ -20,4 +20,4 @@ returns-then-time-head c = rw (eq-eqb _ _ c.if-message-ne14.false, ← c.places_
 
 pub returns : goal.returns
 returns c =
-    judged_on _ _ _ _ c.if-message-ne14.false (sym c.places_fit.ensures ∙ not-false _ c.if-not-places_fit.false) c.if-time-head.false c.decode.ensures
+    judged_on _ _ _ _ c.if-message-ne14.false (sym c.places_fit.ensures ∙ c.if-not-places_fit.false) c.if-time-head.false c.decode.ensures

@@ -17,12 +17,12 @@ loop-i-init c =
 pub returns-then-not-is_held : goal.returns-then-not-is_held
 returns-then-not-is_held c =
     let a = c.args in
-    sym (lowest_found (λ j. not (is_held a.clock (place_at a.s.now a.n j))) c.loop-i.i c.loop-i.invariant.1 (ap not c.is_held.ensures) c.if-not-is_held.true a.n c.loop-i-test.true)
+    sym (lowest_found (λ j. not (is_held a.clock (place_at a.s.now a.n j))) c.loop-i.i c.loop-i.invariant.1 (ap not c.is_held.ensures) (ap not c.if-not-is_held.true) a.n c.loop-i-test.true)
 
 pub loop-i-preserved : goal.loop-i-preserved
 loop-i-preserved c =
     let a = c.args in
-    (search rules, lowest_none (λ j. not (is_held a.clock (place_at a.s.now a.n j))) c.loop-i.i c.loop-i.invariant.1 (ap not c.is_held.ensures) c.if-not-is_held.false)
+    (search rules, lowest_none (λ j. not (is_held a.clock (place_at a.s.now a.n j))) c.loop-i.i c.loop-i.invariant.1 (ap not c.is_held.ensures) (ap not c.if-not-is_held.false))
 
 pub returns : goal.returns
 returns c =

@@ -1,4 +1,6 @@
 -- `table_bytes::scan::skip` meets its contract: no key that the loop has passed is the key.
+use mathlib.Core.Bool.{not}
+use mathlib.Core.Path.{ap}
 use Prim.Native.Nat.{◌-◌, ◌≤◌}
 use native.Mathlib.Omega.{arith}
 use Rattle.table_bytes.specs.Code.{NoneBelow}
@@ -21,7 +23,7 @@ returns-then-not-none_of_8 c = (search rules, c.past_4.ensures.1)
 pub loop-i-preserved : goal.loop-i-preserved
 loop-i-preserved c =
     let a = c.args in
-    (search rules, skip_more a.s.now a.key c.loop-i.i c.loop-i.invariant.1 c.none_of_8.ensures c.none_of_8-in-loop-i.ensures c.if-not-none_of_8.false)
+    (search rules, skip_more a.s.now a.key c.loop-i.i c.loop-i.invariant.1 c.none_of_8.ensures c.none_of_8-in-loop-i.ensures (ap not c.if-not-none_of_8.false))
 
 pub returns : goal.returns
 returns c = (search rules, c.loop-i.invariant.1)

@@ -2,16 +2,15 @@
 use Prim.Native.Nat.{◌-◌, ◌≤◌}
 use native.Mathlib.Omega.{arith}
 use mathlib.Core.Bool.{Bool, true, false, not, ◌&&◌}
-use mathlib.Core.Path.{◌≡◌, sym, ap₂, ◌∙◌}
-use borrow.Author.Tests.{not-true}
+use mathlib.Core.Path.{◌≡◌, sym, ap₂, ◌∙◌, ap}
 use Rattle.table_bytes.specs.Layout.{place_at}
 use Rattle.table_bytes.proofs.Scanned.{HeldBelow, held_more}
 use borrow.Author.Rules.{rules}
 use Rattle.table_bytes.proofs.scan.skip_held.Goals as goal
 
 -- a test by two calls is the test of what they say
-both : {a b x y : Bool} → a ≡ x → b ≡ y → not (a && b) ≡ true → x && y ≡ false
-both {a} {b} p q e = ap₂ ◌&&◌ (sym p) (sym q) ∙ not-true (a && b) e
+both : {a b x y : Bool} → a ≡ x → b ≡ y → a && b ≡ false → x && y ≡ false
+both p q e = ap₂ ◌&&◌ (sym p) (sym q) ∙ e
 
 pub loop-i-init : goal.loop-i-init
 loop-i-init c = (search rules, λ j h. absurd (omega arith))
@@ -22,7 +21,7 @@ returns-then-not-held_4 c = (search rules, (c.loop-i.invariant.1, λ g. both c.h
 pub loop-i-preserved : goal.loop-i-preserved
 loop-i-preserved c =
     let a = c.args in
-    (search rules, held_more (place_at a.s.now a.n) a.clock c.loop-i.i c.loop-i.invariant.1 c.held_4.ensures c.held_4-in-loop-i.ensures c.if-not-held_4.false)
+    (search rules, held_more (place_at a.s.now a.n) a.clock c.loop-i.i c.loop-i.invariant.1 c.held_4.ensures c.held_4-in-loop-i.ensures (ap not c.if-not-held_4.false))
 
 pub returns : goal.returns
 returns c = (search rules, (c.loop-i.invariant.1, λ g. absurd (omega arith)))
