@@ -29,9 +29,9 @@ use Rattle.audit.proofs.replays.addercoil_replay_at.Reads as replay-at
 use Rattle.audit.proofs.replays.addercoil_replay_coarse.Kinds as replay-coarse-kinds
 use Rattle.audit.proofs.replays.addercoil_replay_coarse.Reads as replay-coarse
 use Rattle.display.proofs.tracks.addercoil_look_up.Kinds as look-up-kinds
-use Rattle.display.proofs.tracks.addercoil_look_up.Reads as look_up
+use Rattle.display.proofs.tracks.addercoil_look_up.Reads as look-up
 
--- addercoil_set_up(table, ..) returned back .number, and the table is back.array afterwards
+-- addercoil_set_up(table, ..) returned back.number, and the table is back.array afterwards
 pub record SetUp (table : List ℕ) (back : Sent) : Type 0 where
   pub κs : Lfts 1
   pub args : Dens κs set-up-kinds.ps
@@ -71,7 +71,7 @@ pub record LookUp (table : List ℕ) (key : ℕ) (track : List ℕ) (back : Sent
   pub asks : args.1.0 ≡ key
   pub into : args.1.1.0.now ≡ track
   pub leaves : left.1.1.0.now ≡ back.array
-  pub meets : look_up.Post κs args back.number left
+  pub meets : look-up.Post κs args back.number left
 
 -- addercoil_clock(table, .., out, ..)
 pub record Clock (table out : List ℕ) (back : Sent) : Type 0 where
