@@ -2,7 +2,6 @@
 use mathlib.Core.Path.{◌≡◌, refl, ap, sym, ◌∙◌}
 use mathlib.Core.Option.{Option}
 use native.Mathlib.Omega.{arith}
-use borrow.Author.Tests.{not-true}
 use Rattle.fields.specs.Bytes.{Bytes}
 use Rattle.messages.specs.declared.Accepted.TheVariants as accept
 use Rattle.messages.specs.Accepted.{accepted, opened_as}
@@ -24,7 +23,7 @@ returns-then-not-may_be_own c =
     let s = a.message.now in
     let h : Bytes s = λ i. omega (arith, c.type_inv.message i) in
     ap (with_track a.time) (aged_by a.own.held a.own.track a.time c.is_in_date.ensures)
-    ∙ hears_none a.site a.key s a.time (kept a.own) c.if-time-own.false (not_own s a.key c.requires h (sym c.may_be_own.ensures ∙ not-true _ c.if-not-may_be_own.true))
+    ∙ hears_none a.site a.key s a.time (kept a.own) c.if-time-own.false (not_own s a.key c.requires h (sym c.may_be_own.ensures ∙ c.if-not-may_be_own.true))
 
 pub tell-requires : goal.tell-requires
 tell-requires c =
