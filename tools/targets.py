@@ -115,7 +115,7 @@ def runner(name, program):
     if name == X86:
         # With the kit's own C library, which `rt` and tools/cc link with
         guide = subprocess.run(['rt', 'doc'], stdout=subprocess.PIPE, text=True, check=True).stdout.strip()
-        tools = Path(guide).parent.parent / 'on' / platform.machine() / 'toolchain'
+        tools = Path(guide).parent / 'toolchain'
         emulator = [] if platform.machine() == X86 else [tools / 'bin/qemu-x86_64']
         return [*emulator, tools / 'lib/ld-linux-x86-64.so.2', '--library-path', tools / 'lib']
     if name == platform.machine():
