@@ -1,6 +1,5 @@
 -- `keys::address_in` meets its contract: of C above the flag and the station, of the others the low bits.
 use mathlib.Core.Path.{sym, ◌∙◌}
-use borrow.Author.Rules.{rules}
 use Rattle.keys.proofs.address_in.Goals as goal
 
 pub returns-then-coarse_in : goal.returns-then-coarse_in

@@ -1,5 +1,4 @@
 -- `keys::key_for` meets its contract: by the kind.
-use borrow.Author.Rules.{rules}
 use Rattle.keys.proofs.key_for.Goals as goal
 
 pub returns-in-I : goal.returns-in-I

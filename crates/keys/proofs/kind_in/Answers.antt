@@ -1,6 +1,5 @@
 -- `keys::kind_in` meets its contract: of C its flag and its station, and of the others the kind at the number.
 use mathlib.Core.Path.{sym, ◌∙◌}
-use borrow.Author.Rules.{rules}
 use Rattle.keys.proofs.kind_in.Goals as goal
 
 pub returns-then-coarse_in : goal.returns-then-coarse_in

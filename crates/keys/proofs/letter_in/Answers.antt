@@ -1,6 +1,5 @@
 -- `keys::letter_in` meets its contract: the letter of the key's kind.
 use mathlib.Core.Path.{ap, ◌∙◌}
-use borrow.Author.Rules.{rules}
 use Rattle.keys.specs.Keys.{letter_of}
 use Rattle.keys.proofs.letter_in.Goals as goal
 

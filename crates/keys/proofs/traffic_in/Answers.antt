@@ -1,6 +1,5 @@
 -- `keys::traffic_in` meets its contract: by the key's kind.
 use mathlib.Core.Path.{ap, ◌∙◌}
-use borrow.Author.Rules.{rules}
 use Rattle.keys.specs.Keys.{is_traffic}
 use Rattle.keys.proofs.traffic_in.Goals as goal
 
