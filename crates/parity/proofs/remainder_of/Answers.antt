@@ -6,7 +6,6 @@ use native.Mathlib.Omega.{arith}
 use lib.ListN.{length, take, drop, length-drop}
 use lib.Seq.{take_all}
 use lib.Bits.{bit_xor}
-use borrow.Author.Rules.{rules}
 use Rattle.fields.specs.Bytes.{number, Bytes}
 use Rattle.fields.proofs.Bytes.{bytes_drop}
 use Rattle.parity.specs.Parity.{seal}

@@ -5,7 +5,6 @@ use native.Mathlib.Nat.{mod-eq_of_lt, mul-add-mod_self_right}
 use native.Mathlib.Omega.{arith}
 use lib.ListN.{get_or}
 use lib.Bits.{bit_xor, xor_lt}
-use borrow.Author.Rules.{rules}
 use Rattle.parity.specs.Division.{stepped}
 use Rattle.parity.specs.Code.{table}
 use Rattle.parity.proofs.Entries.{step_is}

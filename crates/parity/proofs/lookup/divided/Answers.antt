@@ -1,5 +1,4 @@
 -- `parity::lookup::divided` meets its contract: eight steps of the division on zero bits, which is the rule of the table.
-use borrow.Author.Rules.{rules}
 use Rattle.parity.specs.Division.{remainder_from}
 use Rattle.parity.proofs.Entries.{entry_is}
 use Rattle.parity.proofs.lookup.divided.Goals as goal
