@@ -3,7 +3,7 @@
 use Prim.Native.Nat.{ℕ, ◌+◌, ◌-◌, ◌*◌, ◌^◌, ◌<◌, ◌≤◌}
 use mathlib.Core.Path.{◌≡◌, sym, ap, ◌∙◌}
 use mathlib.Core.Bool.{Bool}
-use mathlib.Core.List.{List, [], ◌∷◌, ◌++◌}
+use mathlib.Core.List.{List, ◌++◌}
 use native.Mathlib.Omega.{arith}
 use lib.Dec.{eqb, eqb→eq}
 use lib.ListN.{get_or, replicate}
@@ -14,7 +14,7 @@ use Rattle.parity.specs.Division.{reduce, remainder_from}
 use Rattle.parity.specs.Strings.{zeros}
 use Rattle.parity.proofs.Entries.{entry_is}
 use Rattle.parity.proofs.Linear.{more_bits}
-use Rattle.parity_words.specs.Code.{left1, left2, left3, left4, table1, table2, table3, table4}
+use Rattle.parity_words.specs.Code.{left1, left2, left3, left4}
 
 right : List ℕ → ℕ → ℕ → Bool
 right before k x = eqb x (remainder_from (get_or before k 0) (zeros 8))

@@ -1,7 +1,6 @@
 -- `parity_words::first` meets its contract: by how many bytes there are.
 use native.Mathlib.Omega.{arith}
 use Rattle.parity_words.proofs.Parts.{first_three, first_two, first_one, first_none}
-use borrow.Author.Rules.{rules}
 use Rattle.parity_words.proofs.first.Goals as goal
 
 pub returns-then-k-eq3 : goal.returns-then-k-eq3

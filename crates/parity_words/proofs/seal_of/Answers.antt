@@ -6,7 +6,6 @@ use native.Mathlib.Omega.{arith}
 use Rattle.fields.specs.Bytes.{bytes_of}
 use Rattle.parity.specs.Parity.{remainder}
 use Rattle.parity_words.proofs.Words.{seal_left}
-use borrow.Author.Rules.{rules}
 use Rattle.parity_words.proofs.seal_of.Goals as goal
 
 pub returns : goal.returns

@@ -1,7 +1,6 @@
 -- `parity_words::word` meets its contract: four bytes, one by one.
 use native.Mathlib.Omega.{arith}
 use Rattle.parity_words.proofs.Parts.{word_number}
-use borrow.Author.Rules.{rules}
 use Rattle.parity_words.proofs.word.Goals as goal
 
 pub returns : goal.returns

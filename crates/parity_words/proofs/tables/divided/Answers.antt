@@ -1,10 +1,7 @@
 -- `parity_words::tables::divided` meets its contract: what is left and the bits to come leave the same at every turn.
-use Prim.Native.Nat.{◌*◌, ◌^◌, ◌<◌}
 use mathlib.Core.Path.{◌≡◌, refl, sym, ap, ◌∙◌}
 use native.Mathlib.Omega.{arith}
-use borrow.Author.Rules.{rules}
 use Prim.Native.Nat.{ℕ, ◌-◌}
-use lib.Dec.{lit<}
 use Rattle.parity.specs.Division.{remainder_from}
 use Rattle.parity.specs.Strings.{zeros}
 use Rattle.parity_words.proofs.Words.{zero_more, zero_below}

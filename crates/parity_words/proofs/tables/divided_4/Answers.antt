@@ -3,7 +3,6 @@ use mathlib.Core.Path.{sym, ◌∙◌}
 use native.Mathlib.Omega.{arith}
 use Rattle.parity_words.specs.Code.{left4}
 use Rattle.parity_words.proofs.Entries.{rule4, from_256}
-use borrow.Author.Rules.{rules}
 use Rattle.parity_words.proofs.tables.divided_4.Goals as goal
 
 pub returns : goal.returns

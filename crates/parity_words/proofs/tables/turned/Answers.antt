@@ -9,7 +9,6 @@ use Rattle.parity.specs.Strings.{zeros}
 use Rattle.parity_words.specs.Code.{left1, left2, left3, left4}
 use Rattle.parity_words.proofs.Entries.{rule1, rule2, rule3, rule4, at_256}
 use Rattle.parity_words.proofs.Words.{one_byte, four_apart}
-use borrow.Author.Rules.{rules}
 use Rattle.parity_words.proofs.tables.turned.Goals as goal
 
 pub returns : goal.returns
