@@ -57,7 +57,7 @@ returns-then-not-agrees c =
 
 pub loop-key-smaller : goal.loop-key-smaller
 loop-key-smaller c =
-    let k = next_key _ c.requires.0 _ c.loop-key-test.true c.key_above-key-2.ensures in
+    let k = next_key _ c.requires.0 _ c.loop-key-test.true c.key_above-key-in-loop-key.ensures in
     omega (arith, k.low, k.most)
 
 pub loop-key-preserved : goal.loop-key-preserved
@@ -65,7 +65,7 @@ loop-key-preserved c =
     let in-loop = c.loop-key-test.true in
     let p = some_line _ _ c.line_end-end.ensures.next_line c.if-end-eq0.false in
     let q = left_row _ c.requires.0 c.loop-key.key in-loop (c.loop-key.invariant.3 in-loop) c.row_in-row.ensures in
-    let k = next_key _ c.requires.0 _ c.loop-key-test.true c.key_above-key-2.ensures in
+    let k = next_key _ c.requires.0 _ c.loop-key-test.true c.key_above-key-in-loop-key.ensures in
     let d : agrees_of (p.line ++ newline) c.row_in-row.result ≡ true = ap (λ (t : List ℕ). agrees_of t c.row_in-row.result) p.text ∙ sym c.agrees.ensures ∙ c.if-not-agrees.false in (
       k.most,
       omega (arith, k.low, c.loop-key.invariant.1),
