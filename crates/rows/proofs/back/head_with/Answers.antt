@@ -7,7 +7,6 @@ use mathlib.Core.Bool.{◌&&◌}
 use lib.Dec.{ltb}
 use Rattle.rows.specs.From.{head_with}
 use Rattle.rows.proofs.Cutting.{chosen}
-use borrow.Author.Rules.{rules}
 use Rattle.rows.proofs.back.head_with.Goals as goal
 
 pub overflow_cast-format : goal.overflow_cast-format

@@ -6,7 +6,6 @@ use Rattle.messages.specs.Message.{coarse_by}
 use Rattle.layouts.specs.Bodies.{layout_by, taken_by}
 use Rattle.rows.specs.Rows.{layout_number}
 use Rattle.rows.specs.From.{message_with, layout_with}
-use borrow.Author.Rules.{rules}
 use Rattle.rows.proofs.back.layout_with.Goals as goal
 
 pub returns-then-number_of-number : goal.returns-then-number_of-number

@@ -2,7 +2,6 @@
 use mathlib.Core.Path.{sym, ap, ◌∙◌}
 use Rattle.layouts.specs.declared.bodies.Layout.{Layout}
 use Rattle.rows.specs.From.{layout_numbered, packed_as, message_by, message_from}
-use borrow.Author.Rules.{rules}
 use Rattle.rows.proofs.back.message_from.Goals as goal
 
 pub returns-in-Me : goal.returns-in-Me

@@ -1,7 +1,6 @@
 -- `rows::back::message_with` meets its contract: each arm is the definition's.
 use mathlib.Core.Path.{sym, ap}
 use Rattle.rows.specs.From.{message_with}
-use borrow.Author.Rules.{rules}
 use Rattle.rows.proofs.back.message_with.Goals as goal
 
 pub returns-in-Body : goal.returns-in-Body

@@ -1,6 +1,5 @@
 -- `rows::back::with_me` meets its contract: by what the entries are.
 use Rattle.rows.specs.From.{message_by}
-use borrow.Author.Rules.{rules}
 use Rattle.rows.proofs.back.with_me.Goals as goal
 
 pub returns : goal.returns

@@ -1,7 +1,6 @@
 -- `rows::message::four_in` meets its contract: what the bits mean picks the arm, and each arm is the definition's.
 use mathlib.Core.Path.{sym, ap, ◌∙◌}
 use Rattle.rows.specs.Rows.{four_of}
-use borrow.Author.Rules.{rules}
 use Rattle.rows.proofs.message.four_in.Goals as goal
 
 pub returns-in-Identification : goal.returns-in-Identification

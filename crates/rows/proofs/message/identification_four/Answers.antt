@@ -1,5 +1,4 @@
 -- `rows::message::identification_four` meets its contract: each reading is the definition's.
-use borrow.Author.Rules.{rules}
 use Rattle.rows.proofs.message.identification_four.Goals as goal
 
 pub returns : goal.returns

@@ -2,7 +2,6 @@
 use mathlib.Core.Path.{sym}
 use borrow.Author.Tests.{eq-eqb, ne_eqb}
 use Rattle.rows.proofs.Laid.{row_kept, row_put}
-use borrow.Author.Rules.{rules}
 use Rattle.rows.proofs.message.put_me.Goals as goal
 
 pub returns-then-out-ne-ROW : goal.returns-then-out-ne-ROW

@@ -1,5 +1,4 @@
 -- `rows::message::status_four` meets its contract: each reading is the definition's.
-use borrow.Author.Rules.{rules}
 use Rattle.rows.proofs.message.status_four.Goals as goal
 
 pub returns : goal.returns

@@ -1,12 +1,8 @@
 -- `rows::widths::cut` meets its contract: what the loop has passed is cut, and the bits below are those of the widths behind.
-use Prim.Native.Nat.{◌-◌, ◌≤◌}
-use mathlib.Core.Path.{◌≡◌, refl, sym}
+use mathlib.Core.Path.{refl, sym}
 use native.Mathlib.Omega.{arith}
-use lib.ListN.{length, take, drop, length-set}
-use Rattle.fields.specs.Packing.{total, unpack}
-use Rattle.entries.specs.Arrays.{filled}
+use lib.ListN.{length-set}
 use Rattle.rows.proofs.Cutting.{width_below, below_next, cut_next, cut_whole}
-use borrow.Author.Rules.{rules}
 use Rattle.rows.proofs.widths.cut.Goals as goal
 
 pub loop-i-init : goal.loop-i-init

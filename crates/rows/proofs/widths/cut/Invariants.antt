@@ -1,12 +1,9 @@
 -- `rows::widths::cut` meets its contract: what the loop has passed is cut, and the bits below are those of the widths behind.
 use Prim.Native.Nat.{◌-◌, ◌≤◌}
-use mathlib.Core.Path.{◌≡◌, refl, sym}
-use native.Mathlib.Omega.{arith}
-use lib.ListN.{length, take, drop, length-set}
+use mathlib.Core.Path.{◌≡◌}
+use lib.ListN.{length, take, drop}
 use Rattle.fields.specs.Packing.{total, unpack}
 use Rattle.entries.specs.Arrays.{filled}
-use Rattle.rows.proofs.Cutting.{width_below, below_next, cut_next, cut_whole}
-use borrow.Author.Rules.{rules}
 use Rattle.rows.proofs.widths.cut.Given as goal
 
 abbrev pub invariant-loop-i : goal.invariant-loop-i

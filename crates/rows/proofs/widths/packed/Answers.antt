@@ -1,13 +1,11 @@
 -- `rows::widths::packed` meets its contract: what is left to pack behind the fields that the loop has passed is the same all the way.
-use Prim.Native.Nat.{ℕ, ◌+◌, ◌-◌, ◌^◌, ◌≤◌, ◌<◌}
-use mathlib.Core.Path.{◌≡◌, sym, ap, subst⁻¹, ◌∙◌}
+use Prim.Native.Nat.{ℕ, ◌+◌, ◌-◌, ◌^◌, ◌<◌}
+use mathlib.Core.Path.{sym, ap, subst⁻¹, ◌∙◌}
 use native.Mathlib.Omega.{arith}
-use lib.ListN.{length, drop}
+use lib.ListN.{drop}
 use lib.Pow.{pow_pos}
 use Rattle.fields.specs.Packing.{total}
-use Rattle.rows.specs.From.{packed_by}
 use Rattle.rows.proofs.Cutting.{left, left_first, small, total_next, refuses, me_next, me_fits, left_more, left_none}
-use borrow.Author.Rules.{rules}
 use Rattle.rows.proofs.widths.packed.Goals as goal
 
 pub loop-i-init : goal.loop-i-init
@@ -39,8 +37,7 @@ loop-i-preserved c =
     let a = c.args in
     let ws = a.widths.now in
     let h = c.loop-i-test.true in
-    let f = sym c.is_wider.ensures ∙ c.if-is_wider.false in
-    (
+    let f = sym c.is_wider.ensures ∙ c.if-is_wider.false in (
       omega (arith, h),
       total_next ws a.fields.now c.loop-i.i c.loop-i.me c.wide-width.result c.entry-code.result h c.wide-width.ensures c.entry-code.ensures c.loop-i.invariant.1,
       subst⁻¹ (λ (n : ℕ). n < 2 ^ (56 - total (drop (c.loop-i.i + 1) ws))) c.behind-me.ensures

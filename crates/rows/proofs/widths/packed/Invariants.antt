@@ -1,13 +1,10 @@
 -- `rows::widths::packed` meets its contract: what is left to pack behind the fields that the loop has passed is the same all the way.
-use Prim.Native.Nat.{ℕ, ◌+◌, ◌-◌, ◌^◌, ◌≤◌, ◌<◌}
-use mathlib.Core.Path.{◌≡◌, sym, ap, subst⁻¹, ◌∙◌}
-use native.Mathlib.Omega.{arith}
+use Prim.Native.Nat.{◌+◌, ◌-◌, ◌^◌, ◌≤◌, ◌<◌}
+use mathlib.Core.Path.{◌≡◌}
 use lib.ListN.{length, drop}
-use lib.Pow.{pow_pos}
 use Rattle.fields.specs.Packing.{total}
 use Rattle.rows.specs.From.{packed_by}
-use Rattle.rows.proofs.Cutting.{left, left_first, small, total_next, refuses, me_next, me_fits, left_more, left_none}
-use borrow.Author.Rules.{rules}
+use Rattle.rows.proofs.Cutting.{left}
 use Rattle.rows.proofs.widths.packed.Given as goal
 
 abbrev pub invariant-loop-i : goal.invariant-loop-i

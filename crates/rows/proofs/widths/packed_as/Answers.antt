@@ -2,7 +2,6 @@
 use mathlib.Core.Path.{sym, ap, ◌∙◌}
 use Rattle.layouts.specs.declared.bodies.Layout.{Layout}
 use Rattle.rows.specs.From.{packed_as}
-use borrow.Author.Rules.{rules}
 use Rattle.rows.proofs.widths.packed_as.Goals as goal
 
 pub returns-in-Identification : goal.returns-in-Identification

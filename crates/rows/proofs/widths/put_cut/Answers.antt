@@ -2,7 +2,6 @@
 use mathlib.Core.Path.{ap, ◌∙◌}
 use lib.ListN.{length}
 use Rattle.entries.specs.Arrays.{filled}
-use borrow.Author.Rules.{rules}
 use Rattle.rows.proofs.widths.put_cut.Goals as goal
 
 pub returns : goal.returns

@@ -7,7 +7,6 @@ use Rattle.fields.specs.Packing.{unpack}
 use Rattle.entries.specs.Arrays.{filled}
 use Rattle.layouts.specs.declared.bodies.Layout.{Layout}
 use Rattle.layouts.specs.Bodies.{layout_widths}
-use borrow.Author.Rules.{rules}
 use Rattle.rows.proofs.widths.put_fields.Goals as goal
 
 -- an array of n entries, filled with the fields in a layout
