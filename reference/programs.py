@@ -23,7 +23,7 @@ def built():
 
 
 def ran(program, *words, given=b"", seconds=600):
-    """What came of a program under target/, or of one for node: its status, and what it wrote."""
+    """What came of a program under target/ or by its path, or of one for node: its status, and what it wrote."""
     command = [ROOT / "tools/run", ROOT / "target" / program, *map(str, words)]
     if program in FOR_NODE:
         command = ["node", FOR_NODE[program], MODULE, *map(str, words)]

@@ -4,7 +4,7 @@ compares with the model; then where its input or its output fails, and with word
 
     python3 reference/run_captures.py
 
-The program in Rattle must have been built: target/bin/listing. The script builds that in C, with dist/. The first difference is named, and the
+The program in Rattle must have been built: crates/listing/out/listing. The script builds that in C, with dist/. The first difference is named, and the
 status is 1.
 """
 
@@ -98,6 +98,7 @@ def captures():
 # With all tracks asked for or not: the words of the program
 ASKED = {True: ["all"], False: []}
 
+IN_RATTLE = ROOT / "crates/listing/out/listing"  # where `rt` builds it
 IN_C = ROOT / "target/dist/listing"  # where the script ./listing builds it
 WAYS = [], ["--prove"]  # of the script
 
@@ -111,7 +112,7 @@ FAILURES = {
 
 def failures_are_said():
     """The program prints no listing that is not whole, and says why; the script has a status besides, both ways."""
-    for command, due in {"tools/run target/bin/listing": 0, "./listing": 1, "./listing --prove": 1}.items():
+    for command, due in {"tools/run crates/listing/out/listing": 0, "./listing": 1, "./listing --prove": 1}.items():
         for words, said in FAILURES.items():
             done = subprocess.run(["sh", "-c", f"exec {command} {words}"], cwd=ROOT, capture_output=True, timeout=600, check=False)
             if (done.returncode, done.stdout, done.stderr) != (due, b"", said):
@@ -127,7 +128,7 @@ UNKNOWN += ["all", "all"], ["all", ""], ["", "all"], ["al", "all"], ["samples/ex
 
 def unknown_words_are_said():
     """A usage line, nothing on standard output, and the input is not read; in C the status is 2."""
-    for words, (program, due) in product(UNKNOWN, (([ROOT / "tools/run", ROOT / "target/bin/listing"], 0), ([IN_C], 2))):
+    for words, (program, due) in product(UNKNOWN, (([ROOT / "tools/run", IN_RATTLE], 0), ([IN_C], 2))):
         with (ROOT / "samples/example.capture").open("rb", buffering=0) as given:
             done = subprocess.run([*program, *words], stdin=given, capture_output=True, timeout=60, check=False)
             found = done.returncode, done.stdout, done.stderr, given.tell()
@@ -207,7 +208,7 @@ def main():
         texts = [listing(whole, every).encode("ascii") for every in ASKED]
         for words, expected in zip(ASKED.values(), texts):
             in_c = subprocess.run([IN_C, *words], input=whole, capture_output=True, timeout=60, check=False)
-            for language, done in (("Rattle", ran("bin/listing", *words, given=whole, seconds=60)), ("C", in_c)):
+            for language, done in (("Rattle", ran(IN_RATTLE, *words, given=whole, seconds=60)), ("C", in_c)):
                 if done.returncode != 0 or done.stdout != expected:
                     print(f"{name}, {words}: status {done.returncode}; the model says\n{expected.decode()}and the program in {language}")
                     print((done.stdout + done.stderr).decode("ascii", errors="replace"))

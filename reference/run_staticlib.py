@@ -1,5 +1,5 @@
 """Shows what tools/staticlib refuses: modules with something of x86 in them, other sizes, pointers that are taken for 64 bits, a wide
-product in the zone count, assembler that makes another library than rt, another kit, another way to call clang.
+product in the zone count, assembler that makes another library than rattle, another kit, another way to call clang.
 
     python3 reference/run_staticlib.py
 
@@ -26,7 +26,10 @@ target triple = "x86_64-unknown-linux-gnu"
 
 define i32 @one(ptr %p, i64 %n) #0 {{
   %x = call fastcc i32 @"x86::accept"(ptr %p, i64 %n, i8 zeroext 1)
-  ret i32 %x
+  %y = call double @llvm.arithmetic.fence.f64(double 2.5)
+  %z = fptoui double %y to i32
+  %w = add i32 %x, %z
+  ret i32 %w
 }}
 
 define internal fastcc i32 @"x86::accept"(ptr %p, i64 %n, i8 zeroext %b) #0 {{
@@ -35,6 +38,7 @@ define internal fastcc i32 @"x86::accept"(ptr %p, i64 %n, i8 zeroext %b) #0 {{
 }}
 
 declare void @llvm.memset.p0.i64(ptr, i8, i64, i1)
+declare double @llvm.arithmetic.fence.f64(double)
 
 attributes #0 = {{ nounwind "probe-stack"="inline-asm" "target-cpu"="x86-64" }}
 """
@@ -122,7 +126,7 @@ def staticlib(folder):
 
 
 def keep(script, crate, text):
-    """The module of a crate as `rt staticlib` would have left it."""
+    """The module of a crate as rattle would have left it."""
     (script.MADE / "module.ll").write_text(text, encoding="ascii")
     words = ["--no-default-config", "-Wno-override-module", "-c", "-emit-llvm", "-O0", "-Xclang", "-disable-llvm-passes"]
     target = "--target=x86_64-unknown-linux-gnu"
@@ -159,7 +163,7 @@ def module_faults(script):
 
 
 def text_faults(script):
-    """What is wrong with the assembler: its names, and that for x86-64 it makes what rt makes."""
+    """What is wrong with the assembler: its names, and that for x86-64 it makes what rattle makes."""
     if script.plain('\t.ascii\t"a::b"\n"a::b":\n\tcall\t"a::b"@PLT\n\t.ident\t"x"\n') != '\t.ascii\t"a::b"\na.b:\n\tcall\ta.b@PLT\n':
         yield "names are not plain, or more than names is changed"
     words = [*WORDS[:-1], "--no-default-config"]
@@ -167,13 +171,13 @@ def text_faults(script):
         keep(script, crate, MODULE.replace("@one", f"@{crate}"))
         own = [f"{crate}.bc" if word == "module.bc" else f"{crate}.o" if word == "module.o" else word for word in words]
         script.output(script.tool("clang"), *own, folder=script.MADE)
-    script.output(script.tool("llvm-ar"), "rcsD", script.of_rt(), *(f"{crate}.o" for crate in script.LIBRARY), folder=script.MADE)
+    script.output(script.tool("llvm-ar"), "rcsD", script.of_rattle(), *(f"{crate}.o" for crate in script.LIBRARY), folder=script.MADE)
     said = refusal(script, script.make_archive, script.X86)
     if said:
-        yield f"the assembler of rt's own modules was refused: {said}"
+        yield f"the assembler of rattle's own modules was refused: {said}"
     keep(script, script.LIBRARY[-1], MODULE.replace("@one", f"@{script.LIBRARY[-1]}").replace("ret i32 1", "ret i32 2"))
-    if "another library than rt" not in refusal(script, script.make_archive, script.X86):
-        yield "not refused: assembler that is not what rt makes"
+    if "another library than rattle" not in refusal(script, script.make_archive, script.X86):
+        yield "not refused: assembler that is not what rattle makes"
 
 
 def layout_faults(script):

@@ -49,7 +49,7 @@ def board(triple, words, thumb):
 
 FLOATS = 0x600  # of a program for 32-bit ARM: whether doubles pass in registers of their own
 HARD, SOFT = 0x400, 0x200
-X86 = 'x86_64'  # the kit compiles for it, and has its emulator
+X86 = 'x86_64'  # the kit runs there, and compiles for it
 ARM_COMPILER = {'arm-none-eabi-gcc': 'gcc-arm-none-eabi'}
 ARM_BOARD = ARM_COMPILER | {'qemu-system-arm': 'qemu-system-arm'}
 LONG = '__SIZEOF_POINTER__ == 8'
@@ -91,12 +91,14 @@ def how(name):
     """How programs for a target run here, or None, and why not."""
     if name not in TARGETS or platform.machine() not in (X86, 'aarch64'):
         return None, f'there is no {name}, or this machine is neither x86_64 nor aarch64'
+    if name == X86 and platform.machine() != X86:
+        return None, 'the kit, which builds programs for x86_64, runs there alone'
     lacking = ', '.join(f'{what}, package {package}' for what, package in missing(name).items())
     if lacking:
         return None, f'there is no {lacking}'
     if name == platform.machine():
         return 'natively', ''
-    return f"under {TARGETS[name].emulator or 'the emulator of the kit'}", ''
+    return f'under {TARGETS[name].emulator}', ''
 
 
 def target_of(program):
@@ -115,9 +117,8 @@ def runner(name, program):
     if name == X86:
         # With the kit's own C library, which `rt` and tools/cc link with
         guide = subprocess.run(['rt', 'doc'], stdout=subprocess.PIPE, text=True, check=True).stdout.strip()
-        tools = Path(guide).parent / 'toolchain'
-        emulator = [] if platform.machine() == X86 else [tools / 'bin/qemu-x86_64']
-        return [*emulator, tools / 'lib/ld-linux-x86-64.so.2', '--library-path', tools / 'lib']
+        libraries = Path(guide).parent / 'toolchain/lib'
+        return [libraries / 'ld-linux-x86-64.so.2', '--library-path', libraries]
     if name == platform.machine():
         return ['env']
     if TARGETS[name].sort == BOARD:
