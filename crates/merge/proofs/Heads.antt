@@ -2,20 +2,19 @@
 -- Assumes nothing.
 use Prim.Native.Nat.{ℕ, ◌-◌, ◌≤◌}
 use native.Mathlib.Omega.{arith}
-use mathlib.Core.Path.{◌≡◌, refl, sym, ap, ap₂, ◌∙◌}
+use mathlib.Core.Path.{◌≡◌, sym, ap, ap₂, ◌∙◌}
 use mathlib.Core.Bool.{Bool, ◌&&◌}
 use mathlib.Core.Logic.{inl, inr}
-use mathlib.Core.List.{List, [], ◌∷◌, ◌++◌}
-use lib.ListN.{length, take, drop, length-drop}
+use mathlib.Core.List.{List}
+use lib.ListN.{length, take, drop}
 use lib.Seq.{length-take-le}
 use Rattle.text.specs.declared.Line.{Line}
-use Rattle.text.specs.Lines.{newline, header_text, line_of}
+use Rattle.text.specs.Lines.{header_text, line_of}
 use Rattle.form.specs.Form.{pieces, same, in_form, lines_in}
 use Rattle.form.specs.Scan.{part, lines_from, NextLine}
 use Rattle.form.proofs.Loops.{from_here}
 use Rattle.agree.proofs.Shown.{line_same}
 use Rattle.merge.specs.declared.head.Field.{Field}
-use Rattle.merge.specs.declared.head.Head.{Head}
 use Rattle.merge.specs.Merged.{number_from, behind, clock_in, bad_in, first_of, others_of, header_of, tracks_of, is_listing}
 use Rattle.merge.specs.Code.{FieldAt, HeadOf}
 

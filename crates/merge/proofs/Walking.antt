@@ -2,7 +2,7 @@
 -- Assumes nothing.
 use Prim.Native.Nat.{ℕ, suc, ◌+◌, ◌-◌, ◌≤◌, ◌<◌}
 use native.Mathlib.Omega.{arith}
-use mathlib.Core.Path.{◌≡◌, refl, sym, ap, ap₂, ◌∙◌}
+use mathlib.Core.Path.{◌≡◌, sym, ap, ap₂, ◌∙◌}
 use mathlib.Core.Bool.{Bool, true, false, cond, ◌&&◌, false≢true}
 use mathlib.Core.Logic.{inl, inr}
 use mathlib.Core.List.{List, [], ◌∷◌, ◌++◌, append_assoc, append-nil}
@@ -13,7 +13,7 @@ use lib.Seq.{take-suc, take-take, take-append_seam, get_or-drop, length-take-le}
 use Rattle.text.specs.Lines.{newline}
 use Rattle.form.specs.Scan.{part, lines_from, LineTo}
 use Rattle.merge.specs.declared.lines.Next.{Next}
-use Rattle.merge.specs.Merged.{key_in, among, in_order, rising, joined}
+use Rattle.merge.specs.Merged.{key_in, in_order, rising, joined}
 use Rattle.merge.specs.Code.{TakesLine, NextOf}
 
 -- ---- a part of a text

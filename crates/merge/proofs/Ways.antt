@@ -1,9 +1,9 @@
 -- The ways in which `merge` ends, each with what its steps have said: a wrong length, texts that cannot be one, and both as one in the buffer.
 -- Assumes nothing.
-use Prim.Native.Nat.{ℕ, zero, suc, ◌+◌, ◌-◌, ◌≤◌, ◌<◌}
+use Prim.Native.Nat.{ℕ, zero, suc, ◌+◌, ◌-◌, ◌≤◌}
 use native.Mathlib.Omega.{arith}
 use mathlib.Core.Path.{◌≡◌, refl, sym, ap, ap₂, ◌∙◌}
-use mathlib.Core.Bool.{Bool, true, false, cond, not, ◌&&◌}
+use mathlib.Core.Bool.{Bool, true, false, ◌&&◌}
 use mathlib.Core.List.{List, [], ◌∷◌, ◌++◌, append_assoc, append-nil}
 use borrow.Author.Tests.{eq-eqb, ne_eqb, eqb-true, leb-true}
 use lib.Dec.{eqb, leb}
@@ -20,7 +20,6 @@ use Rattle.form.specs.Form.{same, in_form}
 use Rattle.form.specs.Scan.{lines_from}
 use Rattle.form.proofs.Loops.{same_equal}
 use Rattle.merge.specs.declared.head.Head.{Head}
-use Rattle.merge.specs.declared.Merged.{Merged}
 use Rattle.merge.specs.declared.Merged.TheVariants.{Bytes, Refused}
 use Rattle.merge.specs.Merged.{most, clock_in, bad_in, header_of, tracks_of, is_listing, in_order, rising, joined, mergeable, merged, left, merged_into}
 use Rattle.merge.specs.Code.{HeadOf}

@@ -1,10 +1,8 @@
 -- `merge::merge` meets its contract: a buffer of a wrong length, texts that cannot be one, or both as one.
-use Prim.Native.Nat.{◌≤◌}
 use mathlib.Core.Path.{sym, ◌∙◌}
 use native.Mathlib.Omega.{arith}
 use Rattle.agree.proofs.Shown.{line_holds}
 use Rattle.merge.proofs.Ways.{wrong_length, no_one, heads_apart, keys_apart, sums_fit, header_room, line_length, both_one}
-use borrow.Author.Rules.{rules}
 use Rattle.merge.proofs.merge.Goals as goal
 
 pub returns-then-out-a : goal.returns-then-out-a

@@ -1,7 +1,6 @@
 -- `dealer::joint::addercoil_merge` meets its contract: an array of a wrong length, or what the crate below answers.
 use mathlib.Core.Path.{refl}
 use Rattle.dealer.proofs.Joining.{not_one, text_joint, number_joint}
-use borrow.Author.Rules.{rules}
 use Rattle.dealer.proofs.joint.addercoil_merge.Goals as goal
 
 pub returns-then-written-ne1 : goal.returns-then-written-ne1

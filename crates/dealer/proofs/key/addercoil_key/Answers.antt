@@ -6,7 +6,6 @@ use Rattle.entries.specs.Sent.{into}
 use Rattle.entries.proofs.Ways.{into_wrong, into_right, into_refused, given_list}
 use Rattle.dealer.specs.Code.{accepted_key}
 use Rattle.dealer.proofs.Keyed.{key_said_lem}
-use borrow.Author.Rules.{rules}
 use Rattle.dealer.proofs.key.addercoil_key.Goals as goal
 
 pub returns-then-out-ne1 : goal.returns-then-out-ne1

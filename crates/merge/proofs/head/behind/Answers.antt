@@ -1,7 +1,6 @@
 -- `merge::head::behind` meets its contract: behind the end nothing is left.
 use native.Mathlib.Omega.{arith}
 use Rattle.merge.proofs.Numbers.{drop_within, drop_past}
-use borrow.Author.Rules.{rules}
 use Rattle.merge.proofs.head.behind.Goals as goal
 
 pub returns-then-label-s : goal.returns-then-label-s

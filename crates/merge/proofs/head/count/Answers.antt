@@ -1,11 +1,8 @@
 -- `merge::head::count` meets its contract: the lines passed are counted, and each has a byte at least.
 use borrow.Author.Rules.{rules}
-use Prim.Native.Nat.{ℕ, ◌+◌, ◌-◌, ◌≤◌}
-use mathlib.Core.Path.{◌≡◌, refl, ap, sym, ◌∙◌}
+use mathlib.Core.Path.{ap}
 use native.Mathlib.Omega.{arith}
-use mathlib.Core.List.{List}
 use lib.ListN.{length}
-use Rattle.form.specs.Scan.{lines_from, LineTo}
 use Rattle.form.proofs.Walking.{no_line, some_line}
 use Rattle.merge.proofs.head.count.Goals as goal
 

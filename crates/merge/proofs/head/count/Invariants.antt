@@ -1,12 +1,8 @@
 -- `merge::head::count` meets its contract: the lines passed are counted, and each has a byte at least.
-use borrow.Author.Rules.{rules}
-use Prim.Native.Nat.{ℕ, ◌+◌, ◌-◌, ◌≤◌}
-use mathlib.Core.Path.{◌≡◌, refl, ap, sym, ◌∙◌}
-use native.Mathlib.Omega.{arith}
-use mathlib.Core.List.{List}
+use Prim.Native.Nat.{◌+◌, ◌-◌, ◌≤◌}
+use mathlib.Core.Path.{◌≡◌}
 use lib.ListN.{length}
-use Rattle.form.specs.Scan.{lines_from, LineTo}
-use Rattle.form.proofs.Walking.{no_line, some_line}
+use Rattle.form.specs.Scan.{lines_from}
 use Rattle.merge.proofs.head.count.Given as goal
 
 abbrev pub invariant-loop-from : goal.invariant-loop-from

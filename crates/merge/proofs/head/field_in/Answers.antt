@@ -1,10 +1,9 @@
 -- `merge::head::field_in` meets its contract: the digits passed are in the number, so the rest tells the whole.
 use borrow.Author.Rules.{rules}
-use Prim.Native.Nat.{ℕ, ◌+◌, ◌-◌, ◌≤◌}
-use mathlib.Core.Path.{◌≡◌, refl, ap, sym, ◌∙◌}
+use Prim.Native.Nat.{ℕ, ◌+◌}
+use mathlib.Core.Path.{ap, sym, ◌∙◌}
 use native.Mathlib.Omega.{arith}
-use lib.ListN.{length, drop, get_or}
-use Rattle.form.specs.Form.{is_digit}
+use lib.ListN.{drop}
 use Rattle.merge.specs.Merged.{number_from, behind}
 use Rattle.merge.proofs.Numbers.{number_stops, number_goes, number_ends, behind_stops, behind_goes, behind_ends, digit_range}
 use Rattle.merge.proofs.head.field_in.Goals as goal

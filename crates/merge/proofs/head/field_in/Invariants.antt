@@ -1,12 +1,8 @@
 -- `merge::head::field_in` meets its contract: the digits passed are in the number, so the rest tells the whole.
-use borrow.Author.Rules.{rules}
-use Prim.Native.Nat.{ℕ, ◌+◌, ◌-◌, ◌≤◌}
-use mathlib.Core.Path.{◌≡◌, refl, ap, sym, ◌∙◌}
-use native.Mathlib.Omega.{arith}
-use lib.ListN.{length, drop, get_or}
-use Rattle.form.specs.Form.{is_digit}
+use Prim.Native.Nat.{◌-◌, ◌≤◌}
+use mathlib.Core.Path.{◌≡◌}
+use lib.ListN.{length, drop}
 use Rattle.merge.specs.Merged.{number_from, behind}
-use Rattle.merge.proofs.Numbers.{number_stops, number_goes, number_ends, behind_stops, behind_goes, behind_ends, digit_range}
 use Rattle.merge.proofs.head.field_in.Given as goal
 
 abbrev pub invariant-loop-i : goal.invariant-loop-i

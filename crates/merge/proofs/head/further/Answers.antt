@@ -3,7 +3,6 @@ use Prim.Native.Nat.{◌+◌, ◌*◌, ◌-◌}
 use native.Mathlib.Omega.{arith}
 use borrow.Author.Tests.{le-leb, lt-leb}
 use Rattle.merge.specs.Merged.{most, further}
-use borrow.Author.Rules.{rules}
 use Rattle.merge.proofs.head.further.Goals as goal
 
 pub returns-then-n-lt1844674407370955161 : goal.returns-then-n-lt1844674407370955161

@@ -2,7 +2,6 @@
 use native.Mathlib.Omega.{arith}
 use Rattle.agree.proofs.Shown.{line_holds}
 use Rattle.merge.proofs.Heads.{end_high, headed}
-use borrow.Author.Rules.{rules}
 use Rattle.merge.proofs.head.head_of.Goals as goal
 
 pub count-tracks-requires : goal.count-tracks-requires

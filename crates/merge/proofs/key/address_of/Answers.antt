@@ -2,7 +2,6 @@
 use native.Mathlib.Omega.{arith}
 use mathlib.Core.Path.{ap, ◌∙◌}
 use Rattle.merge.specs.Merged.{hex_value, address_of}
-use borrow.Author.Rules.{rules}
 use Rattle.merge.proofs.key.address_of.Goals as goal
 
 pub returns : goal.returns

@@ -2,7 +2,6 @@
 use native.Mathlib.Omega.{arith}
 use borrow.Author.Tests.{le-leb, lt-leb}
 use Rattle.merge.specs.Merged.{hex_value}
-use borrow.Author.Rules.{rules}
 use Rattle.merge.proofs.key.hex_value.Goals as goal
 
 pub returns-then-b-le57 : goal.returns-then-b-le57

@@ -1,9 +1,7 @@
 -- `merge::key::key_in` meets its contract: by the letter, and of C by what tells the sender.
 use mathlib.Core.Path.{sym, ap, ◌∙◌}
 use Prim.Native.Nat.{ℕ, ◌-◌}
-use native.Mathlib.Omega.{arith}
 use Rattle.merge.proofs.Keyed.{fine_key, no_key, coarse_key}
-use borrow.Author.Rules.{rules}
 use Rattle.merge.proofs.key.key_in.Goals as goal
 
 pub returns-then-letter-ne67 : goal.returns-then-letter-ne67

@@ -1,5 +1,4 @@
 -- `merge::key::kind_by` meets its contract: by the letter.
-use borrow.Author.Rules.{rules}
 use borrow.Author.Tests.{eq-eqb, ne_eqb}
 use Rattle.merge.specs.Merged.{kind_by}
 use Rattle.merge.proofs.key.kind_by.Goals as goal

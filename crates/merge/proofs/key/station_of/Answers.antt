@@ -3,7 +3,6 @@ use Prim.Native.Nat.{ℕ, ◌+◌, ◌-◌}
 use mathlib.Core.Path.{sym, ap, ◌∙◌}
 use borrow.Author.Tests.{eq-eqb, ne_eqb}
 use Rattle.merge.specs.Merged.{station_of}
-use borrow.Author.Rules.{rules}
 use Rattle.merge.proofs.key.station_of.Goals as goal
 
 pub returns-then-one-eq32 : goal.returns-then-one-eq32

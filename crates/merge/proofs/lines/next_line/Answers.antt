@@ -1,11 +1,10 @@
 -- `merge::lines::next_line` meets its contract: by which of the texts has a line left, and by the keys.
-use mathlib.Core.Path.{◌≡◌, refl, sym, ap, ◌∙◌}
+use mathlib.Core.Path.{refl, ap, ◌∙◌}
 use native.Mathlib.Omega.{arith}
 use mathlib.Core.Logic.{inl}
 use Rattle.form.proofs.Walking.{no_line, some_line}
 use Rattle.merge.specs.Merged.{key_in}
 use Rattle.merge.proofs.Walking.{line_part, none_left, second_alone, first_alone, first_lower, second_lower, takes_first, takes_second}
-use borrow.Author.Rules.{rules}
 use Rattle.merge.proofs.lines.next_line.Goals as goal
 
 pub returns-then-f-eq0 : goal.returns-then-f-eq0

@@ -1,15 +1,12 @@
 -- `merge::lines::put_lines` meets its contract: the lines passed are in the buffer, and with the rest they are the whole text.
 use borrow.Author.Rules.{rules}
-use Prim.Native.Nat.{ℕ, ◌+◌, ◌-◌, ◌≤◌}
-use mathlib.Core.Path.{◌≡◌, refl, sym, ap, ◌∙◌}
-use mathlib.Core.List.{List, [], ◌++◌}
+use Prim.Native.Nat.{ℕ, ◌+◌}
+use mathlib.Core.Path.{refl, sym, ap, ◌∙◌}
+use mathlib.Core.List.{[], ◌++◌}
 use native.Mathlib.Omega.{arith}
 use borrow.Author.Tests.{not-true, not-false}
-use lib.ListN.{length}
-use Rattle.text.specs.Code.{Wrote}
 use Rattle.text.proofs.Buffer.{wrote_none, wrote_then, wrote_as}
-use Rattle.form.specs.Scan.{part, lines_from}
-use Rattle.merge.specs.Merged.{in_order, joined}
+use Rattle.form.specs.Scan.{part}
 use Rattle.merge.proofs.Walking.{part_length, nothing_left, line_left, joined_end, joined_on, room_on}
 use Rattle.merge.proofs.lines.put_lines.Goals as goal
 

@@ -1,13 +1,9 @@
 -- `merge::lines::put_part` meets its contract: so many bytes as the loop has passed are copied.
-use borrow.Author.Rules.{rules}
-use Prim.Native.Nat.{ℕ, ◌+◌, ◌-◌, ◌≤◌}
-use mathlib.Core.Path.{◌≡◌, refl, sym, ap, ◌∙◌}
-use native.Mathlib.Omega.{arith}
-use lib.ListN.{length, get_or, length-set}
+use Prim.Native.Nat.{◌+◌, ◌-◌, ◌≤◌}
+use mathlib.Core.Path.{◌≡◌}
+use lib.ListN.{length}
 use Rattle.text.specs.Code.{Wrote}
-use Rattle.text.proofs.Buffer.{wrote_none, wrote_byte, wrote_then, wrote_as}
 use Rattle.form.specs.Scan.{part}
-use Rattle.merge.proofs.Walking.{part_none, part_more}
 use Rattle.merge.proofs.lines.put_part.Given as goal
 
 abbrev pub invariant-loop-i : goal.invariant-loop-i

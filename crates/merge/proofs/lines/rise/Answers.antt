@@ -1,10 +1,9 @@
 -- `merge::lines::rise` meets its contract: the lines passed rise, so all do if the rest does above the last of them.
 use borrow.Author.Rules.{rules}
-use Prim.Native.Nat.{ℕ, ◌+◌, ◌-◌, ◌≤◌}
-use mathlib.Core.Path.{◌≡◌, refl, sym, ap, ◌∙◌}
+use Prim.Native.Nat.{ℕ}
+use mathlib.Core.Path.{refl, sym, ap, ◌∙◌}
 use native.Mathlib.Omega.{arith}
 use borrow.Author.Tests.{not-true, not-false}
-use lib.ListN.{length}
 use Rattle.form.specs.Scan.{lines_from}
 use Rattle.merge.specs.Merged.{in_order, rising}
 use Rattle.merge.proofs.Walking.{nothing_left, line_left, rises_end, rises_not, rises_on}

@@ -1,12 +1,9 @@
 -- `merge::lines::rise` meets its contract: the lines passed rise, so all do if the rest does above the last of them.
-use borrow.Author.Rules.{rules}
-use Prim.Native.Nat.{ℕ, ◌+◌, ◌-◌, ◌≤◌}
-use mathlib.Core.Path.{◌≡◌, refl, sym, ap, ◌∙◌}
-use native.Mathlib.Omega.{arith}
+use Prim.Native.Nat.{◌+◌, ◌-◌, ◌≤◌}
+use mathlib.Core.Path.{◌≡◌}
 use lib.ListN.{length}
 use Rattle.form.specs.Scan.{lines_from}
 use Rattle.merge.specs.Merged.{in_order, rising}
-use Rattle.merge.proofs.Walking.{nothing_left, line_left, rises_end, rises_not, rises_on}
 use Rattle.merge.proofs.lines.rise.Given as goal
 
 abbrev pub invariant-loop-line : goal.invariant-loop-line
