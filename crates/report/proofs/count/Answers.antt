@@ -17,8 +17,8 @@ loop-i-preserved c =
     let a = c.args in
     let has : ℕ → Bool = λ j. has_row a.all c.clock_of-clock.result a.table.now c.places_in-n.result j in
     elim c.if-has_row.branch [
-      then-has_row w ↦ (search rules, omega arith, w.rows-is ∙ counted_yes has c.loop-i.i c.loop-i.invariant.2 c.has_row.ensures w.if-has_row.true)
-    | else-has_row w ↦ (search rules, omega arith, w.rows-is ∙ counted_no has c.loop-i.i c.loop-i.invariant.2 c.has_row.ensures w.if-has_row.false)
+      | then-has_row w ↦ (search rules, omega arith, w.rows-is ∙ counted_yes has c.loop-i.i c.loop-i.invariant.2 c.has_row.ensures w.if-has_row.true)
+      | else-has_row w ↦ (search rules, omega arith, w.rows-is ∙ counted_no has c.loop-i.i c.loop-i.invariant.2 c.has_row.ensures w.if-has_row.false)
     ]
 
 pub returns : goal.returns

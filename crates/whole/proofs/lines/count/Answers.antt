@@ -22,8 +22,8 @@ loop-j-preserved c =
     let a = c.args in
     let in_range_lem : c.loop-j.j < length a.order.now = omega (arith, c.requires.1.many) in
     elim c.if-is_shown.branch [
-      then-is_shown w ↦ (search rules, omega arith, w.rows-is ∙ counted_yes a.all a.table.now a.n a.order.now c.loop-j.j in_range_lem c.loop-j.invariant.2 c.is_shown.ensures w.if-is_shown.true)
-    | else-is_shown w ↦ (search rules, omega arith, w.rows-is ∙ counted_no a.all a.table.now a.n a.order.now c.loop-j.j in_range_lem c.loop-j.invariant.2 c.is_shown.ensures w.if-is_shown.false)
+      | then-is_shown w ↦ (search rules, omega arith, w.rows-is ∙ counted_yes a.all a.table.now a.n a.order.now c.loop-j.j in_range_lem c.loop-j.invariant.2 c.is_shown.ensures w.if-is_shown.true)
+      | else-is_shown w ↦ (search rules, omega arith, w.rows-is ∙ counted_no a.all a.table.now a.n a.order.now c.loop-j.j in_range_lem c.loop-j.invariant.2 c.is_shown.ensures w.if-is_shown.false)
     ]
 
 pub returns : goal.returns

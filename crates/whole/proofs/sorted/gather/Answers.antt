@@ -25,12 +25,12 @@ loop-i-preserved c =
     let held = c.is_held.ensures in
     let room : c.loop-i.k < length a.order.now = omega (arith, c.requires.2) in
     elim c.if-is_held.branch [
-      then-is_held w ↦
-        let g = gathered_one a.table.now c.loop-i.i c.requires.0 clock key body held a.order.now c.loop-i.invariant.3 c.loop-i.invariant.4 w.if-is_held.true room in
-        (search rules, omega arith, ap length w.order-is ∙ simp length-set c.loop-i.invariant.2, w.k-is ∙ g.0, w.order-is ∙ g.1)
-    | else-is_held w ↦
-        let g = gathered_none a.table.now c.loop-i.i c.requires.0 clock key body held a.order.now c.loop-i.invariant.3 c.loop-i.invariant.4 w.if-is_held.false in
-        (search rules, omega arith, ap length w.order-is ∙ c.loop-i.invariant.2, w.k-is ∙ g.0, w.order-is ∙ g.1)
+      | then-is_held w ↦
+          let g = gathered_one a.table.now c.loop-i.i c.requires.0 clock key body held a.order.now c.loop-i.invariant.3 c.loop-i.invariant.4 w.if-is_held.true room in
+          (search rules, omega arith, ap length w.order-is ∙ simp length-set c.loop-i.invariant.2, w.k-is ∙ g.0, w.order-is ∙ g.1)
+      | else-is_held w ↦
+          let g = gathered_none a.table.now c.loop-i.i c.requires.0 clock key body held a.order.now c.loop-i.invariant.3 c.loop-i.invariant.4 w.if-is_held.false in
+          (search rules, omega arith, ap length w.order-is ∙ c.loop-i.invariant.2, w.k-is ∙ g.0, w.order-is ∙ g.1)
     ]
 
 pub returns : goal.returns
