@@ -1,7 +1,7 @@
 -- `audit::replays::give_coarse` meets its contract: 14, then 8 for a flag or a station that is too wide, or what is worked out.
 use Prim.Native.Nat.{ℕ, ◌<◌}
 use mathlib.Core.Path.{◌≡◌, ap, ◌∙◌}
-use mathlib.Core.Bool.{false, ◌||◌}
+use mathlib.Core.Bool.{false, not, ◌||◌}
 use lib.Dec.{leb}
 use native.Mathlib.Omega.{arith}
 use borrow.Author.Tests.{leb-false}
@@ -24,12 +24,12 @@ narrow flag station e =
 pub returns-then-not-is_log : goal.returns-then-not-is_log
 returns-then-not-is_log c =
     let a = c.args in
-    no_log a.out.now a.log.now (is_wide (C a.flag a.station)) (C a.flag a.station) a.address no_site c.is_log.ensures c.if-not-is_log.true
+    no_log a.out.now a.log.now (is_wide (C a.flag a.station)) (C a.flag a.station) a.address no_site c.is_log.ensures (ap not c.if-not-is_log.true)
 
 pub returns-then-flag-station : goal.returns-then-flag-station
 returns-then-flag-station c =
     let a = c.args in
-    no_kind a.out.now a.log.now (is_wide (C a.flag a.station)) (C a.flag a.station) a.address no_site c.is_log.ensures c.if-not-is_log.false c.if-flag-station.true
+    no_kind a.out.now a.log.now (is_wide (C a.flag a.station)) (C a.flag a.station) a.address no_site c.is_log.ensures (ap not c.if-not-is_log.false) c.if-flag-station.true
 
 pub overflow_cast-kind : goal.overflow_cast-kind
 overflow_cast-kind c =
@@ -44,5 +44,5 @@ overflow_cast-kind-2 c =
 pub returns : goal.returns
 returns c =
     let a = c.args in
-    worked_out_lem a.out.now a.log.now (is_wide (C a.flag a.station)) (C a.flag a.station) a.address no_site c.is_log.ensures c.if-not-is_log.false c.if-flag-station.false
+    worked_out_lem a.out.now a.log.now (is_wide (C a.flag a.station)) (C a.flag a.station) a.address no_site c.is_log.ensures (ap not c.if-not-is_log.false) c.if-flag-station.false
     (c.give_of.ensures ∙ ap (λ (s : Site). given a.out.now (worked_out a.log.now (C a.flag a.station) a.address s)) c.no_site.ensures)

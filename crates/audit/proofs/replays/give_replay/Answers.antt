@@ -12,17 +12,17 @@ use Rattle.audit.proofs.replays.give_replay.Goals as goal
 pub returns-then-not-is_log : goal.returns-then-not-is_log
 returns-then-not-is_log c =
     let a = c.args in
-    no_log a.out.now a.log.now (not (is_kind a.kind)) (kind_at a.kind) a.address a.site c.is_log.ensures c.if-not-is_log.true
+    no_log a.out.now a.log.now (not (is_kind a.kind)) (kind_at a.kind) a.address a.site c.is_log.ensures (ap not c.if-not-is_log.true)
 
 pub returns-then-not-is_kind : goal.returns-then-not-is_kind
 returns-then-not-is_kind c =
     let a = c.args in
-    no_kind a.out.now a.log.now (not (is_kind a.kind)) (kind_at a.kind) a.address a.site c.is_log.ensures c.if-not-is_log.false
-    (sym (ap not c.is_kind.ensures) ∙ c.if-not-is_kind.true)
+    no_kind a.out.now a.log.now (not (is_kind a.kind)) (kind_at a.kind) a.address a.site c.is_log.ensures (ap not c.if-not-is_log.false)
+    (sym (ap not c.is_kind.ensures) ∙ ap not c.if-not-is_kind.true)
 
 pub returns : goal.returns
 returns c =
     let a = c.args in
-    worked_out_lem a.out.now a.log.now (not (is_kind a.kind)) (kind_at a.kind) a.address a.site c.is_log.ensures c.if-not-is_log.false
-    (sym (ap not c.is_kind.ensures) ∙ c.if-not-is_kind.false)
+    worked_out_lem a.out.now a.log.now (not (is_kind a.kind)) (kind_at a.kind) a.address a.site c.is_log.ensures (ap not c.if-not-is_log.false)
+    (sym (ap not c.is_kind.ensures) ∙ ap not c.if-not-is_kind.false)
     (c.give_of.ensures ∙ ap (λ (k : Kind). given a.out.now (worked_out a.log.now k a.address a.site)) c.kind_at.ensures)
