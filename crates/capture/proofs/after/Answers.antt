@@ -1,5 +1,4 @@
 -- `capture::after` meets its contract: its test is the definition's.
-use borrow.Author.Rules.{rules}
 use borrow.Author.Tests.{lt-ltb, le-ltb}
 use Rattle.capture.proofs.after.Goals as goal
 

@@ -1,7 +1,7 @@
 -- `capture::all_zero` meets its contract: the bytes passed are zero, so all are if the rest is.
-use Prim.Native.Nat.{◌-◌, ◌≤◌}
-use mathlib.Core.Path.{◌≡◌, sym, ap, ◌∙◌}
-use lib.ListN.{length, drop, drop_of_length-le}
+use Prim.Native.Nat.{◌-◌}
+use mathlib.Core.Path.{sym, ap, ◌∙◌}
+use lib.ListN.{drop_of_length-le}
 use Rattle.capture.specs.Block.{zeros}
 use Rattle.capture.proofs.Parts.{zeros_on, zeros_stop}
 use borrow.Author.Rules.{rules}

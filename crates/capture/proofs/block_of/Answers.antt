@@ -1,7 +1,6 @@
 -- `capture::block_of` meets its contract: each way out is one of proofs/Ways.
 use native.Mathlib.Omega.{arith}
 use Rattle.capture.proofs.Ways.{bad_size, bad_none, bad_many, kept, failed}
-use borrow.Author.Rules.{rules}
 use Rattle.capture.proofs.block_of.Goals as goal
 
 pub returns-then-b-ne512 : goal.returns-then-b-ne512

@@ -2,7 +2,6 @@
 use mathlib.Core.Path.{sym, ◌∙◌}
 use native.Mathlib.Omega.{arith}
 use Rattle.capture.proofs.Records.{inside, message_at, message_ended}
-use borrow.Author.Rules.{rules}
 use Rattle.capture.proofs.message_of.Goals as goal
 
 pub overflow_add-end : goal.overflow_add-end

@@ -8,7 +8,6 @@ use Rattle.fields.specs.Bytes.{Bytes}
 use Rattle.capture.specs.Block.{start_of}
 use Rattle.capture.specs.declared.Record.TheVariants.{At}
 use Rattle.capture.proofs.Records.{there, no_block, count_ended, past_ended, time_whole}
-use borrow.Author.Rules.{rules}
 use Rattle.capture.proofs.record_of.Goals as goal
 
 pub returns-then-b-ne512 : goal.returns-then-b-ne512

@@ -4,7 +4,6 @@ use borrow.Author.Tests.{eq-eqb, ne_eqb}
 use Rattle.layouts.specs.Bodies.{body_me}
 use Rattle.layouts.proofs.BothWays.{if_written, if_refused}
 use Rattle.messages.specs.Message.{message_fits}
-use borrow.Author.Rules.{rules}
 use Rattle.encoder.proofs.encode.Goals as goal
 
 pub returns-then-out-ne14 : goal.returns-then-out-ne14

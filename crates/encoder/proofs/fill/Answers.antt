@@ -3,7 +3,6 @@ use Prim.Native.Nat.{ℕ}
 use mathlib.Core.Path.{refl, ap, ◌∙◌}
 use Rattle.fields.specs.Bytes.{bytes_of}
 use Rattle.messages.proofs.Parts.{filled}
-use borrow.Author.Rules.{rules}
 use Rattle.encoder.proofs.fill.Goals as goal
 
 pub returns : goal.returns

@@ -1,5 +1,4 @@
 -- `encoder::head_fits` meets its contract: its last test is that of `head_taken`.
-use borrow.Author.Rules.{rules}
 use Rattle.encoder.proofs.head_fits.Goals as goal
 
 pub returns : goal.returns

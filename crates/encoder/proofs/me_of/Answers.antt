@@ -1,6 +1,5 @@
 -- `encoder::me_of` meets its contract: a message fits if its head and its body do.
 use mathlib.Core.Path.{sym, ◌∙◌}
-use borrow.Author.Rules.{rules}
 use Rattle.encoder.proofs.me_of.Goals as goal
 
 pub returns-then-head_fits : goal.returns-then-head_fits

@@ -5,7 +5,6 @@ use Rattle.layouts.specs.Bodies.{taken_by}
 use Rattle.messages.specs.Message.{with_body}
 use Rattle.messages.specs.Accepted.{decoded_by}
 use Rattle.messages.proofs.Acceptance.{frame_says_lem}
-use borrow.Author.Rules.{rules}
 use Rattle.messages.proofs.decode.Goals as goal
 
 pub returns-in-Frame : goal.returns-in-Frame

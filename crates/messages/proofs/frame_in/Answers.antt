@@ -3,7 +3,6 @@ use mathlib.Core.Path.{ap, ◌∙◌}
 use borrow.Author.Tests.{eq-eqb, ne_eqb}
 use Rattle.messages.specs.declared.Frame.{Frame}
 use Rattle.messages.specs.Accepted.{headed}
-use borrow.Author.Rules.{rules}
 use Rattle.messages.proofs.frame_in.Goals as goal
 
 pub returns-then-s-ne14 : goal.returns-then-s-ne14

@@ -4,7 +4,6 @@ use mathlib.Core.Bool.{Bool}
 use mathlib.Core.Path.{ap, ap₂, ◌∙◌}
 use Rattle.layouts.specs.Bodies.{flag_in, station_in}
 use Rattle.messages.specs.Message.{kind_of, key_by}
-use borrow.Author.Rules.{rules}
 use borrow.Author.Tests.{ne_eqb}
 use Rattle.messages.proofs.frame_key.Goals as goal
 

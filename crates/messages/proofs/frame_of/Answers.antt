@@ -2,7 +2,6 @@
 use native.Mathlib.Omega.{arith}
 use Rattle.fields.specs.Bytes.{Bytes}
 use Rattle.messages.proofs.Parts.{frame_is}
-use borrow.Author.Rules.{rules}
 use Rattle.messages.proofs.frame_of.Goals as goal
 
 pub returns : goal.returns

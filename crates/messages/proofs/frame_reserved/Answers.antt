@@ -4,7 +4,6 @@ use mathlib.Core.Path.{ap, ap₂, ◌∙◌}
 use borrow.Author.Tests.{ne_eqb}
 use Rattle.layouts.specs.Bodies.{type_by, flag_in}
 use Rattle.messages.specs.Message.{is_reserved}
-use borrow.Author.Rules.{rules}
 use Rattle.messages.proofs.frame_reserved.Goals as goal
 
 pub returns-then-f-ne18 : goal.returns-then-f-ne18

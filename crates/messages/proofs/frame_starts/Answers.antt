@@ -3,7 +3,6 @@ use mathlib.Core.Bool.{Bool}
 use mathlib.Core.Path.{sym, ap, ◌∙◌}
 use Rattle.layouts.specs.Bodies.{type_by}
 use Rattle.messages.proofs.Flags.{traffic_is, starts_alike}
-use borrow.Author.Rules.{rules}
 use Rattle.messages.proofs.frame_starts.Goals as goal
 
 pub returns : goal.returns

@@ -1,6 +1,5 @@
 -- `messages::framed_as` meets its contract: each return has the tests on its way, which are those of the definition.
 use Rattle.messages.specs.Accepted.{framed}
-use borrow.Author.Rules.{rules}
 use Rattle.messages.proofs.framed_as.Goals as goal
 
 pub returns-then-not-format_taken : goal.returns-then-not-format_taken

@@ -2,7 +2,6 @@
 use mathlib.Core.Bool.{Bool, not, ◌&&◌}
 use mathlib.Core.Path.{ap₂, ◌∙◌}
 use Rattle.messages.specs.Message.{is_reserved, agree}
-use borrow.Author.Rules.{rules}
 use Rattle.messages.proofs.head_taken.Goals as goal
 
 pub returns : goal.returns

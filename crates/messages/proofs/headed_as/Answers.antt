@@ -1,6 +1,5 @@
 -- `messages::headed_as` meets its contract: its tests are those of `format_taken` and `frame_reserved`.
 use Rattle.messages.specs.Accepted.{headed}
-use borrow.Author.Rules.{rules}
 use Rattle.messages.proofs.headed_as.Goals as goal
 
 pub returns-then-not-format_taken : goal.returns-then-not-format_taken

@@ -1,5 +1,4 @@
 -- `messages::is_reserved` meets its contract: whether the traffic service sent it is what `traffic_by` answers.
-use borrow.Author.Rules.{rules}
 use Rattle.messages.proofs.is_reserved.Goals as goal
 
 pub returns : goal.returns

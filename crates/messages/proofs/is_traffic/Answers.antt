@@ -1,7 +1,6 @@
 -- `messages::is_traffic` meets its contract: the kinds of the traffic service are told by DF and CF.
 use mathlib.Core.Path.{sym, ◌∙◌}
 use Rattle.messages.proofs.Flags.{traffic_is}
-use borrow.Author.Rules.{rules}
 use Rattle.messages.proofs.is_traffic.Goals as goal
 
 pub returns : goal.returns

@@ -2,7 +2,6 @@
 use mathlib.Core.Path.{ap, ◌∙◌}
 use Rattle.keys.specs.Keys.{key_for}
 use Rattle.keys.specs.declared.Kind.{Kind}
-use borrow.Author.Rules.{rules}
 use Rattle.messages.proofs.key_by.Goals as goal
 
 pub returns : goal.returns

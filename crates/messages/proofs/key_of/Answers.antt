@@ -2,7 +2,6 @@
 use Prim.Native.Nat.{ℕ}
 use mathlib.Core.Path.{ap₂, ◌∙◌}
 use Rattle.messages.specs.Message.{key_by}
-use borrow.Author.Rules.{rules}
 use Rattle.messages.proofs.key_of.Goals as goal
 
 pub returns : goal.returns

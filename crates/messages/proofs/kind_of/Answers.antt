@@ -1,7 +1,6 @@
 -- `messages::kind_of` meets its contract: its test is that of the definition.
 use borrow.Author.Tests.{eq-eqb, ne_eqb}
 use Rattle.messages.specs.Message.{kind_of}
-use borrow.Author.Rules.{rules}
 use Rattle.messages.proofs.kind_of.Goals as goal
 
 pub returns-then-format-eq18 : goal.returns-then-format-eq18

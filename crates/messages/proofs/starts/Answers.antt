@@ -1,7 +1,6 @@
 -- `messages::starts` meets its contract: by its kind and TYPE.
 use mathlib.Core.Path.{◌∙◌}
 use Rattle.messages.proofs.Flags.{starts_alike}
-use borrow.Author.Rules.{rules}
 use Rattle.messages.proofs.starts.Goals as goal
 
 pub returns : goal.returns

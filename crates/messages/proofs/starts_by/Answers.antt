@@ -1,5 +1,4 @@
 -- `messages::starts_by` meets its contract: its tests are those of the definition.
-use borrow.Author.Rules.{rules}
 use Rattle.messages.proofs.starts_by.Goals as goal
 
 pub returns-then-coarse : goal.returns-then-coarse

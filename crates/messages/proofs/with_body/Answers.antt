@@ -1,7 +1,6 @@
 -- `messages::with_body` meets its contract: each arm is the definition's.
 use mathlib.Core.Path.{sym, ap}
 use Rattle.messages.specs.Message.{with_body}
-use borrow.Author.Rules.{rules}
 use Rattle.messages.proofs.with_body.Goals as goal
 
 pub returns-in-Body : goal.returns-in-Body

@@ -1,5 +1,4 @@
 -- `replay::bad_site` meets its contract: its tests are the definition's.
-use borrow.Author.Rules.{rules}
 use Rattle.replay.proofs.bad_site.Goals as goal
 
 pub returns : goal.returns

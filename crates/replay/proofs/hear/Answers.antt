@@ -9,7 +9,6 @@ use Rattle.track.specs.declared.Track.{Track}
 use Rattle.replay.specs.Alone.{own_in, told_of}
 use Rattle.replay.specs.Code.{kept}
 use Rattle.replay.proofs.Ways.{with_track, not_own, aged_by, hears_late, hears_none, hears_frame, refused_none}
-use borrow.Author.Rules.{rules}
 use Rattle.replay.proofs.hear.Goals as goal
 
 pub returns-then-time-own : goal.returns-then-time-own

@@ -1,12 +1,8 @@
 -- `replay::hear_all` meets its contract: before each turn the first i records have been heard.
-use Prim.Native.Nat.{◌-◌, ◌/◌, ◌≤◌}
-use mathlib.Core.Path.{◌≡◌, refl, ap, ◌∙◌}
-use native.Mathlib.Omega.{arith}
-use lib.ListN.{length}
+use Prim.Native.Nat.{◌-◌, ◌≤◌}
+use mathlib.Core.Path.{◌≡◌}
 use Rattle.replay.specs.Replay.{unheard, own_at}
 use Rattle.replay.specs.Code.{kept}
-use Rattle.replay.proofs.Ways.{records_on}
-use borrow.Author.Rules.{rules}
 use Rattle.replay.proofs.hear_all.Given as goal
 
 abbrev pub invariant-loop-i : goal.invariant-loop-i

@@ -3,7 +3,6 @@ use native.Mathlib.Omega.{arith}
 use Rattle.fields.specs.Bytes.{Bytes}
 use Rattle.replay.specs.Code.{kept}
 use Rattle.replay.proofs.Ways.{record_heard}
-use borrow.Author.Rules.{rules}
 use Rattle.replay.proofs.hear_record.Goals as goal
 
 pub returns : goal.returns

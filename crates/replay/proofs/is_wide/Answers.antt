@@ -1,5 +1,4 @@
 -- `replay::is_wide` meets its contract: each arm is the definition's.
-use borrow.Author.Rules.{rules}
 use Rattle.replay.proofs.is_wide.Goals as goal
 
 pub returns-in-C : goal.returns-in-C

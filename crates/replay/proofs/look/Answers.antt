@@ -1,5 +1,4 @@
 -- `replay::look` meets its contract: by whether the aircraft is held.
-use borrow.Author.Rules.{rules}
 use Rattle.replay.proofs.look.Goals as goal
 
 pub returns-then-own : goal.returns-then-own

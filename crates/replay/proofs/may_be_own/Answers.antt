@@ -1,5 +1,4 @@
 -- `replay::may_be_own` meets its contract: the number of the first four bytes ends in AA.
-use borrow.Author.Rules.{rules}
 use Rattle.replay.proofs.may_be_own.Goals as goal
 
 pub returns : goal.returns

@@ -1,5 +1,4 @@
 -- `replay::not_looked` meets its contract: the track beside a refusal has heard nothing.
-use borrow.Author.Rules.{rules}
 use Rattle.replay.proofs.not_looked.Goals as goal
 
 pub returns : goal.returns

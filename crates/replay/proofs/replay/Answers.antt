@@ -8,7 +8,6 @@ use Rattle.track.specs.Held.{looked_as}
 use Rattle.replay.specs.Alone.{Own}
 use Rattle.replay.specs.Replay.{unheard, own_at}
 use Rattle.replay.proofs.Ways.{no_log, no_field, all_heard}
-use borrow.Author.Rules.{rules}
 use Rattle.replay.proofs.replay.Goals as goal
 
 pub returns-then-not-is_log : goal.returns-then-not-is_log

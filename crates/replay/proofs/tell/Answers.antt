@@ -3,7 +3,6 @@ use mathlib.Core.Path.{ap, sym, ◌∙◌}
 use mathlib.Core.Bool.{Bool, ◌||◌}
 use Rattle.messages.proofs.Acceptance.{frame_opens}
 use Rattle.replay.proofs.Ways.{told_another, told_none, told_step}
-use borrow.Author.Rules.{rules}
 use Rattle.replay.proofs.tell.Goals as goal
 
 pub returns-then-frame_key-key : goal.returns-then-frame_key-key

@@ -1,6 +1,5 @@
 -- `slice_places::better_of` meets its contract: its tests are the definition's, the dearest last.
 use Rattle.rules.specs.Search.{better}
-use borrow.Author.Rules.{rules}
 use Rattle.slice_places.proofs.better_of.Goals as goal
 
 pub returns-then-is_held : goal.returns-then-is_held

@@ -2,7 +2,6 @@
 use mathlib.Core.Path.{ap}
 use Rattle.track.specs.declared.held.Holding.TheVariants as holding
 use Rattle.slice_places.specs.Decided.{looked}
-use borrow.Author.Rules.{rules}
 use Rattle.slice_places.proofs.look_at.Goals as goal
 
 pub returns : goal.returns

@@ -1,5 +1,4 @@
 -- `slice_places::misfits` meets its contract: by `places_fit`.
-use borrow.Author.Rules.{rules}
 use Rattle.slice_places.proofs.misfits.Goals as goal
 
 pub returns : goal.returns

@@ -1,5 +1,4 @@
 -- `slice_places::no_place` meets its contract: a new track under no key.
-use borrow.Author.Rules.{rules}
 use Rattle.slice_places.proofs.no_place.Goals as goal
 
 pub returns : goal.returns

@@ -1,5 +1,4 @@
 -- `slice_places::not_looked` meets its contract: a new track beside the answer.
-use borrow.Author.Rules.{rules}
 use Rattle.slice_places.proofs.not_looked.Goals as goal
 
 pub returns : goal.returns

@@ -1,6 +1,5 @@
 -- `slice_places::site_of` meets its contract: its test is the definition's.
 use Rattle.slice_places.specs.Head.{site_of}
-use borrow.Author.Rules.{rules}
 use Rattle.slice_places.proofs.site_of.Goals as goal
 
 pub returns-then-site-pole_to_pole : goal.returns-then-site-pole_to_pole

@@ -1,6 +1,5 @@
 -- `slice_places::start` meets its contract: its three ways out are the definition's.
 use Rattle.slice_places.specs.Decided.{started}
-use borrow.Author.Rules.{rules}
 use Rattle.slice_places.proofs.start.Goals as goal
 
 pub returns-then-not-places_fit : goal.returns-then-not-places_fit

@@ -1,5 +1,4 @@
 -- `slice_places::unheld` meets its contract: a new track beside the answer.
-use borrow.Author.Rules.{rules}
 use Rattle.slice_places.proofs.unheld.Goals as goal
 
 pub returns : goal.returns

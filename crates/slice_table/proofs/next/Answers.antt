@@ -1,6 +1,5 @@
 -- `slice_table::next` meets its contract: 7, or the smallest key above.
 use mathlib.Core.Path.{ap, sym, ◌∙◌}
-use Prim.Native.Nat.{ℕ}
 use lib.ListN.{length}
 use Rattle.rules.specs.Keys.{key_or_end}
 use Rattle.slice_places.specs.declared.Sought.{Sought}

@@ -1,5 +1,5 @@
 -- `stamps::extend` meets its contract: its ways out are the definition's.
-use Rattle.std.proofs.Common.{arith, rules}
+use Rattle.std.proofs.Common.{arith}
 use Rattle.stamps.proofs.Ways.{first_late, first_taken, too_far, overrun, on_time}
 use Rattle.stamps.proofs.extend.Goals as goal
 

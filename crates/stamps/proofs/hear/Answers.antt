@@ -1,6 +1,5 @@
 -- `stamps::hear` meets its contract: by the time of the stamp, what the table hears, or the refusal with all as it was.
 use Rattle.stamps.proofs.Ways.{heard_on, not_heard}
-use Rattle.std.proofs.Common.{rules}
 use Rattle.stamps.proofs.hear.Goals as goal
 
 pub returns-in-At : goal.returns-in-At

@@ -1,6 +1,5 @@
 -- `stamps::receive` meets its contract: where the message was heard the answer is the decoder's, and a number is the same.
 use Rattle.stamps.proofs.Ways.{told_done, told_refused}
-use Rattle.std.proofs.Common.{rules}
 use Rattle.stamps.proofs.receive.Goals as goal
 
 pub returns-in-Done : goal.returns-in-Done

@@ -1,5 +1,5 @@
 -- `stamps::time_of` meets its contract: a wrong length, or by what the table says of its clock.
-use Rattle.std.proofs.Common.{sym, rules}
+use Rattle.std.proofs.Common.{sym}
 use Rattle.table.specs.Bytes.{bytes}
 use Rattle.stamps.proofs.Ways.{no_length, clock_found, no_clock}
 use Rattle.stamps.proofs.time_of.Goals as goal

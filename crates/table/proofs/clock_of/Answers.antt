@@ -2,7 +2,6 @@
 use mathlib.Core.Path.{sym, ◌∙◌}
 use Rattle.memory.proofs.Counts.{whole_head}
 use Rattle.table.proofs.Answers.{clock_on, clock_size}
-use borrow.Author.Rules.{rules}
 use Rattle.table.proofs.clock_of.Goals as goal
 
 pub clock_of-requires : goal.clock_of-requires

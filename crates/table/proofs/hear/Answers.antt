@@ -9,7 +9,6 @@ use Rattle.table_bytes.proofs.Parts.{whole}
 use Rattle.table_bytes.proofs.Places.{moved_length}
 use Rattle.table.specs.Heard.{heard}
 use Rattle.table.proofs.Answers.{deliver_refused, receive_length, receive_size, receive_late, receive_on}
-use borrow.Author.Rules.{rules}
 use Rattle.table.proofs.hear.Goals as goal
 
 pub returns-then-message-ne14 : goal.returns-then-message-ne14

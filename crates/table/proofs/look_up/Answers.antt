@@ -3,7 +3,6 @@ use mathlib.Core.Bool.{not}
 use mathlib.Core.Path.{ap}
 use Rattle.table_bytes.proofs.Parts.{whole}
 use Rattle.table.proofs.Answers.{look_size, look_found, look_none}
-use borrow.Author.Rules.{rules}
 use Rattle.table.proofs.look_up.Goals as goal
 
 pub returns-then-not-whole_places : goal.returns-then-not-whole_places

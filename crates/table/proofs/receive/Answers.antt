@@ -1,6 +1,5 @@
 -- `table::receive` meets its contract: where the message was heard the answer is the decoder's, and a number is the same.
 use Rattle.table.proofs.Hearing.{received_done, received_refused}
-use borrow.Author.Rules.{rules}
 use Rattle.table.proofs.receive.Goals as goal
 
 pub returns-in-Done : goal.returns-in-Done

@@ -2,7 +2,6 @@
 use mathlib.Core.Bool.{not}
 use mathlib.Core.Path.{ap}
 use Rattle.table.proofs.Answers.{set_up_size, set_up_on}
-use borrow.Author.Rules.{rules}
 use Rattle.table.proofs.set_up.Goals as goal
 
 pub returns-then-not-whole_places : goal.returns-then-not-whole_places

@@ -5,7 +5,6 @@ use mathlib.Core.Path.{sym, ◌∙◌, ap}
 use Rattle.memory.proofs.Counts.{whole_head}
 use Rattle.table_bytes.proofs.Parts.{whole}
 use Rattle.table.proofs.Answers.{site_size, site_pole, site_on}
-use borrow.Author.Rules.{rules}
 use Rattle.table.proofs.set_up_at.Goals as goal
 
 pub returns-then-not-whole_places : goal.returns-then-not-whole_places

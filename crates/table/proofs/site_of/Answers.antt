@@ -2,7 +2,6 @@
 use mathlib.Core.Path.{sym, ◌∙◌}
 use Rattle.memory.proofs.Counts.{whole_head}
 use Rattle.table.proofs.Answers.{site_in_lem, no_site_lem}
-use borrow.Author.Rules.{rules}
 use Rattle.table.proofs.site_of.Goals as goal
 
 pub site_of-requires : goal.site_of-requires

@@ -1,7 +1,6 @@
 -- `table::start_of` meets its contract: the arm is the definition's.
 use mathlib.Core.Path.{ap, ◌∙◌}
 use Rattle.place.specs.Place.{track_of}
-use borrow.Author.Rules.{rules}
 use Rattle.table.proofs.start_of.Goals as goal
 
 pub returns-then-target : goal.returns-then-target

@@ -4,7 +4,6 @@ use mathlib.Core.Bool.{Bool}
 use Rattle.whereabouts.specs.declared.Site.{Site}
 use Rattle.track.specs.Track.{step_me}
 use Rattle.table_bytes.specs.Layout.{stored}
-use borrow.Author.Rules.{rules}
 use Rattle.table.proofs.step_at.Goals as goal
 
 pub returns : goal.returns

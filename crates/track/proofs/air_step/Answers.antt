@@ -12,7 +12,6 @@ use Rattle.track.specs.declared.Aloft.{Aloft}
 use Rattle.track.specs.Groups.{reported}
 use Rattle.track.specs.Track.{group_track, saved_track, airborne_step, coarse_track}
 use Rattle.track.specs.Code.{airborne_aloft, coarse_aloft}
-use borrow.Author.Rules.{rules}
 use Rattle.track.proofs.air_step.Goals as goal
 
 module _ (t : Track) (time me : ℕ) where

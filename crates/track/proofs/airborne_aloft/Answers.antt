@@ -1,5 +1,4 @@
 -- `track::airborne_aloft` meets its contract: the groups are those of `with_altitude`, and the rest is copied.
-use borrow.Author.Rules.{rules}
 use Rattle.track.proofs.airborne_aloft.Goals as goal
 
 pub returns : goal.returns

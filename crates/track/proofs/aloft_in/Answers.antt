@@ -7,7 +7,6 @@ use Rattle.layouts.specs.Layouts.{airborne_of}
 use Rattle.layouts.specs.Coarse.{coarse_of}
 use Rattle.track.specs.declared.Aloft.{Aloft}
 use Rattle.track.specs.Code.{airborne_aloft, coarse_aloft}
-use borrow.Author.Rules.{rules}
 use Rattle.track.proofs.aloft_in.Goals as goal
 
 pub returns-then-coarse : goal.returns-then-coarse

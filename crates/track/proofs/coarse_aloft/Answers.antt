@@ -1,5 +1,4 @@
 -- `track::coarse_aloft` meets its contract: the groups are those of `with_coarse`, and the rest is copied.
-use borrow.Author.Rules.{rules}
 use Rattle.track.proofs.coarse_aloft.Goals as goal
 
 pub returns : goal.returns

@@ -1,5 +1,4 @@
 -- `track::new_track` meets its contract: each part is the definition's.
-use borrow.Author.Rules.{rules}
 use Rattle.track.proofs.new_track.Goals as goal
 
 pub returns : goal.returns

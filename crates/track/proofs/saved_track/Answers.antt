@@ -1,6 +1,5 @@
 -- `track::saved_track` meets its contract: each field is the definition's.
 use Rattle.track.specs.Track.{saved_track}
-use borrow.Author.Rules.{rules}
 use Rattle.track.proofs.saved_track.Goals as goal
 
 pub returns : goal.returns

@@ -8,7 +8,6 @@ use Rattle.messages.specs.declared.Decoded.TheVariants as decode
 use Rattle.track.specs.declared.Track.{Track}
 use Rattle.track.specs.Track.{step_me}
 use Rattle.track.proofs.Mes.{stepped_me}
-use borrow.Author.Rules.{rules}
 use Rattle.track.proofs.step.Goals as goal
 
 pub returns-in_default : goal.returns-in_default

@@ -19,7 +19,6 @@ use Rattle.track.specs.declared.Groups.{Groups}
 use Rattle.track.specs.declared.Track.{Track}
 use Rattle.track.specs.Track.{group_track, surface_track, airborne_step, coarse_track, step_taken}
 use Rattle.track.specs.Code.{way_of}
-use borrow.Author.Rules.{rules}
 use Rattle.track.proofs.step_me.Goals as goal
 
 -- the two layouts that are told apart

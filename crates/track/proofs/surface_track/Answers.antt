@@ -1,6 +1,5 @@
 -- `track::surface_track` meets its contract: each field is the definition's.
 use Rattle.track.specs.Track.{surface_track}
-use borrow.Author.Rules.{rules}
 use Rattle.track.proofs.surface_track.Goals as goal
 
 pub returns : goal.returns

@@ -1,5 +1,4 @@
 -- `track::way_of` meets its contract: its test is the definition's.
-use borrow.Author.Rules.{rules}
 use Rattle.track.proofs.way_of.Goals as goal
 
 pub returns : goal.returns

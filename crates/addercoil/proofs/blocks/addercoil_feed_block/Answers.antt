@@ -1,7 +1,6 @@
 -- `addercoil::blocks::addercoil_feed_block` meets its contract: an array of a wrong length, or what the feeding answers and leaves.
 use borrow.Author.Tests.{ne_eqb}
 use Rattle.addercoil.proofs.Fed.{fed_on}
-use borrow.Author.Rules.{rules}
 use Rattle.addercoil.proofs.blocks.addercoil_feed_block.Goals as goal
 
 pub returns-then-out-ne1 : goal.returns-then-out-ne1

@@ -2,7 +2,6 @@
 use mathlib.Core.Path.{refl}
 use Rattle.addercoil.specs.Blocks.{fed_said}
 use Rattle.entries.proofs.Ways.{given_as, given_number}
-use borrow.Author.Rules.{rules}
 use Rattle.addercoil.proofs.blocks.give_fed.Goals as goal
 
 pub returns-in-Bad : goal.returns-in-Bad

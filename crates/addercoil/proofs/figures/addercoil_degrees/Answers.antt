@@ -1,7 +1,6 @@
 -- `addercoil::figures::addercoil_degrees` meets its contract: an array of a wrong length, or what the crate below answers.
 use mir.Facts.{to_z-of_z}
 use Rattle.addercoil.proofs.Figured.{degrees_wrong, degrees_right}
-use borrow.Author.Rules.{rules}
 use Rattle.addercoil.proofs.figures.addercoil_degrees.Goals as goal
 
 pub returns-then-out-ne2 : goal.returns-then-out-ne2

@@ -1,7 +1,6 @@
 -- `addercoil::figures::addercoil_from_degrees` meets its contract: an array of a wrong length, or what the crate below answers.
 use Rattle.addercoil.proofs.Figured.{back_said}
 use Rattle.entries.proofs.Ways.{into_wrong, into_given}
-use borrow.Author.Rules.{rules}
 use Rattle.addercoil.proofs.figures.addercoil_from_degrees.Goals as goal
 
 pub returns-then-out-ne2 : goal.returns-then-out-ne2

@@ -1,6 +1,5 @@
 -- `addercoil::figures::give_figures` meets its contract: by what the crate below answers.
 use Rattle.addercoil.proofs.Figured.{figures_given, figures_refused}
-use borrow.Author.Rules.{rules}
 use Rattle.addercoil.proofs.figures.give_figures.Goals as goal
 
 pub returns-in-Degrees : goal.returns-in-Degrees

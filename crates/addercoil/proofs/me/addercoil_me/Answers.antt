@@ -10,7 +10,6 @@ use Rattle.rows.specs.Rows.{me_row, row_into}
 use Rattle.addercoil.specs.Me.{me_said}
 use Rattle.addercoil.proofs.Framed.{row_given, row_in_lem, me_length}
 use Rattle.entries.proofs.Ways.{into_wrong, into_given, stopped, passed}
-use borrow.Author.Rules.{rules}
 use Rattle.addercoil.proofs.me.addercoil_me.Goals as goal
 
 pub returns-then-fields-ne-ROW : goal.returns-then-fields-ne-ROW

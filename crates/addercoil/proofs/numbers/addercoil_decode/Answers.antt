@@ -7,7 +7,6 @@ use Rattle.messages.proofs.Acceptance.{frame_says_lem}
 use Rattle.entries.specs.Sent.{given}
 use Rattle.addercoil.specs.Messages.{message_said}
 use Rattle.entries.proofs.Ways.{into_wrong, into_given}
-use borrow.Author.Rules.{rules}
 use Rattle.addercoil.proofs.numbers.addercoil_decode.Goals as goal
 
 pub returns-then-fields-ne-ROW : goal.returns-then-fields-ne-ROW

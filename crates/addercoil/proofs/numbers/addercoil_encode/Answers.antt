@@ -1,6 +1,5 @@
 -- `addercoil::numbers::addercoil_encode` meets its contract: an array of a wrong length, or what the encoder answers and leaves.
 use Rattle.addercoil.proofs.Encoding.{encode_wrong, encode_right}
-use borrow.Author.Rules.{rules}
 use Rattle.addercoil.proofs.numbers.addercoil_encode.Goals as goal
 
 pub returns-then-fields-message : goal.returns-then-fields-message

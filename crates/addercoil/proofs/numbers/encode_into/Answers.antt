@@ -1,6 +1,5 @@
 -- `addercoil::numbers::encode_into` meets its contract: by whether the fields are a message.
 use Rattle.addercoil.proofs.Encoding.{encoded_on, encoded_refused}
-use borrow.Author.Rules.{rules}
 use Rattle.addercoil.proofs.numbers.encode_into.Goals as goal
 
 pub returns-in-Message : goal.returns-in-Message

@@ -7,7 +7,6 @@ use Rattle.layouts.specs.declared.bodies.Layout.{Layout}
 use Rattle.layouts.specs.Bodies.{layout_by, is_taken}
 use Rattle.rows.specs.Rows.{me_row}
 use Rattle.addercoil.proofs.Framed.{row_in_lem, frame_refused_lem, frame_given}
-use borrow.Author.Rules.{rules}
 use Rattle.addercoil.proofs.numbers.give_frame.Goals as goal
 
 pub returns-then-not-is_layout : goal.returns-then-not-is_layout

@@ -4,7 +4,6 @@ use Rattle.messages.specs.declared.Accepted.{Accepted}
 use Rattle.messages.specs.Accepted.{decoded_by}
 use Rattle.addercoil.specs.Messages.{message_said}
 use Rattle.entries.proofs.Ways.{given_as, given_number}
-use borrow.Author.Rules.{rules}
 use Rattle.addercoil.proofs.numbers.give_message.Goals as goal
 
 pub returns-in-Frame : goal.returns-in-Frame

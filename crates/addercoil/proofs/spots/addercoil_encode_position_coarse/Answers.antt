@@ -1,7 +1,6 @@
 -- `addercoil::spots::addercoil_encode_position_coarse` meets its contract: an array of a wrong length, or what `give_encoded` gives.
 use mir.Facts.{to_z-of_z}
 use Rattle.entries.proofs.Ways.{into_wrong, into_given}
-use borrow.Author.Rules.{rules}
 use Rattle.addercoil.proofs.spots.addercoil_encode_position_coarse.Goals as goal
 
 pub returns-then-out-ne2 : goal.returns-then-out-ne2

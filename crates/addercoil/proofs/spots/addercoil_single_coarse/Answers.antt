@@ -6,7 +6,6 @@ use Rattle.positions.specs.declared.Size.TheVariants.{Coarse}
 use Rattle.entries.specs.Sent.{given}
 use Rattle.addercoil.specs.Spots.{single_said}
 use Rattle.entries.proofs.Ways.{into_wrong, into_given}
-use borrow.Author.Rules.{rules}
 use Rattle.addercoil.proofs.spots.addercoil_single_coarse.Goals as goal
 
 pub returns-then-out-ne2 : goal.returns-then-out-ne2

@@ -3,7 +3,6 @@ use borrow.Author.Tests.{lt-ltb, le-ltb}
 use Rattle.addercoil.specs.Spots.{pair_said}
 use Rattle.addercoil.proofs.Placed.{pair_said_lem}
 use Rattle.entries.proofs.Ways.{stopped}
-use borrow.Author.Rules.{rules}
 use Rattle.addercoil.proofs.spots.give_pair.Goals as goal
 
 pub returns-then-later_odd-gt1 : goal.returns-then-later_odd-gt1

@@ -3,7 +3,6 @@ use mir.Facts.{to_z-of_z}
 use Rattle.addercoil.specs.Spots.{single_said}
 use Rattle.addercoil.proofs.Placed.{single_said_lem}
 use Rattle.entries.proofs.Ways.{stopped}
-use borrow.Author.Rules.{rules}
 use Rattle.addercoil.proofs.spots.give_single.Goals as goal
 
 pub returns-then-surface-odd : goal.returns-then-surface-odd

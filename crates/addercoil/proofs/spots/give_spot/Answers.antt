@@ -2,7 +2,6 @@
 use mathlib.Core.Path.{refl}
 use Rattle.addercoil.specs.Spots.{spot_said}
 use Rattle.entries.proofs.Ways.{given_as, given_number}
-use borrow.Author.Rules.{rules}
 use Rattle.addercoil.proofs.spots.give_spot.Goals as goal
 
 pub returns-in-At : goal.returns-in-At

@@ -3,7 +3,6 @@ use mathlib.Core.Bool.{not}
 use mathlib.Core.Path.{ap}
 use native.Mathlib.Omega.{arith}
 use Rattle.addercoil.proofs.Stamping.{two_entries, last_fits, stamp_length, stamp_places, stamp_state, stamp_on}
-use borrow.Author.Rules.{rules}
 use Rattle.addercoil.proofs.stamped.addercoil_receive_stamp.Goals as goal
 
 pub returns-then-message-state : goal.returns-then-message-state

@@ -4,7 +4,6 @@ use mathlib.Core.Path.{ap, ap₂, ◌∙◌}
 use mathlib.Core.List.{[], ◌∷◌}
 use Rattle.entries.specs.Sent.{sent}
 use Rattle.addercoil.proofs.Stamping.{written}
-use borrow.Author.Rules.{rules}
 use Rattle.addercoil.proofs.stamped.give_noted.Goals as goal
 
 pub returns : goal.returns

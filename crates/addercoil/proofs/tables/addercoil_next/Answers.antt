@@ -2,7 +2,6 @@
 use mathlib.Core.Path.{refl}
 use Rattle.addercoil.specs.Tables.{next_said}
 use Rattle.entries.proofs.Ways.{into_wrong, into_right, into_refused}
-use borrow.Author.Rules.{rules}
 use Rattle.addercoil.proofs.tables.addercoil_next.Goals as goal
 
 pub returns-then-out-ne1 : goal.returns-then-out-ne1

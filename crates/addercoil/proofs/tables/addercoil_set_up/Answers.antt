@@ -1,7 +1,6 @@
 -- `addercoil::tables::addercoil_set_up` meets its contract: the number of what the table answers, and the table that it leaves.
 use Rattle.addercoil.specs.Tables.{set_up_number, set_up_sent}
 use Rattle.addercoil.proofs.Ways.{left_as}
-use borrow.Author.Rules.{rules}
 use Rattle.addercoil.proofs.tables.addercoil_set_up.Goals as goal
 
 pub returns : goal.returns

@@ -2,7 +2,6 @@
 use mir.Facts.{to_z-of_z}
 use Rattle.addercoil.specs.Tables.{set_up_number, set_up_sent}
 use Rattle.addercoil.proofs.Ways.{left_as}
-use borrow.Author.Rules.{rules}
 use Rattle.addercoil.proofs.tables.addercoil_set_up_at.Goals as goal
 
 pub returns : goal.returns

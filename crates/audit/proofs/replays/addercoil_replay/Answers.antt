@@ -4,7 +4,6 @@ use Rattle.whereabouts.specs.declared.Site.{Site}
 use Rattle.entries.specs.Sent.{given}
 use Rattle.audit.specs.Replays.{replay_said}
 use Rattle.entries.proofs.Ways.{into_wrong, into_given}
-use borrow.Author.Rules.{rules}
 use Rattle.audit.proofs.replays.addercoil_replay.Goals as goal
 
 pub returns-then-out-ne-TRACK : goal.returns-then-out-ne-TRACK

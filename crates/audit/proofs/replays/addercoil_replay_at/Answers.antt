@@ -1,7 +1,6 @@
 -- `audit::replays::addercoil_replay_at` meets its contract: an array of a wrong length, or what is worked out with the site.
 use mir.Facts.{to_z-of_z}
 use Rattle.entries.proofs.Ways.{into_wrong, into_given}
-use borrow.Author.Rules.{rules}
 use Rattle.audit.proofs.replays.addercoil_replay_at.Goals as goal
 
 pub returns-then-out-ne-TRACK : goal.returns-then-out-ne-TRACK

@@ -1,6 +1,5 @@
 -- `audit::replays::addercoil_replay_coarse` meets its contract: an array of a wrong length, or what is worked out.
 use Rattle.entries.proofs.Ways.{into_wrong, into_given}
-use borrow.Author.Rules.{rules}
 use Rattle.audit.proofs.replays.addercoil_replay_coarse.Goals as goal
 
 pub returns-then-out-ne-TRACK : goal.returns-then-out-ne-TRACK

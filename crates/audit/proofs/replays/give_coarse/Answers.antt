@@ -13,7 +13,6 @@ use Rattle.keys.specs.declared.Kind.TheVariants.{C}
 use Rattle.entries.specs.Sent.{given}
 use Rattle.audit.specs.Replays.{worked_out}
 use Rattle.audit.proofs.Replaying.{no_log, no_kind, worked_out_lem}
-use borrow.Author.Rules.{rules}
 use Rattle.audit.proofs.replays.give_coarse.Goals as goal
 
 narrow : (flag station : ℕ) → (leb 2 flag || leb 16 station) ≡ false → (flag < 2) × (station < 16)

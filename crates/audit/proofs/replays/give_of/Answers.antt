@@ -5,7 +5,6 @@ use Rattle.track.specs.declared.held.Looked.{Looked}
 use Rattle.track_rows.specs.Held.{looked_said}
 use Rattle.entries.specs.Sent.{given}
 use Rattle.audit.specs.Replays.{worked_out}
-use borrow.Author.Rules.{rules}
 use Rattle.audit.proofs.replays.give_of.Goals as goal
 
 pub returns : goal.returns

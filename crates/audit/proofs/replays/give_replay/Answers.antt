@@ -6,7 +6,6 @@ use Rattle.keys.specs.Keys.{kind_at, is_kind}
 use Rattle.entries.specs.Sent.{given}
 use Rattle.audit.specs.Replays.{worked_out}
 use Rattle.audit.proofs.Replaying.{no_log, no_kind, worked_out_lem}
-use borrow.Author.Rules.{rules}
 use Rattle.audit.proofs.replays.give_replay.Goals as goal
 
 pub returns-then-not-is_log : goal.returns-then-not-is_log

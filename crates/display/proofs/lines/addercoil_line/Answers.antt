@@ -4,7 +4,6 @@ use borrow.Author.Tests.{lt-ltb, le-ltb}
 use Rattle.display.specs.Lines.{line_buffer}
 use Rattle.display.proofs.Reported.{line_unchosen, line_said_lem}
 use Rattle.entries.proofs.Ways.{into_wrong, into_given}
-use borrow.Author.Rules.{rules}
 use Rattle.display.proofs.lines.addercoil_line.Goals as goal
 
 pub returns-then-out-ne-BUFFER : goal.returns-then-out-ne-BUFFER

@@ -1,7 +1,6 @@
 -- `display::lines::give_line` meets its contract: the buffer is filled with the bytes.
 use mathlib.Core.Path.{ap}
 use Rattle.entries.specs.Sent.{sent}
-use borrow.Author.Rules.{rules}
 use Rattle.display.proofs.lines.give_line.Goals as goal
 
 pub returns : goal.returns

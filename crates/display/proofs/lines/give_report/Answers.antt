@@ -3,7 +3,6 @@ use mathlib.Core.Path.{refl}
 use Rattle.report.specs.declared.Printed.{Printed}
 use Rattle.display.specs.Code.{printed_said}
 use Rattle.entries.proofs.Ways.{given_as, given_number}
-use borrow.Author.Rules.{rules}
 use Rattle.display.proofs.lines.give_report.Goals as goal
 
 pub returns-in-Text : goal.returns-in-Text

@@ -1,6 +1,5 @@
 -- `display::lines::no_choice` meets its contract: by the test of the table's length.
 use mathlib.Core.Path.{sym, ◌∙◌}
-use borrow.Author.Rules.{rules}
 use Rattle.display.proofs.lines.no_choice.Goals as goal
 
 pub returns-then-whole_places : goal.returns-then-whole_places

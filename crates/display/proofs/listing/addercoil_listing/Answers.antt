@@ -2,7 +2,6 @@
 use mathlib.Core.Path.{refl}
 use borrow.Author.Tests.{lt-ltb, le-ltb}
 use Rattle.display.proofs.Handing.{not_one, not_chosen, text_handed, number_handed}
-use borrow.Author.Rules.{rules}
 use Rattle.display.proofs.listing.addercoil_listing.Goals as goal
 
 pub returns-then-written-ne1 : goal.returns-then-written-ne1

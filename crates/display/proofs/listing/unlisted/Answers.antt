@@ -1,6 +1,5 @@
 -- `display::listing::unlisted` meets its contract: by the test of the lengths.
 use mathlib.Core.Path.{sym, ◌∙◌}
-use borrow.Author.Rules.{rules}
 use Rattle.display.proofs.listing.unlisted.Goals as goal
 
 pub returns-then-has_room : goal.returns-then-has_room

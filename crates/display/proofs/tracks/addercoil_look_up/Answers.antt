@@ -2,7 +2,6 @@
 use mathlib.Core.Path.{refl}
 use Rattle.track_rows.specs.Held.{looked_said}
 use Rattle.entries.proofs.Ways.{into_wrong, into_right}
-use borrow.Author.Rules.{rules}
 use Rattle.display.proofs.tracks.addercoil_look_up.Goals as goal
 
 pub returns-then-out-ne-TRACK : goal.returns-then-out-ne-TRACK

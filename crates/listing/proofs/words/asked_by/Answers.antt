@@ -3,7 +3,6 @@ use mathlib.Core.Bool.{Bool, ◌&&◌}
 use mathlib.Core.Path.{sym, ap, ◌∙◌}
 use borrow.Author.Tests.{lt-ltb, le-ltb}
 use lib.Dec.{eqb}
-use borrow.Author.Rules.{rules}
 use Rattle.listing.specs.Words.{asked_by}
 use Rattle.listing.proofs.words.asked_by.Goals as goal
 

@@ -1,6 +1,5 @@
 -- `listing::words::is_all` meets its contract: by the length, and then letter by letter.
 use borrow.Author.Tests.{eq-eqb, ne_eqb}
-use borrow.Author.Rules.{rules}
 use Rattle.listing.specs.Words.{is_all}
 use Rattle.listing.proofs.words.is_all.Goals as goal
 

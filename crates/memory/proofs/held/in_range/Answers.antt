@@ -1,6 +1,5 @@
 -- `memory::held::in_range` meets its contract: its tests are the definition's.
 use Rattle.memory.specs.Ranges.{in_range}
-use borrow.Author.Rules.{rules}
 use Rattle.memory.proofs.held.in_range.Goals as goal
 
 pub returns : goal.returns

@@ -1,6 +1,5 @@
 -- `memory::held::is_held` meets its contract: its tests are the definition's.
 use Rattle.memory.specs.Ranges.{held}
-use borrow.Author.Rules.{rules}
 use Rattle.memory.proofs.held.is_held.Goals as goal
 
 pub returns : goal.returns

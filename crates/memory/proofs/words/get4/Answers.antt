@@ -1,7 +1,6 @@
 -- `memory::words::get4` meets its contract: four bytes, each times its power of 256.
 use native.Mathlib.Omega.{arith}
 use Rattle.memory.proofs.Numbers.{number_4}
-use borrow.Author.Rules.{rules}
 use Rattle.memory.proofs.words.get4.Goals as goal
 
 pub returns : goal.returns

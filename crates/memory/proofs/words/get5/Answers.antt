@@ -2,7 +2,6 @@
 use native.Mathlib.Omega.{arith}
 use Prim.Native.Nat.{◌+◌}
 use Rattle.memory.proofs.Numbers.{number_1, number_more}
-use borrow.Author.Rules.{rules}
 use Rattle.memory.proofs.words.get5.Goals as goal
 
 pub returns : goal.returns

@@ -5,7 +5,6 @@ use mathlib.Core.Path.{◌≡◌, ap, ◌∙◌}
 use Rattle.fields.specs.Bytes.{Bytes}
 use Rattle.memory.specs.Bytes.{number_at}
 use Rattle.memory.proofs.Numbers.{number_rest}
-use borrow.Author.Rules.{rules}
 use Rattle.memory.proofs.words.get7.Goals as goal
 
 pub returns : goal.returns

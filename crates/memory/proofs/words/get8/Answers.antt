@@ -1,7 +1,6 @@
 -- `memory::words::get8` meets its contract: four bytes and four more.
 use native.Mathlib.Omega.{arith}
 use Rattle.memory.proofs.Numbers.{number_more}
-use borrow.Author.Rules.{rules}
 use Rattle.memory.proofs.words.get8.Goals as goal
 
 pub returns : goal.returns

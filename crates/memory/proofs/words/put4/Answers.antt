@@ -4,7 +4,6 @@ use native.Mathlib.Omega.{arith}
 use lib.ListN.{length-set}
 use Rattle.memory.proofs.Numbers.{low_4}
 use Rattle.memory.proofs.Put.{put_same, put_4}
-use borrow.Author.Rules.{rules}
 use Rattle.memory.proofs.words.put4.Goals as goal
 
 pub bounds-s-at-2 : goal.bounds-s-at-2

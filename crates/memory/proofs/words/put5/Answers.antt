@@ -1,7 +1,6 @@
 -- `memory::words::put5` meets its contract: four bytes and one more.
 use Rattle.memory.proofs.Put.{put_1, put_more}
 use Prim.Native.Nat.{◌+◌, ◌/◌}
-use borrow.Author.Rules.{rules}
 use Rattle.memory.proofs.words.put5.Goals as goal
 
 pub returns : goal.returns

@@ -1,6 +1,5 @@
 -- `memory::words::put7` meets its contract: four bytes, and four from the last of them on.
 use Rattle.memory.proofs.Put.{put_7}
-use borrow.Author.Rules.{rules}
 use Rattle.memory.proofs.words.put7.Goals as goal
 
 pub returns : goal.returns

@@ -1,6 +1,5 @@
 -- `memory::words::put8` meets its contract: four bytes and four more.
 use Rattle.memory.proofs.Put.{put_more}
-use borrow.Author.Rules.{rules}
 use Rattle.memory.proofs.words.put8.Goals as goal
 
 pub returns : goal.returns

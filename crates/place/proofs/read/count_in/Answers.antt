@@ -1,5 +1,4 @@
 -- `place::read::count_in` meets its contract: its test is that of the size.
-use borrow.Author.Rules.{rules}
 use Rattle.place.proofs.read.count_in.Goals as goal
 
 pub returns-then-coarse : goal.returns-then-coarse

@@ -1,6 +1,5 @@
 -- `place::read::groups_in` meets its contract: each field is the definition's.
 use Rattle.place.specs.Place.{groups_in}
-use borrow.Author.Rules.{rules}
 use Rattle.place.proofs.read.groups_in.Goals as goal
 
 pub returns : goal.returns

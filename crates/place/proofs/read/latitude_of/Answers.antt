@@ -2,7 +2,6 @@
 use mir.Facts.{to_z-of_z}
 use mir.Syntax.{w32}
 use Rattle.place.specs.Place.{lowered}
-use borrow.Author.Rules.{rules}
 use Rattle.place.proofs.read.latitude_of.Goals as goal
 
 pub returns : goal.returns

@@ -1,6 +1,5 @@
 -- `place::read::load` meets its contract: what is written, as it is meant.
 use Rattle.place.specs.Place.{track_of}
-use borrow.Author.Rules.{rules}
 use Rattle.place.proofs.read.load.Goals as goal
 
 pub returns : goal.returns

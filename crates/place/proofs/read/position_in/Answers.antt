@@ -2,7 +2,6 @@
 use mir.Facts.{to_z-of_z}
 use mir.Syntax.{w32}
 use Rattle.place.specs.Place.{position_in}
-use borrow.Author.Rules.{rules}
 use Rattle.place.proofs.read.position_in.Goals as goal
 
 pub returns : goal.returns

@@ -1,5 +1,4 @@
 -- `place::read::saved_at` meets its contract: the two numbers are the definition's.
-use borrow.Author.Rules.{rules}
 use Rattle.place.proofs.read.saved_at.Goals as goal
 
 pub returns : goal.returns

@@ -1,6 +1,5 @@
 -- `place::read::saved_from` meets its contract: each field is the definition's.
 use Rattle.place.specs.Place.{saved_from}
-use borrow.Author.Rules.{rules}
 use Rattle.place.proofs.read.saved_from.Goals as goal
 
 pub returns : goal.returns

@@ -1,6 +1,5 @@
 -- `place::read::written_in` meets its contract: each field is the definition's.
 use Rattle.place.specs.Place.{written_in}
-use borrow.Author.Rules.{rules}
 use Rattle.place.proofs.read.written_in.Goals as goal
 
 pub returns : goal.returns

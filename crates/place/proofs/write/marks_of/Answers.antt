@@ -1,6 +1,5 @@
 -- `place::write::marks_of` meets its contract: the sum is the definition's.
 use Rattle.place.specs.Place.{marks_of}
-use borrow.Author.Rules.{rules}
 use Rattle.place.proofs.write.marks_of.Goals as goal
 
 pub returns : goal.returns

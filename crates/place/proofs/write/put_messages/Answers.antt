@@ -3,7 +3,6 @@ use native.Mathlib.Omega.{arith}
 use Rattle.place.specs.Place.{message_bytes}
 use Rattle.memory.specs.Bytes.{low_bytes}
 use Rattle.memory.proofs.Put.{put_8_then, put_8_after}
-use borrow.Author.Rules.{rules}
 use Rattle.place.proofs.write.put_messages.Goals as goal
 
 pub returns : goal.returns

@@ -4,7 +4,6 @@ use Rattle.memory.specs.Bytes.{low_bytes}
 use Rattle.place.specs.Place.{saved_bytes}
 use Rattle.memory.proofs.Numbers.{low_length}
 use Rattle.memory.proofs.Put.{put_then, put_same}
-use borrow.Author.Rules.{rules}
 use Rattle.place.proofs.write.put_saved.Goals as goal
 
 pub returns : goal.returns

@@ -7,7 +7,6 @@ use Rattle.memory.specs.Bytes.{low_bytes}
 use Rattle.place.specs.Place.{above_pole, spot_bytes}
 use Rattle.memory.proofs.Numbers.{low_length, low_cut}
 use Rattle.memory.proofs.Put.{put_then, put_after, put_same}
-use borrow.Author.Rules.{rules}
 use Rattle.place.proofs.write.put_spot.Goals as goal
 
 pub returns : goal.returns

@@ -1,6 +1,5 @@
 -- `place::write::saved_number` meets its contract: the sum is the definition's.
 use Rattle.place.specs.Place.{saved_number}
-use borrow.Author.Rules.{rules}
 use Rattle.place.proofs.write.saved_number.Goals as goal
 
 pub returns : goal.returns

@@ -7,7 +7,6 @@ use Rattle.place.specs.Place.{body_of}
 use Rattle.memory.proofs.Numbers.{low_length}
 use Rattle.memory.proofs.Put.{put_then, put_after, put_same}
 use Rattle.place.proofs.Sizes.{saved_length, message_length, spot_length}
-use borrow.Author.Rules.{rules}
 use Rattle.place.proofs.write.store.Goals as goal
 
 pub returns : goal.returns

@@ -3,7 +3,6 @@ use mathlib.Core.Path.{sym, ◌∙◌}
 use borrow.Author.Tests.{lt-ltb, eq-eqb, ne_eqb}
 use Rattle.slice_places.specs.Arrivals.{judged}
 use Rattle.slice_places.proofs.Judged.{judged_on}
-use borrow.Author.Rules.{rules}
 use Rattle.slice_places.proofs.arrivals.judge.Goals as goal
 
 pub returns-then-message-ne14 : goal.returns-then-message-ne14

@@ -1,5 +1,4 @@
 -- `slice_places::arrivals::key_in` meets its contract: a message has its key.
-use borrow.Author.Rules.{rules}
 use Rattle.slice_places.proofs.arrivals.key_in.Goals as goal
 
 pub returns : goal.returns

@@ -1,6 +1,5 @@
 -- `slice_places::arrivals::next_of` meets its contract: its parts in order.
 use Rattle.slice_places.specs.Arrivals.{next_of}
-use borrow.Author.Rules.{rules}
 use Rattle.slice_places.proofs.arrivals.next_of.Goals as goal
 
 pub returns : goal.returns

@@ -1,5 +1,4 @@
 -- `slice_places::arrivals::starts_in` meets its contract: a message may start a track or not, and a refusal does not.
-use borrow.Author.Rules.{rules}
 use Rattle.slice_places.proofs.arrivals.starts_in.Goals as goal
 
 pub returns : goal.returns

@@ -1,6 +1,5 @@
 -- `slice_places::arrivals::track_in` meets its contract: its test is the definition's.
 use Rattle.slice_places.specs.Arrivals.{track_in}
-use borrow.Author.Rules.{rules}
 use Rattle.slice_places.proofs.arrivals.track_in.Goals as goal
 
 pub returns-then-has_key : goal.returns-then-has_key

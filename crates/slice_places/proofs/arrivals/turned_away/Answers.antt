@@ -1,5 +1,4 @@
 -- `slice_places::arrivals::turned_away` meets its contract: its parts in order.
-use borrow.Author.Rules.{rules}
 use Rattle.slice_places.proofs.arrivals.turned_away.Goals as goal
 
 pub returns : goal.returns

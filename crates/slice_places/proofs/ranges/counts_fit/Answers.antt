@@ -1,6 +1,5 @@
 -- `slice_places::ranges::counts_fit` meets its contract: its tests are the definition's, by the size of `count_size`.
 use Rattle.slice_places.specs.Ranges.{counts_fit}
-use borrow.Author.Rules.{rules}
 use Rattle.slice_places.proofs.ranges.counts_fit.Goals as goal
 
 pub returns : goal.returns

@@ -1,7 +1,6 @@
 -- `slice_places::ranges::has_key` meets its contract: its tests are the definition's.
 use borrow.Author.Tests.{eq-eqb, ne_eqb}
 use Rattle.rules.specs.Form.{holds}
-use borrow.Author.Rules.{rules}
 use Rattle.slice_places.proofs.ranges.has_key.Goals as goal
 
 pub returns-then-p-key : goal.returns-then-p-key

@@ -1,6 +1,5 @@
 -- `slice_places::ranges::in_range` meets its contract: its tests are the definition's.
 use Rattle.slice_places.specs.Ranges.{in_range}
-use borrow.Author.Rules.{rules}
 use Rattle.slice_places.proofs.ranges.in_range.Goals as goal
 
 pub returns : goal.returns

@@ -1,6 +1,5 @@
 -- `slice_places::ranges::track_fits` meets its contract: its tests are the definition's.
 use Rattle.slice_places.specs.Ranges.{track_fits}
-use borrow.Author.Rules.{rules}
 use Rattle.slice_places.proofs.ranges.track_fits.Goals as goal
 
 pub returns : goal.returns

@@ -1,7 +1,6 @@
 -- `slice_table::search::farther` meets its contract: its tests are the definition's.
 use native.Mathlib.Numerals.{add-one}
 use borrow.Author.Tests.{lt-ltb, le-ltb}
-use borrow.Author.Rules.{rules}
 use Rattle.slice_table.proofs.search.farther.Goals as goal
 
 pub returns-then-best-i : goal.returns-then-best-i

@@ -1,6 +1,5 @@
 -- `slice_table::search::visit` meets its contract: each of the two numbers goes further by its own test.
 use Rattle.slice_table.specs.Code.{visited}
-use borrow.Author.Rules.{rules}
 use Rattle.slice_table.proofs.search.visit.Goals as goal
 
 pub returns : goal.returns

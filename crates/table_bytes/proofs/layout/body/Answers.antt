@@ -2,7 +2,6 @@
 use native.Mathlib.Omega.{arith}
 use lib.ListN.{length-take, length-drop}
 use Rattle.table_bytes.proofs.Parts.{body_part}
-use borrow.Author.Rules.{rules}
 use Rattle.table_bytes.proofs.layout.body.Goals as goal
 
 pub returns : goal.returns

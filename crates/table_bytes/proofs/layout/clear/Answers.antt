@@ -1,8 +1,8 @@
 -- `table_bytes::layout::clear` meets its contract: what the loop has passed is 0.
-use Prim.Native.Nat.{◌-◌, ◌≤◌}
+use Prim.Native.Nat.{◌-◌}
 use native.Mathlib.Omega.{arith}
-use mathlib.Core.Path.{◌≡◌, refl}
-use lib.ListN.{length, take, replicate, length-set}
+use mathlib.Core.Path.{refl}
+use lib.ListN.{length, length-set}
 use Rattle.table_bytes.specs.Layout.{emptied}
 use Rattle.table_bytes.proofs.Parts.{clear_more, cleared}
 use borrow.Author.Rules.{rules}

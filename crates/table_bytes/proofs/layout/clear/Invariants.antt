@@ -1,11 +1,7 @@
 -- `table_bytes::layout::clear` meets its contract: what the loop has passed is 0.
 use Prim.Native.Nat.{◌-◌, ◌≤◌}
-use native.Mathlib.Omega.{arith}
-use mathlib.Core.Path.{◌≡◌, refl}
-use lib.ListN.{length, take, replicate, length-set}
-use Rattle.table_bytes.specs.Layout.{emptied}
-use Rattle.table_bytes.proofs.Parts.{clear_more, cleared}
-use borrow.Author.Rules.{rules}
+use mathlib.Core.Path.{◌≡◌}
+use lib.ListN.{length, take, replicate}
 use Rattle.table_bytes.proofs.layout.clear.Given as goal
 
 abbrev pub invariant-loop-i : goal.invariant-loop-i

@@ -9,7 +9,6 @@ use Rattle.place.specs.Place.{above_pole}
 use Rattle.memory.proofs.Numbers.{low_length}
 use Rattle.memory.proofs.Put.{put_then, put_same}
 use Rattle.place.proofs.Latitudes.{above_pole_small}
-use borrow.Author.Rules.{rules}
 use Rattle.table_bytes.proofs.layout.put_site.Goals as goal
 
 pub overflow_add-above_pole : goal.overflow_add-above_pole

@@ -6,7 +6,6 @@ use lib.Dec.{leb}
 use borrow.Author.Tests.{leb-true}
 use Rattle.fields.proofs.Bools.{and_left}
 use Rattle.table_bytes.specs.Layout.{site_from}
-use borrow.Author.Rules.{rules}
 use Rattle.table_bytes.proofs.layout.site_from.Goals as goal
 
 pub overflow_sub-n : goal.overflow_sub-n

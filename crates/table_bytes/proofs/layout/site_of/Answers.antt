@@ -1,5 +1,4 @@
 -- `table_bytes::layout::site_of` meets its contract: the two numbers are the definition's.
-use borrow.Author.Rules.{rules}
 use Rattle.table_bytes.proofs.layout.site_of.Goals as goal
 
 pub returns : goal.returns

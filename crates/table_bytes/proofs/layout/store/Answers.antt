@@ -1,6 +1,5 @@
 -- `table_bytes::layout::store` meets its contract: its two stores are the definition's.
 use Rattle.table_bytes.specs.Layout.{stored}
-use borrow.Author.Rules.{rules}
 use Rattle.table_bytes.proofs.layout.store.Goals as goal
 
 pub returns : goal.returns

@@ -1,10 +1,9 @@
 -- `table_bytes::scan::find_free` meets its contract: each place that was skipped or that the loop has passed is held.
-use Prim.Native.Nat.{◌-◌, ◌≤◌}
+use Prim.Native.Nat.{◌-◌}
 use native.Mathlib.Omega.{arith}
 use mathlib.Core.Bool.{not}
 use mathlib.Core.Path.{◌≡◌, ap, sym}
 use Rattle.table_bytes.specs.Layout.{place_at, is_held}
-use Rattle.table_bytes.specs.Scan.{lowest}
 use Rattle.table_bytes.proofs.Scanned.{lowest_none, lowest_found, none_free}
 use borrow.Author.Rules.{rules}
 use Rattle.table_bytes.proofs.scan.find_free.Goals as goal

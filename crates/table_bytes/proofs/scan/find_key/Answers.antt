@@ -1,9 +1,8 @@
 -- `table_bytes::scan::find_key` meets its contract: no place that was skipped or that the loop has passed holds the key.
-use Prim.Native.Nat.{◌-◌, ◌≤◌}
+use Prim.Native.Nat.{◌-◌}
 use native.Mathlib.Omega.{arith}
 use mathlib.Core.Path.{◌≡◌, sym}
 use Rattle.table_bytes.specs.Layout.{place_at, holds}
-use Rattle.table_bytes.specs.Scan.{lowest}
 use Rattle.table_bytes.proofs.Scanned.{lowest_none, lowest_found, skipped}
 use borrow.Author.Rules.{rules}
 use Rattle.table_bytes.proofs.scan.find_key.Goals as goal

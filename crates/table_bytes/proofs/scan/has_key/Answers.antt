@@ -1,6 +1,5 @@
 -- `table_bytes::scan::has_key` meets its contract: where the keys differ the place does not hold the key.
 use Rattle.table_bytes.proofs.Scanned.{key_yes, key_no}
-use borrow.Author.Rules.{rules}
 use Rattle.table_bytes.proofs.scan.has_key.Goals as goal
 
 pub returns-then-get4-key : goal.returns-then-get4-key

@@ -1,7 +1,6 @@
 -- `table_bytes::scan::held_4` meets its contract: each test is the definition's.
 use Rattle.table_bytes.specs.Layout.{place_at}
 use Rattle.table_bytes.proofs.Scanned.{held_4}
-use borrow.Author.Rules.{rules}
 use Rattle.table_bytes.proofs.scan.held_4.Goals as goal
 
 pub returns : goal.returns

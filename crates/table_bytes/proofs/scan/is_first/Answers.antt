@@ -1,6 +1,5 @@
 -- `table_bytes::scan::is_first` meets its contract: where the place is held it is the first if its key is found there.
 use Rattle.table_bytes.proofs.Scanned.{first_held, first_free}
-use borrow.Author.Rules.{rules}
 use Rattle.table_bytes.proofs.scan.is_first.Goals as goal
 
 pub returns-then-is_held : goal.returns-then-is_held

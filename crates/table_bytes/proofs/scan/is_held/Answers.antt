@@ -1,6 +1,5 @@
 -- `table_bytes::scan::is_held` meets its contract: the key and the body are the place's.
 use Rattle.table_bytes.proofs.Scanned.{held_as}
-use borrow.Author.Rules.{rules}
 use Rattle.table_bytes.proofs.scan.is_held.Goals as goal
 
 pub returns : goal.returns

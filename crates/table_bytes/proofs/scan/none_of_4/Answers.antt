@@ -1,7 +1,6 @@
 -- `table_bytes::scan::none_of_4` meets its contract: each test is the definition's.
 use lib.Dec.{eqb}
 use Rattle.table_bytes.proofs.Scanned.{none_4, same}
-use borrow.Author.Rules.{rules}
 use Rattle.table_bytes.proofs.scan.none_of_4.Goals as goal
 
 pub returns : goal.returns

@@ -1,9 +1,8 @@
 -- `table_bytes::scan::skip` meets its contract: no key that the loop has passed is the key.
 use mathlib.Core.Bool.{not}
 use mathlib.Core.Path.{ap}
-use Prim.Native.Nat.{◌-◌, ◌≤◌}
+use Prim.Native.Nat.{◌-◌}
 use native.Mathlib.Omega.{arith}
-use Rattle.table_bytes.specs.Code.{NoneBelow}
 use Rattle.table_bytes.proofs.Scanned.{skip_more}
 use borrow.Author.Rules.{rules}
 use Rattle.table_bytes.proofs.scan.skip.Goals as goal

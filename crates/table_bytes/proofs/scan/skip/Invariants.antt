@@ -1,9 +1,6 @@
 -- `table_bytes::scan::skip` meets its contract: no key that the loop has passed is the key.
 use Prim.Native.Nat.{◌-◌, ◌≤◌}
-use native.Mathlib.Omega.{arith}
 use Rattle.table_bytes.specs.Code.{NoneBelow}
-use Rattle.table_bytes.proofs.Scanned.{skip_more}
-use borrow.Author.Rules.{rules}
 use Rattle.table_bytes.proofs.scan.skip.Given as goal
 
 abbrev pub invariant-loop-i : goal.invariant-loop-i

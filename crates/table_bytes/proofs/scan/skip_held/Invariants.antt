@@ -1,12 +1,7 @@
 -- `table_bytes::scan::skip_held` meets its contract: each place that the loop has passed is held, and it ends at its own two tests.
 use Prim.Native.Nat.{◌-◌, ◌≤◌}
-use native.Mathlib.Omega.{arith}
-use mathlib.Core.Bool.{Bool, true, false, not, ◌&&◌}
-use mathlib.Core.Path.{◌≡◌, sym, ap₂, ◌∙◌}
-use borrow.Author.Tests.{not-true}
 use Rattle.table_bytes.specs.Layout.{place_at}
-use Rattle.table_bytes.proofs.Scanned.{HeldBelow, held_more}
-use borrow.Author.Rules.{rules}
+use Rattle.table_bytes.proofs.Scanned.{HeldBelow}
 use Rattle.table_bytes.proofs.scan.skip_held.Given as goal
 
 abbrev pub invariant-loop-i : goal.invariant-loop-i

@@ -1,7 +1,6 @@
 -- `table_bytes::scan::target_of` meets its contract: its two ways out are the definition's.
 use Rattle.table_bytes.specs.Layout.{place_at}
 use Rattle.table_bytes.proofs.Scanned.{target_held, target_free}
-use borrow.Author.Rules.{rules}
 use Rattle.table_bytes.proofs.scan.target_of.Goals as goal
 
 pub returns-then-i-n : goal.returns-then-i-n

@@ -1,11 +1,8 @@
 -- `table_bytes::walk::best_to` meets its contract: the best so far is the smallest of the places that the loop has passed.
 use Prim.Native.Nat.{◌-◌, ◌≤◌}
-use native.Mathlib.Omega.{arith}
 use mathlib.Core.Path.{◌≡◌}
-use borrow.Author.Rules.{rules}
 use Rattle.table_bytes.specs.Layout.{place_at}
 use Rattle.table_bytes.specs.Walk.{smallest}
-use Rattle.table_bytes.proofs.Scanned.{smallest_more}
 use Rattle.table_bytes.proofs.walk.best_to.Given as goal
 
 abbrev pub invariant-loop-i : goal.invariant-loop-i

@@ -1,6 +1,5 @@
 -- `table_bytes::walk::better_of` meets its contract: its tests are the definition's, the dearest last.
 use Rattle.table_bytes.proofs.Scanned.{better_yes, better_out, better_no}
-use borrow.Author.Rules.{rules}
 use Rattle.table_bytes.proofs.walk.better_of.Goals as goal
 
 pub returns-then-is_held : goal.returns-then-is_held

@@ -1,7 +1,6 @@
 -- `table_bytes::walk::is_better` meets its contract: its tests are the definition's.
 use mathlib.Core.Path.{ap}
 use Rattle.rules.specs.Search.{beats}
-use borrow.Author.Rules.{rules}
 use Rattle.table_bytes.proofs.walk.is_better.Goals as goal
 
 pub returns : goal.returns

@@ -1,7 +1,6 @@
 -- `table_bytes::walk::none_better_8` meets its contract: each test is the definition's.
 use Rattle.rules.specs.Search.{beats}
 use Rattle.table_bytes.proofs.Scanned.{none_8}
-use borrow.Author.Rules.{rules}
 use Rattle.table_bytes.proofs.walk.none_better_8.Goals as goal
 
 pub returns : goal.returns

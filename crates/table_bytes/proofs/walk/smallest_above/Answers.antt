@@ -1,10 +1,8 @@
 -- `table_bytes::walk::smallest_above` meets its contract: the best so far is the smallest of the places that the loop has passed, and 8 keys that are no better leave it as it is.
 use mathlib.Core.Bool.{not}
-use Prim.Native.Nat.{◌-◌, ◌≤◌}
-use mathlib.Core.Path.{◌≡◌, refl, ◌∙◌, ap}
+use Prim.Native.Nat.{◌-◌}
+use mathlib.Core.Path.{refl, ◌∙◌, ap}
 use borrow.Author.Rules.{rules}
-use Rattle.table_bytes.specs.Layout.{place_at}
-use Rattle.table_bytes.specs.Walk.{smallest}
 use Rattle.table_bytes.proofs.Scanned.{none_better_8}
 use Rattle.table_bytes.proofs.walk.smallest_above.Goals as goal
 use Rattle.table_bytes.proofs.walk.smallest_above.Goals.{then-not-none_better_8, else-not-none_better_8}

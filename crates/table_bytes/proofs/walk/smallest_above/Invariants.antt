@@ -1,11 +1,8 @@
 -- `table_bytes::walk::smallest_above` meets its contract: the best so far is the smallest of the places that the loop has passed, and 8 keys that are no better leave it as it is.
 use Prim.Native.Nat.{◌-◌, ◌≤◌}
-use mathlib.Core.Logic.{⊎_elim}
-use mathlib.Core.Path.{◌≡◌, refl, ◌∙◌}
-use borrow.Author.Rules.{rules}
+use mathlib.Core.Path.{◌≡◌}
 use Rattle.table_bytes.specs.Layout.{place_at}
 use Rattle.table_bytes.specs.Walk.{smallest}
-use Rattle.table_bytes.proofs.Scanned.{none_better_8}
 use Rattle.table_bytes.proofs.walk.smallest_above.Given as goal
 
 abbrev pub invariant-loop-i : goal.invariant-loop-i

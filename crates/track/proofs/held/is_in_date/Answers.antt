@@ -5,7 +5,6 @@ use mathlib.Core.Bool.{Bool, true, false}
 use native.Mathlib.Omega.{arith}
 use lib.Dec.{leb, ltb}
 use borrow.Author.Tests.{lt-ltb, le-ltb, leb-true, leb-false}
-use borrow.Author.Rules.{rules}
 use Rattle.track.proofs.held.is_in_date.Goals as goal
 
 in-date : (clock time : ℕ) → leb (clock - 124999) time ≡ ltb (clock - time) 125000

@@ -9,7 +9,6 @@ use Rattle.fields.specs.Packing.{me}
 use Rattle.fields.proofs.Bools.{each, both}
 use Rattle.track.specs.Meaning.{gives_status}
 use Rattle.track.proofs.Alike.{alike}
-use borrow.Author.Rules.{rules}
 use Rattle.track.proofs.meaning.gives_status.Goals as goal
 
 module _ (n : ℕ) where

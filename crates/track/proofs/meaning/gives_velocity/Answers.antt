@@ -11,7 +11,6 @@ use Rattle.fields.proofs.Bools.{each, either, both}
 use Rattle.layouts.specs.Velocity.{is_ground, is_air}
 use Rattle.track.specs.Meaning.{gives_velocity}
 use Rattle.track.proofs.Alike.{alike}
-use borrow.Author.Rules.{rules}
 use Rattle.track.proofs.meaning.gives_velocity.Goals as goal
 
 -- a test of TYPE 19 and of a subtype from lo to hi

@@ -1,6 +1,5 @@
 -- `track::meaning::meant` meets its contract: each part is the definition's.
 use Rattle.track.specs.Meaning.{meant}
-use borrow.Author.Rules.{rules}
 use Rattle.track.proofs.meaning.meant.Goals as goal
 
 pub returns : goal.returns

@@ -1,6 +1,5 @@
 -- `track::meaning::meant_groups` meets its contract: each field is the definition's.
 use Rattle.track.specs.Meaning.{meant_groups}
-use borrow.Author.Rules.{rules}
 use Rattle.track.proofs.meaning.meant_groups.Goals as goal
 
 pub returns : goal.returns

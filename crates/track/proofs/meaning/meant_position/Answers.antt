@@ -8,7 +8,6 @@ use lib.IntN.{pos}
 use Rattle.whereabouts.specs.declared.Position.{Position}
 use Rattle.whereabouts.specs.Located.{no_position}
 use Rattle.track.specs.Meaning.{meant_position}
-use borrow.Author.Rules.{rules}
 use Rattle.track.proofs.meaning.meant_position.Goals as goal
 
 by_values : (p : Position) (k : Bool) → p.known ≡ k

@@ -1,6 +1,5 @@
 -- `track::meaning::meant_saved` meets its contract: its test is the definition's.
 use Rattle.track.specs.Meaning.{meant_saved}
-use borrow.Author.Rules.{rules}
 use Rattle.track.proofs.meaning.meant_saved.Goals as goal
 
 pub returns-then-v : goal.returns-then-v

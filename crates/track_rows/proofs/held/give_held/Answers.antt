@@ -2,7 +2,6 @@
 use mathlib.Core.Path.{refl}
 use Rattle.track_rows.specs.Held.{held_said}
 use Rattle.entries.proofs.Ways.{given_as, given_number, given_list}
-use borrow.Author.Rules.{rules}
 use Rattle.track_rows.proofs.held.give_held.Goals as goal
 
 pub returns-in-Held : goal.returns-in-Held

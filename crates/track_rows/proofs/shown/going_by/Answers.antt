@@ -1,7 +1,6 @@
 -- `track_rows::shown::going_by` meets its contract: its test is the definition's.
 use borrow.Author.Tests.{eq-eqb, ne_eqb}
 use Rattle.track_rows.specs.Shown.{going}
-use borrow.Author.Rules.{rules}
 use Rattle.track_rows.proofs.shown.going_by.Goals as goal
 
 pub returns-then-row-eq-LAYOUT_COARSE : goal.returns-then-row-eq-LAYOUT_COARSE

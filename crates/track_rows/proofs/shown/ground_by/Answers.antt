@@ -1,7 +1,6 @@
 -- `track_rows::shown::ground_by` meets its contract: its tests are the definition's.
 use borrow.Author.Tests.{eq-eqb, ne_eqb}
 use Rattle.track_rows.specs.Shown.{on_ground}
-use borrow.Author.Rules.{rules}
 use Rattle.track_rows.proofs.shown.ground_by.Goals as goal
 
 pub returns-then-encoded : goal.returns-then-encoded

@@ -2,7 +2,6 @@
 use borrow.Author.Tests.{eq-eqb, ne_eqb}
 use Rattle.track_rows.specs.Shown.{moving}
 use Rattle.track_rows.proofs.Laid.{over_ground, through_air}
-use borrow.Author.Rules.{rules}
 use Rattle.track_rows.proofs.shown.moving_by.Goals as goal
 
 pub returns-then-row-eq-LAYOUT_GROUND : goal.returns-then-row-eq-LAYOUT_GROUND

@@ -2,7 +2,6 @@
 use mathlib.Core.Path.{ap, ◌∙◌}
 use Rattle.layouts.specs.declared.bodies.Layout.{Layout}
 use Rattle.rows.specs.Rows.{me_row}
-use borrow.Author.Rules.{rules}
 use Rattle.track_rows.proofs.shown.row_in.Goals as goal
 
 pub returns : goal.returns

@@ -3,7 +3,6 @@ use mathlib.Core.Path.{ap, ap₂, ◌∙◌}
 use mathlib.Core.Bool.{Bool, false}
 use Rattle.track_rows.specs.Shown.{row_in, named, moving, on_ground, taxiing, going, is_saved}
 use Rattle.track_rows.proofs.Laid.{shows}
-use borrow.Author.Rules.{rules}
 use Rattle.track_rows.proofs.shown.shown_values.Goals as goal
 
 pub returns : goal.returns

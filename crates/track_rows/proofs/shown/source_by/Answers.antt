@@ -1,6 +1,5 @@
 -- `track_rows::shown::source_by` meets its contract: its test is the definition's.
 use Rattle.track_rows.specs.Shown.{source}
-use borrow.Author.Rules.{rules}
 use Rattle.track_rows.proofs.shown.source_by.Goals as goal
 
 pub returns-then-traffic : goal.returns-then-traffic

@@ -1,7 +1,6 @@
 -- `track_rows::shown::taxiing_by` meets its contract: its test is the definition's.
 use borrow.Author.Tests.{eq-eqb, ne_eqb}
 use Rattle.track_rows.specs.Shown.{taxiing}
-use borrow.Author.Rules.{rules}
 use Rattle.track_rows.proofs.shown.taxiing_by.Goals as goal
 
 pub returns-then-row-eq-LAYOUT_SURFACE : goal.returns-then-row-eq-LAYOUT_SURFACE

@@ -1,7 +1,6 @@
 -- `track_rows::standard::integrity_reading` meets its contract: by the cases.
 use mathlib.Core.Path.{sym, ap, ◌∙◌}
 use Rattle.track_rows.specs.Standard.{integrity_reading}
-use borrow.Author.Rules.{rules}
 use Rattle.track_rows.proofs.standard.integrity_reading.Goals as goal
 
 pub returns-in-Unknown : goal.returns-in-Unknown

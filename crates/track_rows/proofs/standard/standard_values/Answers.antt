@@ -2,7 +2,6 @@
 use mathlib.Core.Path.{ap, ◌∙◌}
 use Rattle.track_rows.specs.Standard.{version_number, supplement_bits, integrity_reading}
 use Rattle.track_rows.proofs.Laid.{standing}
-use borrow.Author.Rules.{rules}
 use Rattle.track_rows.proofs.standard.standard_values.Goals as goal
 
 pub returns : goal.returns

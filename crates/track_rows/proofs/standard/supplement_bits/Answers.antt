@@ -1,5 +1,4 @@
 -- `track_rows::standard::supplement_bits` meets its contract: by the cases.
-use borrow.Author.Rules.{rules}
 use Rattle.track_rows.proofs.standard.supplement_bits.Goals as goal
 
 pub returns-in-Bits : goal.returns-in-Bits

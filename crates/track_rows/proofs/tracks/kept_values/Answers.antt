@@ -6,7 +6,6 @@ use mir.Facts.{to_z-of_z}
 use Rattle.entries.specs.Twos.{twos}
 use Rattle.entries.specs.Means.{altitude_reading, step_reading}
 use Rattle.track_rows.proofs.Laid.{keeps}
-use borrow.Author.Rules.{rules}
 use Rattle.track_rows.proofs.tracks.kept_values.Goals as goal
 
 pub returns : goal.returns

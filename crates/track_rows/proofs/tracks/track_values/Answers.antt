@@ -1,7 +1,6 @@
 -- `track_rows::tracks::track_values` meets its contract: three parts of the array, each filled, are the row.
 use mathlib.Core.List.{[]}
 use Rattle.track_rows.proofs.Laid.{second_within, third_within, joined}
-use borrow.Author.Rules.{rules}
 use Rattle.track_rows.proofs.tracks.track_values.Goals as goal
 
 pub slice_bounds-row-end-2 : goal.slice_bounds-row-end-2
