@@ -2,7 +2,6 @@
 use Prim.Native.Nat.{◌+◌, ◌-◌, ◌*◌}
 use native.Mathlib.Omega.{arith}
 use Rattle.feed.proofs.Ways.{block_short, block_whole}
-use borrow.Author.Rules.{rules}
 use Rattle.feed.proofs.block_at.Goals as goal
 
 pub returns-then-left-lt512 : goal.returns-then-left-lt512

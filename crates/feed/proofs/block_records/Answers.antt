@@ -1,7 +1,6 @@
 -- `feed::block_records` meets its contract: by what the block is called.
 use mathlib.Core.Path.{sym, ◌∙◌}
 use Rattle.feed.proofs.Records.{records_good, records_bad}
-use borrow.Author.Rules.{rules}
 use Rattle.feed.proofs.block_records.Goals as goal
 
 pub returns-in-Good : goal.returns-in-Good

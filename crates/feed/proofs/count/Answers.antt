@@ -1,7 +1,6 @@
 -- `feed::count` meets its contract: its three ways out are the definition's.
 use native.Mathlib.Omega.{arith}
 use Rattle.feed.proofs.Ways.{count_good, count_bad, count_most}
-use borrow.Author.Rules.{rules}
 use Rattle.feed.proofs.count.Goals as goal
 
 pub returns-then-good : goal.returns-then-good

@@ -1,7 +1,6 @@
 -- `feed::feed` meets its contract: its two ways out are the definition's.
 use mathlib.Core.Path.{sym, ◌∙◌}
 use Rattle.feed.proofs.Ways.{whole, feed_size, feed_on}
-use borrow.Author.Rules.{rules}
 use Rattle.feed.proofs.feed.Goals as goal
 
 pub returns-in_default : goal.returns-in_default

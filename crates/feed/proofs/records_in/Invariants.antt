@@ -1,10 +1,7 @@
 -- `feed::records_in` meets its contract: before each turn the records of the first k blocks have been counted.
 use Prim.Native.Nat.{◌-◌, ◌*◌, ◌≤◌}
-use mathlib.Core.Path.{◌≡◌, refl, ap, ◌∙◌}
-use native.Mathlib.Omega.{arith}
-use Rattle.feed.specs.Feed.{blocks_in, records_in}
-use Rattle.feed.proofs.Records.{records_on}
-use borrow.Author.Rules.{rules}
+use mathlib.Core.Path.{◌≡◌}
+use Rattle.feed.specs.Feed.{records_in}
 use Rattle.feed.proofs.records_in.Given as goal
 
 abbrev pub invariant-loop-k : goal.invariant-loop-k

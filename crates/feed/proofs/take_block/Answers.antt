@@ -1,7 +1,6 @@
 -- `feed::take_block` meets its contract: a block that is refused is bad and skipped, and of a good one all records are received.
 use mathlib.Core.Path.{sym, ◌∙◌}
 use Rattle.feed.proofs.Ways.{block_skipped, block_taken}
-use borrow.Author.Rules.{rules}
 use Rattle.feed.proofs.take_block.Goals as goal
 
 pub returns-in_default : goal.returns-in_default

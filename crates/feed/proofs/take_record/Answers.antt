@@ -3,7 +3,6 @@ use mathlib.Core.Path.{sym, ◌∙◌}
 use native.Mathlib.Omega.{arith}
 use Rattle.capture.proofs.Records.{inside}
 use Rattle.feed.proofs.Ways.{record_taken, none_taken}
-use borrow.Author.Rules.{rules}
 use Rattle.feed.proofs.take_record.Goals as goal
 
 pub overflow_add-end : goal.overflow_add-end

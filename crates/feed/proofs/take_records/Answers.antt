@@ -1,8 +1,6 @@
 -- `feed::take_records` meets its contract: before each turn the first i records have been received.
-use Prim.Native.Nat.{◌-◌, ◌≤◌}
 use mathlib.Core.Path.{◌≡◌, refl, ap, ◌∙◌}
 use native.Mathlib.Omega.{arith}
-use lib.ListN.{length}
 use Rattle.feed.specs.Feed.{records_into}
 use Rattle.feed.proofs.Ways.{records_on}
 use borrow.Author.Rules.{rules}

@@ -1,11 +1,8 @@
 -- `feed::take_records` meets its contract: before each turn the first i records have been received.
 use Prim.Native.Nat.{◌-◌, ◌≤◌}
-use mathlib.Core.Path.{◌≡◌, refl, ap, ◌∙◌}
-use native.Mathlib.Omega.{arith}
+use mathlib.Core.Path.{◌≡◌}
 use lib.ListN.{length}
 use Rattle.feed.specs.Feed.{records_into}
-use Rattle.feed.proofs.Ways.{records_on}
-use borrow.Author.Rules.{rules}
 use Rattle.feed.proofs.take_records.Given as goal
 
 abbrev pub invariant-loop-i : goal.invariant-loop-i

@@ -1,11 +1,11 @@
 -- `report::count` meets its contract: the places that the loop has passed and that have a row are counted.
-use Prim.Native.Nat.{ℕ, ◌-◌, ◌≤◌}
+use Prim.Native.Nat.{ℕ}
 use native.Mathlib.Omega.{arith}
 use mathlib.Core.Bool.{Bool}
 use mathlib.Core.Path.{◌≡◌, refl, ◌∙◌}
 use borrow.Author.Rules.{rules}
 use Rattle.report.specs.Code.{has_row}
-use Rattle.report.proofs.Counted.{one, sum, counted_yes, counted_no, counted_all}
+use Rattle.report.proofs.Counted.{counted_yes, counted_no, counted_all}
 use Rattle.report.proofs.count.Goals as goal
 use Rattle.report.proofs.count.Goals.{then-has_row, else-has_row}
 

@@ -1,12 +1,8 @@
 -- `report::count` meets its contract: the places that the loop has passed and that have a row are counted.
-use Prim.Native.Nat.{ℕ, ◌-◌, ◌≤◌}
-use native.Mathlib.Omega.{arith}
-use mathlib.Core.Bool.{Bool}
-use mathlib.Core.Logic.{⊎_elim}
-use mathlib.Core.Path.{◌≡◌, refl, ◌∙◌}
-use borrow.Author.Rules.{rules}
+use Prim.Native.Nat.{◌-◌, ◌≤◌}
+use mathlib.Core.Path.{◌≡◌}
 use Rattle.report.specs.Code.{has_row}
-use Rattle.report.proofs.Counted.{one, sum, counted_yes, counted_no, counted_all}
+use Rattle.report.proofs.Counted.{one, sum}
 use Rattle.report.proofs.count.Given as goal
 
 abbrev pub invariant-loop-i : goal.invariant-loop-i

@@ -1,6 +1,5 @@
 -- `report::has_row` meets its contract: its two tests are the definition's.
 use Rattle.report.proofs.Counted.{first_shown, not_first}
-use borrow.Author.Rules.{rules}
 use Rattle.report.proofs.has_row.Goals as goal
 
 pub returns-then-is_first : goal.returns-then-is_first

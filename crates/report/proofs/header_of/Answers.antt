@@ -1,7 +1,6 @@
 -- `report::header_of` meets its contract: its two ways out are the definition's, and a table that has a clock can be counted.
 use mathlib.Core.Path.{◌∙◌}
 use Rattle.report.proofs.Ways.{clock_whole, header_known, header_refused}
-use borrow.Author.Rules.{rules}
 use Rattle.report.proofs.header_of.Goals as goal
 
 pub count-requires : goal.count-requires

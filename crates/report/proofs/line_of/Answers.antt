@@ -1,7 +1,6 @@
 -- `report::line_of` meets its contract: its three ways out are the definition's.
 use mathlib.Core.Path.{◌∙◌}
 use Rattle.report.proofs.Ways.{line_held, line_unheld, line_refused}
-use borrow.Author.Rules.{rules}
 use Rattle.report.proofs.line_of.Goals as goal
 
 pub returns-in-Held : goal.returns-in-Held

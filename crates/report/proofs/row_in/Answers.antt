@@ -2,7 +2,6 @@
 use mathlib.Core.Path.{ap, ◌∙◌}
 use Rattle.track.specs.declared.held.Looked.{Looked}
 use Rattle.report.specs.Listing.{row_of}
-use borrow.Author.Rules.{rules}
 use Rattle.report.proofs.row_in.Goals as goal
 
 pub returns : goal.returns

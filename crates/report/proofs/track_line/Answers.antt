@@ -1,7 +1,6 @@
 -- `report::track_line` meets its contract: by the test.
 use mathlib.Core.Path.{sym, ◌∙◌}
 use Rattle.report.proofs.Ways.{track_shown, track_hidden}
-use borrow.Author.Rules.{rules}
 use Rattle.report.proofs.track_line.Goals as goal
 
 pub returns-then-is_shown : goal.returns-then-is_shown

@@ -1,5 +1,4 @@
 -- `report::without` meets its contract: it holds the answer beside an empty line.
-use borrow.Author.Rules.{rules}
 use Rattle.report.proofs.without.Goals as goal
 
 pub returns : goal.returns

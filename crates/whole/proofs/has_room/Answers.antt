@@ -1,6 +1,5 @@
 -- `whole::has_room` meets its contract: the tests are the definition's, the buffer's length divided.
 use Rattle.whole.proofs.Steps.{room_is}
-use borrow.Author.Rules.{rules}
 use Rattle.whole.proofs.has_room.Goals as goal
 
 pub returns : goal.returns

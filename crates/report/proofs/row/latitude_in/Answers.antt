@@ -1,5 +1,4 @@
 -- `report::row::latitude_in` meets its contract: by the test, and 32 bits with a sign fit 64.
-use native.Mathlib.Omega.{arith}
 use borrow.Author.Rules.{rules}
 use mir.Val.{SFits}
 use mir.Syntax.{w32, w64}

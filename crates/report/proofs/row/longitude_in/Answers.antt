@@ -2,7 +2,6 @@
 use native.Mathlib.Omega.{arith}
 use mir.Syntax.{w64}
 use mir.Facts.{to_z_pos}
-use borrow.Author.Rules.{rules}
 use Rattle.report.specs.Listing.{longitude_in}
 use Rattle.report.proofs.row.longitude_in.Goals as goal
 

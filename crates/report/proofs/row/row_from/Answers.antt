@@ -1,7 +1,6 @@
 -- `report::row::row_from` meets its contract: each figure is the definition's.
 use mathlib.Core.Path.{ap, ◌∙◌}
 use Rattle.report.specs.Listing.{feet, step_in}
-use borrow.Author.Rules.{rules}
 use Rattle.report.proofs.row.row_from.Goals as goal
 
 pub returns : goal.returns

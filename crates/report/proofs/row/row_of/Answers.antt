@@ -1,6 +1,5 @@
 -- `report::row::row_of` meets its contract: the values are the track's.
 use Rattle.report.specs.Listing.{row_of}
-use borrow.Author.Rules.{rules}
 use Rattle.report.proofs.row.row_of.Goals as goal
 
 pub returns : goal.returns

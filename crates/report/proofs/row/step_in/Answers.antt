@@ -4,7 +4,6 @@ use native.Mathlib.Omega.{arith}
 use mir.Syntax.{w64}
 use mir.Facts.{to_z_pos}
 use Rattle.report.specs.Listing.{step_in}
-use borrow.Author.Rules.{rules}
 use Rattle.report.proofs.row.step_in.Goals as goal
 
 pub returns-in-Feet : goal.returns-in-Feet

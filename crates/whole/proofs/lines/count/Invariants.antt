@@ -1,12 +1,8 @@
 -- `whole::lines::count` meets its contract: of the entries that the loop has passed those that are shown are counted.
-use Prim.Native.Nat.{ℕ, ◌-◌, ◌≤◌, ◌<◌}
-use native.Mathlib.Omega.{arith}
-use mathlib.Core.Logic.{⊎_elim}
-use mathlib.Core.Path.{◌≡◌, ap, ◌∙◌}
+use Prim.Native.Nat.{◌-◌, ◌≤◌}
+use mathlib.Core.Path.{◌≡◌}
 use lib.ListN.{length, take}
-use borrow.Author.Rules.{rules}
 use Rattle.whole.specs.Code.{rows_at}
-use Rattle.whole.proofs.Steps.{counted_start, counted_yes, counted_no}
 use Rattle.whole.proofs.lines.count.Given as goal
 
 abbrev pub invariant-loop-j : goal.invariant-loop-j

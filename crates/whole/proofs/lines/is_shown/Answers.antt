@@ -1,6 +1,5 @@
 -- `whole::lines::is_shown` meets its contract: the mark that is read is that of the position.
 use Rattle.whole.proofs.Steps.{shown_read}
-use borrow.Author.Rules.{rules}
 use Rattle.whole.proofs.lines.is_shown.Goals as goal
 
 pub returns : goal.returns

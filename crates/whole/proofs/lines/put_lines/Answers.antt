@@ -1,12 +1,11 @@
 -- `whole::lines::put_lines` meets its contract: the lines of the entries that the loop has passed stand behind the text.
-use Prim.Native.Nat.{ℕ, ◌+◌, ◌*◌, ◌-◌, ◌≤◌, ◌<◌}
+use Prim.Native.Nat.{ℕ, ◌<◌}
 use native.Mathlib.Omega.{arith}
-use mathlib.Core.Path.{◌≡◌, refl, ap, ◌∙◌}
+use mathlib.Core.Path.{◌≡◌, refl, ap}
 use lib.ListN.{length, take}
 use borrow.Author.Rules.{rules}
-use Rattle.text.specs.Lines.{line_room}
 use Rattle.report.specs.Listing.{texts}
-use Rattle.whole.specs.Code.{rows_at, Added}
+use Rattle.whole.specs.Code.{rows_at}
 use Rattle.whole.proofs.Buffer.{added_none, added_as, added_then}
 use Rattle.whole.proofs.Steps.{texts_start, texts_step}
 use Rattle.whole.proofs.lines.put_lines.Goals as goal

@@ -6,7 +6,6 @@ use Rattle.text.proofs.Fits.{header_most}
 use Rattle.whole.specs.Code.{rows_at}
 use Rattle.whole.proofs.Buffer.{put_none, put_line, line_len, line_bytes}
 use Rattle.whole.proofs.Ways.{put_both}
-use borrow.Author.Rules.{rules}
 use Rattle.whole.proofs.lines.put_listing.Goals as goal
 
 pub put_line-at-requires : goal.put_line-at-requires

@@ -5,7 +5,6 @@ use Rattle.order.specs.Sorted.{key_of}
 use Rattle.table_bytes.specs.Layout.{body_at}
 use Rattle.whole.specs.Code.{place_of}
 use Rattle.whole.proofs.Steps.{row_read}
-use borrow.Author.Rules.{rules}
 use Rattle.whole.proofs.lines.row_at.Goals as goal
 
 pub returns : goal.returns

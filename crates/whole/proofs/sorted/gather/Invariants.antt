@@ -1,13 +1,9 @@
 -- `whole::sorted::gather` meets its contract: the entries of the places that the loop has passed stand at the front.
-use Prim.Native.Nat.{ℕ, ◌-◌, ◌≤◌, ◌<◌}
-use native.Mathlib.Omega.{arith}
-use mathlib.Core.Logic.{⊎_elim}
-use mathlib.Core.Path.{◌≡◌, ap, ◌∙◌}
-use lib.ListN.{length, length-set}
-use borrow.Author.Rules.{rules}
+use Prim.Native.Nat.{◌-◌, ◌≤◌}
+use mathlib.Core.Path.{◌≡◌}
+use lib.ListN.{length}
 use Rattle.order.specs.Sorted.{over}
 use Rattle.whole.specs.Whole.{entries_of}
-use Rattle.whole.proofs.Steps.{gathered_start, gathered_one, gathered_none}
 use Rattle.whole.proofs.sorted.gather.Given as goal
 
 abbrev pub invariant-loop-i : goal.invariant-loop-i

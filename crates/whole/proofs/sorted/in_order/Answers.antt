@@ -1,6 +1,5 @@
 -- `whole::sorted::in_order` meets its contract: what is gathered is sorted, and of each key the first is kept.
 use Rattle.whole.proofs.Steps.{sorted_all}
-use borrow.Author.Rules.{rules}
 use Rattle.whole.proofs.sorted.in_order.Goals as goal
 
 pub returns : goal.returns
