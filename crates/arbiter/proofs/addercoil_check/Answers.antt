@@ -2,7 +2,6 @@
 use mathlib.Core.Path.{refl}
 use Rattle.entries.proofs.Ways.{into_wrong, into_right, into_refused}
 use Rattle.arbiter.specs.Checks.{check_said}
-use borrow.Author.Rules.{rules}
 use Rattle.arbiter.proofs.addercoil_check.Goals as goal
 
 pub returns-then-out-ne1 : goal.returns-then-out-ne1

@@ -3,7 +3,6 @@ use mathlib.Core.Path.{ap}
 use mathlib.Core.Bool.{not}
 use Rattle.agree.proofs.Shown.{line_holds}
 use Rattle.compare.proofs.Ways.{header_is, header_differs, header_same, within}
-use borrow.Author.Rules.{rules}
 use Rattle.compare.proofs.against.Goals as goal
 
 pub slice_bounds-same-end : goal.slice_bounds-same-end

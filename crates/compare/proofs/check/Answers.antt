@@ -2,7 +2,6 @@
 use mathlib.Core.Path.{ap}
 use mathlib.Core.Bool.{not}
 use Rattle.compare.proofs.Ways.{too_many, out_of_form, both_taken}
-use borrow.Author.Rules.{rules}
 use Rattle.compare.proofs.check.Goals as goal
 
 pub returns-then-records_in-gt2900 : goal.returns-then-records_in-gt2900

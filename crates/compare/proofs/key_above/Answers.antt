@@ -1,7 +1,6 @@
 -- `compare::key_above` meets its contract: by the answer.
 use mathlib.Core.Path.{sym, ap, ◌∙◌}
 use Rattle.report.specs.Code.{key_or_limit}
-use borrow.Author.Rules.{rules}
 use Rattle.compare.proofs.key_above.Goals as goal
 
 pub returns-in-Key : goal.returns-in-Key

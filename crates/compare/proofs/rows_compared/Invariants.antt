@@ -1,23 +1,16 @@
 -- `compare::rows_compared` meets its contract: the lines passed agree with the rows passed, so the answer is that of the rest.
-use Prim.Native.Nat.{ℕ, ◌+◌, ◌-◌, ◌≤◌, ◌<◌}
-use mathlib.Core.Path.{◌≡◌, refl, sym, ap, ◌∙◌}
-use mathlib.Core.Bool.{true, false}
-use mathlib.Core.List.{List, ◌++◌}
+use Prim.Native.Nat.{◌+◌, ◌-◌, ◌≤◌, ◌<◌}
+use mathlib.Core.Path.{◌≡◌}
+use mathlib.Core.Bool.{true}
 use mathlib.Core.Option.{some}
-use native.Mathlib.Omega.{arith}
 use lib.ListN.{length}
 use Rattle.keys.specs.Keys.{end_of_keys}
 use Rattle.track.specs.declared.Track.{Track}
-use Rattle.text.specs.Lines.{newline}
 use Rattle.table.specs.View.{view}
 use Rattle.report.specs.Listing.{rows_in}
-use Rattle.form.specs.Scan.{lines_from, LineTo}
-use Rattle.form.proofs.Walking.{no_line, some_line}
-use Rattle.agree.specs.Near.{agrees_of}
+use Rattle.form.specs.Scan.{lines_from}
 use Rattle.compare.specs.Compared.{compared}
 use Rattle.compare.specs.Code.{rows_left}
-use Rattle.compare.proofs.Walking.{Next, next_key, first_key, left_end, left_row, both_end, missing, surplus, differs, goes_on}
-use borrow.Author.Rules.{rules}
 use Rattle.compare.proofs.rows_compared.Given as goal
 
 abbrev pub invariant-loop-key : goal.invariant-loop-key

@@ -3,7 +3,6 @@ use mathlib.Core.Path.{sym, ap, ◌∙◌}
 use Rattle.table.specs.Table.{after}
 use Rattle.feed.specs.declared.Fed.{Fed}
 use Rattle.compare.proofs.Ways.{not_refused, whole_fed, verdict_by}
-use borrow.Author.Rules.{rules}
 use Rattle.compare.proofs.verdict.Goals as goal
 
 pub against-requires : goal.against-requires
