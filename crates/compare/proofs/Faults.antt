@@ -1,6 +1,6 @@
 -- Yes exactly if the lines are as many as our rows and each agrees; the line named is the first that breaks it; our own lines get yes. By induction over the lines.
 -- Assumes nothing.
-use Prim.Native.Nat.{ℕ, suc, ◌+◌}
+use Prim.Native.Nat.{ℕ, suc}
 use native.Mathlib.Omega.{arith}
 use mathlib.Core.Path.{◌≡◌, refl, sym, ap, ◌∙◌}
 use mathlib.Core.Bool.{Bool, true, false, cond}

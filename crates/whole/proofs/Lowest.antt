@@ -1,25 +1,23 @@
 -- The entries of the lowest places are those of the keys held, in order: the keys of both rise and are the same, so they are one list; and the place of each is the one that the view of its key is read from.
 -- Assumes nothing.
-use Prim.Native.Nat.{ℕ, zero, suc, ◌≤◌, ◌<◌, ◌^◌}
+use Prim.Native.Nat.{ℕ, zero, suc, ◌≤◌, ◌<◌}
 use native.Mathlib.Omega.{arith}
-use mathlib.Core.Bool.{Bool, true, false, cond, ◌&&◌}
+use mathlib.Core.Bool.{Bool, true, false, cond}
 use mathlib.Core.List.{List, [], ◌∷◌, ◌++◌}
 use mathlib.Core.Logic.{◌⊎◌, inl, inr, ⊎_elim}
 use mathlib.Core.Option.{some, none}
 use mathlib.Core.Path.{◌≡◌, refl, sym, ap, ap₂, ◌∙◌}
 use lib.Dec.{eqb, ltb}
-use lib.ListN.{length}
-use borrow.Author.Tests.{lt-ltb, eqb-true, eqb-false}
+use borrow.Author.Tests.{lt-ltb, eqb-true}
 use Rattle.fields.proofs.Bools.{and_left, and_right}
 use Rattle.order.specs.Sorted.{entry_of, key_of}
 use Rattle.order.specs.Facts.{All, Has, Strict, Rises}
 use Rattle.order.proofs.Cases.{equal, order}
 use Rattle.order.proofs.Meaning.{all_has, each_key_once, none_made, lowest_kept}
 use Rattle.order.proofs.Joined.{joined}
-use Rattle.keys.specs.Keys.{end_of_keys}
 use Rattle.keys.proofs.Laws.{before_end}
 use Rattle.memory.specs.Offsets.{places_in}
-use Rattle.rules.specs.Form.{Cell, is_held, holds}
+use Rattle.rules.specs.Form.{is_held, holds}
 use Rattle.rules.specs.Search.{lowest}
 use Rattle.rules.specs.View.{track_in, view_at}
 use Rattle.rules.proofs.Search.{clash, lowest_passes, none_lower}
@@ -31,7 +29,7 @@ use Rattle.report.specs.Listing.{row_for, as_list, keys_in, rows_of, rows_in}
 use Rattle.report.proofs.Held.{held_is_key}
 use Rattle.report.proofs.Gathered.{own_key, keys_rise, keys_held_lem, held_keys}
 use Rattle.whole.specs.Whole.{entries_of, lowest_of}
-use Rattle.whole.specs.Code.{place_of, track_at, row_at, rows_at, Within}
+use Rattle.whole.specs.Code.{place_of, track_at, rows_at, Within}
 
 -- ---- what lists have
 

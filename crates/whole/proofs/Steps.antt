@@ -1,6 +1,6 @@
 -- The steps of the loops, and what each function gives, over plain variables: a place more, an entry more, and the lengths.
 -- Assumes nothing.
-use Prim.Native.Nat.{ℕ, zero, suc, ◌+◌, ◌*◌, ◌/◌, ◌%◌, ◌≤◌, ◌<◌}
+use Prim.Native.Nat.{ℕ, zero, suc, ◌+◌, ◌*◌, ◌/◌, ◌%◌, ◌<◌}
 use native.Mathlib.Omega.{arith}
 use native.Mathlib.Nat.{add-zero}
 use native.Mathlib.Numerals.{add-one}
@@ -10,7 +10,7 @@ use mathlib.Core.Path.{◌≡◌, refl, sym, ap, ap₂, ◌∙◌}
 use lib.Dec.{eqb}
 use lib.IntN.{pos}
 use lib.ListN.{length, take, drop, set, get_or, length-append, length-take}
-use lib.Seq.{take_at, take-suc, get_or-take, drop_at, take-append_seam, drop-append_seam}
+use lib.Seq.{take-suc, get_or-take, take-append_seam, drop-append_seam}
 use borrow.Author.Tests.{eqb-true, eqb-false}
 use Rattle.order.specs.Sorted.{rising, sorted, firsts, over, entry_of, key_of}
 use Rattle.order.specs.Facts.{All}

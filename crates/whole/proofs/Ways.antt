@@ -2,9 +2,9 @@
 -- Assumes nothing.
 use Prim.Native.Nat.{ℕ, ◌+◌, ◌*◌, ◌≤◌}
 use native.Mathlib.Omega.{arith}
-use mathlib.Core.Bool.{Bool, true, false, cond, not, ◌&&◌}
-use mathlib.Core.List.{List, [], ◌++◌}
-use mathlib.Core.Path.{◌≡◌, refl, sym, ap, ap₂, ◌∙◌}
+use mathlib.Core.Bool.{Bool, true, false, not, ◌&&◌}
+use mathlib.Core.List.{List, []}
+use mathlib.Core.Path.{◌≡◌, sym, ap, ap₂, ◌∙◌}
 use lib.Dec.{eqb}
 use lib.ListN.{length, take, replicate, length-replicate}
 use borrow.Author.Tests.{eqb-true, not-true, not-false}
@@ -15,10 +15,9 @@ use Rattle.table_bytes.specs.Layout.{clock_of, emptied}
 use Rattle.text.specs.declared.Row.{Row}
 use Rattle.text.specs.Lines.{line_room, header_text}
 use Rattle.entries.specs.Arrays.{filled}
-use Rattle.report.specs.Listing.{rows_in, texts, header_for, listing}
-use Rattle.whole.specs.declared.Listed.{Listed}
+use Rattle.report.specs.Listing.{texts, header_for, listing}
 use Rattle.whole.specs.declared.Listed.TheVariants.{Bytes, Refused}
-use Rattle.whole.specs.Whole.{room_for, lowest_of, order_after, Left, left, listed}
+use Rattle.whole.specs.Whole.{room_for, lowest_of, order_after, left, listed}
 use Rattle.whole.specs.Code.{rows_at, listing_of, Inside, Put, Added}
 use Rattle.whole.proofs.Buffer.{put_filled}
 use Rattle.whole.proofs.Lowest.{rows_are, all_within}

@@ -1,5 +1,4 @@
 -- `feed::records_in` meets its contract: before each turn the records of the first k blocks have been counted.
-use Prim.Native.Nat.{◌-◌}
 use mathlib.Core.Path.{◌≡◌, refl, ap, ◌∙◌}
 use native.Mathlib.Omega.{arith}
 use Rattle.feed.specs.Feed.{blocks_in, records_in}

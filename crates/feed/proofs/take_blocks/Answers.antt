@@ -1,5 +1,4 @@
 -- `feed::take_blocks` meets its contract: before each turn the first k blocks have been taken, and their bad ones counted.
-use Prim.Native.Nat.{◌-◌}
 use mathlib.Core.Path.{◌≡◌, refl, ap, ◌∙◌}
 use native.Mathlib.Omega.{arith}
 use Rattle.feed.specs.Feed.{blocks_in, blocks_into, bad_in}

@@ -1,5 +1,4 @@
 -- `feed::take_records` meets its contract: before each turn the first i records have been received.
-use Prim.Native.Nat.{◌-◌}
 use mathlib.Core.Path.{◌≡◌, refl, ap, ◌∙◌}
 use native.Mathlib.Omega.{arith}
 use Rattle.feed.specs.Feed.{records_into}

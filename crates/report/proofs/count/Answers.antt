@@ -1,5 +1,5 @@
 -- `report::count` meets its contract: the places that the loop has passed and that have a row are counted.
-use Prim.Native.Nat.{ℕ, ◌-◌}
+use Prim.Native.Nat.{ℕ}
 use native.Mathlib.Omega.{arith}
 use mathlib.Core.Bool.{Bool}
 use mathlib.Core.Path.{◌≡◌, refl, ◌∙◌}

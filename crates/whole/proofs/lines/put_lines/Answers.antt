@@ -1,5 +1,5 @@
 -- `whole::lines::put_lines` meets its contract: the lines of the entries that the loop has passed stand behind the text.
-use Prim.Native.Nat.{ℕ, ◌-◌, ◌<◌}
+use Prim.Native.Nat.{ℕ, ◌<◌}
 use native.Mathlib.Omega.{arith}
 use mathlib.Core.Path.{◌≡◌, refl, ap}
 use lib.ListN.{length, take}
