@@ -74,6 +74,15 @@ NARROW_LAYOUT = "e-m:e-p:32:32-Fi8-i64:64-v128:64:128-a:0:32-n32-S64"  # of 32-b
 # A pointer and a length in 16 bytes, copied whole; and a pointer alone: as modules have them
 SLOT = "%s = alloca [16 x i8], align 8\n  store ptr %p, ptr %s, align 8\n  "
 LENT = """
+define internal { ptr, i64 } @part(ptr %p, i64 %n) {
+  %r = alloca [16 x i8], align 8
+  store ptr %p, ptr %r, align 8
+  %l = getelementptr i8, ptr %r, i64 8
+  store i64 %n, ptr %l, align 8
+  %x = load { ptr, i64 }, ptr %r, align 8
+  ret { ptr, i64 } %x
+}
+
 define internal void @lent(ptr %p, i64 %n) {
   %a = alloca ptr, align 8
   store ptr %p, ptr %a, align 8
@@ -85,6 +94,10 @@ define internal void @lent(ptr %p, i64 %n) {
   %t = alloca [16 x i8], align 8
   call void @llvm.memmove.p0.p0.i64(ptr %t, ptr %s, i64 16, i1 false)
   %y = load ptr, ptr %t, align 8
+  %b = call { ptr, i64 } @part(ptr %y, i64 %n)
+  %c = extractvalue { ptr, i64 } %b, 0
+  %d = extractvalue { ptr, i64 } %b, 1
+  store ptr %c, ptr %t, align 8
   ret void
 }
 
@@ -95,6 +108,7 @@ BY_POINTERS = [
     "%x = getelementptr { ptr, i32 }, ptr %p, i64 0, i32 1",
     "%x = alloca [2 x ptr], align 8",
     "%x = ptrtoint ptr %p to i64",
+    "%x = ptrtoaddr ptr %p to i64",
     "%x = inttoptr i64 8 to ptr",
     "%x = getelementptr ptr, ptr %p, i64 1",
     "%x = load ptr, ptr %p, align 8",
@@ -103,6 +117,13 @@ BY_POINTERS = [
     f"{SLOT}%x = getelementptr i8, ptr %s, i64 4",
     f"{SLOT}%x = getelementptr i8, ptr %s, i64 12",
     f"{SLOT}%x = load i64, ptr %s, align 8",
+    "%x = load { ptr, i64 }, ptr %p, align 8",
+    "%s = alloca [24 x i8], align 8\n  %x = load { ptr, i64 }, ptr %s, align 8",
+    "%s = alloca { ptr, i64 }, align 8",
+    "%x = getelementptr { ptr, i64 }, ptr %p, i64 1",
+    "%b = call { ptr, i64 } @part(ptr %p, i64 1)\n  store { ptr, i64 } %b, ptr %p, align 8",
+    "%s = alloca [16 x i8], align 8\n  %x = load { ptr, i64 }, ptr %s, align 8\n  %y = load i64, ptr %s, align 8",
+    "%s = alloca [16 x i8], align 8\n  %x = load { ptr, i32 }, ptr %s, align 8",
     f"{SLOT}call void @llvm.memmove.p0.p0.i64(ptr %p, ptr %s, i64 8, i1 false)",
     "%a = alloca ptr, align 8\n  call void @llvm.memmove.p0.p0.i64(ptr %a, ptr %p, i64 8, i1 false)",
     "%a = alloca ptr, align 8\n  %x = load i64, ptr %a, align 8",
