@@ -16,6 +16,8 @@ ghost use Rattle.messages.specs.Message.{decoded};
 ghost use Rattle.rows.specs.Rows.{row_size};
 ghost use Rattle.table.specs.Table.{clock_in, next_above, received, set_up, set_up_at, site_in};
 
+use positions::Size;
+
 #[unsafe(no_mangle)]
 pub extern "C" fn addercoil_feed_block(
     table: &mut [u8],
