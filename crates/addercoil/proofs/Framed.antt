@@ -1,5 +1,6 @@
 -- The row of a frame: that of its ME, with DF, CA or CF, AA and the key set before it, is the row of the message that it says; an ME without a layout is 5.
 -- Assumes nothing.
+use Rattle.std.specs.Prelude.{Result, Ok, Err}
 use Prim.Native.Nat.{ℕ}
 use mathlib.Core.Path.{◌≡◌, refl, sym, ap, ap₂, ◌∙◌}
 use mathlib.Core.Bool.{Bool, true, false, true≢false}
@@ -16,8 +17,6 @@ use Rattle.keys.specs.Keys.{key_for}
 use Rattle.layouts.specs.declared.bodies.Body.{Body}
 use Rattle.layouts.specs.declared.bodies.Layout.{Layout}
 use Rattle.layouts.specs.declared.bodies.Layout.TheVariants as layout
-use Rattle.layouts.specs.declared.bodies.Taken.{Taken}
-use Rattle.layouts.specs.declared.bodies.Taken.TheVariants as read
 use Rattle.layouts.specs.Bodies.{layout_by, is_taken, layout_widths, taken_as, body_layout, body_fields, flag_of, station_of}
 use Rattle.layouts.proofs.BothWays.{fields_read, flag_read, station_read}
 use Rattle.messages.specs.declared.Frame.{Frame}
@@ -31,6 +30,7 @@ use Rattle.rows.proofs.Laid.{row_length}
 use Rattle.rows.proofs.Refusing.{by_layout}
 use Rattle.entries.specs.Sent.{Sent, sent, given}
 use Rattle.addercoil.specs.Messages.{message_said}
+use Rattle.refusals.specs.declared.Refusal.{Refusal}
 
 -- a row of 28 entries fills an array of 28
 pub row_given : (out row new : List ℕ) → length out ≡ 28 → length row ≡ 28 → new ≡ row → sent 0 new ≡ given out (gives row)
@@ -42,7 +42,7 @@ row_in_lem out row new h p = p ∙ chosen (eqb (length out) 28) row out (eq-eqb 
 pub me_length : (l : Layout) (n : ℕ) (traffic : Bool) → length (me_row l n traffic) ≡ 28
 me_length l n traffic = row_length l 0 0 0 0 (unpack (layout_widths l) n) (four_in (taken_as l n) traffic)
 
-not_taken : (l : Layout) (n : ℕ) → is_taken l ≡ false → taken_as l n ≡ read.Refused TypeCode
+not_taken : (l : Layout) (n : ℕ) → is_taken l ≡ false → taken_as l n ≡ Err TypeCode
 not_taken layout.Identification n e = absurd (true≢false e)
 not_taken layout.Surface n e = absurd (true≢false e)
 not_taken layout.Airborne n e = absurd (true≢false e)
@@ -59,14 +59,14 @@ module _ (f : Frame) (out : List ℕ) where
   abbrev l : Layout
   l = layout_by (frame_coarse f) n
 
-  abbrev says : Taken → Sent
+  abbrev says : Result Body Refusal → Sent
   says t = given out (message_said (with_body f.format f.control f.address t))
 
   pub frame_refused_lem : is_taken l ≡ false → sent 5 out ≡ given out (message_said (frame_says f))
   frame_refused_lem e = sym (ap says (not_taken l n e))
 
   -- the head is set before the row of ME
-  headed : (b : Body) (k : ℕ) (t : Bool) → taken_as l n ≡ read.Body b → k ≡ frame_key f → t ≡ traffic_by f.format f.control
+  headed : (b : Body) (k : ℕ) (t : Bool) → taken_as l n ≡ Ok b → k ≡ frame_key f → t ≡ traffic_by f.format f.control
       → row_of l (f.format ∷ f.control ∷ f.address ∷ k ∷ []) (unpack (layout_widths l) n) (four_in (taken_as l n) t) ≡ message_row (message_of f b)
   headed b k t e p q =
       let x : Bool = frame_coarse f in
@@ -74,7 +74,7 @@ module _ (f : Frame) (out : List ℕ) where
       let kind : frame_kind f ≡ message_kind (message_of f b) = sym (ap₂ (kind_of f.format f.control) (flag_read x n b e) (station_read x n b e)) in
       let key : k ≡ key_of (message_of f b) = p ∙ ap (λ (x : Kind). key_for x f.address) kind in
       ap₂ (λ (l : Layout) (v : List ℕ). row_of l (f.format ∷ f.control ∷ f.address ∷ k ∷ []) v (four_in (taken_as (layout_by x n) n) t)) (sym c.0) (sym c.1)
-      ∙ ap₂ (λ (x : ℕ) (y : Taken). row_of (body_layout b) (f.format ∷ f.control ∷ f.address ∷ x ∷ []) (body_fields b) (four_in y t)) key e
+      ∙ ap₂ (λ (x : ℕ) (y : Result Body Refusal). row_of (body_layout b) (f.format ∷ f.control ∷ f.address ∷ x ∷ []) (body_fields b) (four_in y t)) key e
       ∙ ap (λ (u : Bool). row_of (body_layout b) (f.format ∷ f.control ∷ f.address ∷ key_of (message_of f b) ∷ []) (body_fields b) (four_of (readings_of b u)))
       (q ∙ sym (traffic_is f.format f.control (flag_of b) (station_of b)))
 

@@ -1,5 +1,6 @@
 -- Laws of the interface: decoding then encoding gives the same 14 bytes, and encoding then decoding the same fields. Each follows from the law of the crate below.
 -- Assumes nothing.
+use Rattle.std.specs.Prelude.{Result, Ok, Err}
 use Prim.Native.Nat.{ℕ}
 use mathlib.Core.Path.{◌≡◌, refl, sym, ap, ap₂, ◌∙◌}
 use mathlib.Core.Bool.{Bool, true, false, cond, not, ◌||◌}
@@ -17,9 +18,6 @@ use Rattle.fields.specs.Bytes.{Bytes}
 use Rattle.fields.proofs.Bools.{by_test}
 use Rattle.layouts.specs.Bodies.{body_layout, body_fields}
 use Rattle.messages.specs.declared.Message.{Message}
-use Rattle.messages.specs.declared.Decoded.{Decoded}
-use Rattle.messages.specs.declared.Decoded.TheVariants as decode
-use Rattle.encoder.specs.declared.Encoded.TheVariants as encode
 use Rattle.messages.specs.Message.{decoded, key_of, message_fits}
 use Rattle.encoder.specs.Encoded.{encoded_bytes}
 use Rattle.messages.proofs.BothWays as messages
@@ -32,7 +30,8 @@ use Rattle.rows.proofs.Cutting.{filled_all}
 use Rattle.rows.proofs.Laid.{row_length}
 use Rattle.rows.proofs.ReadBack.{from_same}
 use Rattle.entries.specs.Sent.{Sent, sent, into}
-use Rattle.addercoil.specs.Messages.{message_said, encoded_number, encoded_as, encoded_from}
+use Rattle.addercoil.specs.Done.{done_number}
+use Rattle.addercoil.specs.Messages.{message_said, encoded_as, encoded_from}
 use Rattle.addercoil.proofs.Encoding.{encode_right}
 
 -- ---- a row fills its array
@@ -44,18 +43,18 @@ row_into_lem : (out : List ℕ) (m : Message) → length out ≡ 28 → into 28 
 unfolding into
 row_into_lem out m h = rw (eq-eqb _ _ h) (ap (sent 0) (ap (λ (n : ℕ). filled n (message_row m)) (h ∙ sym (message_length m)) ∙ filled_all (message_row m)))
 
-decoded_into : (s out : List ℕ) (m : Message) → length out ≡ 28 → decoded s ≡ decode.Message m → into 28 out (message_said (decoded s)) ≡ sent 0 (message_row m)
-decoded_into s out m h d = ap (λ (x : Decoded). into 28 out (message_said x)) d ∙ row_into_lem out m h
+decoded_into : (s out : List ℕ) (m : Message) → length out ≡ 28 → decoded s ≡ Ok m → into 28 out (message_said (decoded s)) ≡ sent 0 (message_row m)
+decoded_into s out m h d = ap (λ (x : Result Message Refusal). into 28 out (message_said x)) d ∙ row_into_lem out m h
 
 -- ---- an accepted message, decoded into fields and encoded from them, is the same 14 bytes
 
-pub decoded_encoded : (s fields out : List ℕ) (m : Message) → Bytes s → length fields ≡ 28 → length out ≡ 14 → decoded s ≡ decode.Message m
+pub decoded_encoded : (s fields out : List ℕ) (m : Message) → Bytes s → length fields ≡ 28 → length out ≡ 14 → decoded s ≡ Ok m
     → encoded_from (into 28 fields (message_said (decoded s))).array out ≡ sent 0 s
 decoded_encoded s fields out m h f l d =
     let g = encoder.decoded_encoded s out m h l d in
     let fit = (messages.decoded_good s m h d).0 in
     ap (λ (x : Sent). encoded_from x.array out) (decoded_into s fields m f d)
-    ∙ sym (encode_right out (message_row m) (rw (eq-eqb _ _ (message_length m), eq-eqb _ _ l)) (sym (from_row m fit)) (sym (ap₂ sent (ap encoded_number g.0) g.1)))
+    ∙ sym (encode_right out (message_row m) (rw (eq-eqb _ _ (message_length m), eq-eqb _ _ l)) (sym (from_row m fit)) (sym (ap₂ sent (ap done_number g.0) g.1)))
 
 -- ---- fields that are accepted, encoded and decoded, come back equal
 
@@ -77,7 +76,7 @@ some_number Log e = omega arith
 some_number Degrees e = omega arith
 some_number Form e = omega arith
 
-if_written : (a b : Bool) → encoded_number (cond (not a) (encode.Refused Length) (cond (not b) (encode.Refused Field) encode.Written)) ≡ 0 → (a ≡ true) × (b ≡ true)
+if_written : (a b : Bool) → done_number (cond (not a) (Err Length) (cond (not b) (Err Field) (Ok tt))) ≡ 0 → (a ≡ true) × (b ≡ true)
 if_written true true e = (refl, refl)
 if_written true false e = absurd (some_number Field e)
 if_written false b e = absurd (some_number Length e)
@@ -86,12 +85,12 @@ module _ (fields out other : List ℕ) (h : length other ≡ 28) where
   abbrev Back : Sent → Type 0
   Back x = x.number ≡ 0 → (m : Message) × (into 28 other (message_said (decoded x.array)) ≡ sent 0 (message_row m)) × Same fields m
 
-  back : (d : Decoded) → message_from fields ≡ d → Back (encoded_as out d)
-  back (decode.Message m) e n =
+  back : (d : Result Message Refusal) → message_from fields ≡ d → Back (encoded_as out d)
+  back (Ok m) e n =
       let g = if_written (eqb (length out) 14) (message_fits m) n in
-      let d : decoded (encoded_bytes m out) ≡ decode.Message m = rw (g.0, g.1) (messages.encoded_decoded m g.1) in
+      let d : decoded (encoded_bytes m out) ≡ Ok m = rw (g.0, g.1) (messages.encoded_decoded m g.1) in
       (m, decoded_into (encoded_bytes m out) other m h d, from_same fields m e)
-  back (decode.Refused r) e n = absurd (some_number r n)
+  back (Err r) e n = absurd (some_number r n)
 
   pub encoded_decoded : Back (encoded_from fields out)
   unfolding encoded_from

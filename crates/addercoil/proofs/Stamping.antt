@@ -1,5 +1,6 @@
 -- The ways out of a call with a stamp, by its tests; and that 1, 7, 2 and 13 leave the array and the table: the entries of a state are that state's again.
 -- Assumes nothing.
+use Rattle.std.specs.Prelude.{Result, Ok, Err}
 use Prim.Native.Nat.{ℕ, zero, suc, ◌^◌, ◌<◌}
 use mathlib.Core.Path.{◌≡◌, refl, sym, ap, ◌∙◌}
 use mathlib.Core.Bool.{Bool, true, false, not, ◌||◌, true≢false}
@@ -9,8 +10,6 @@ use borrow.Author.Tests.{eqb-true, leb-false, ltb-false, not-false}
 use lib.Dec.{eqb, leb, ltb}
 use lib.ListN.{length, get_or, set}
 use Rattle.fields.proofs.Bools.{by_test, neither}
-use Rattle.messages.specs.declared.Decoded.{Decoded}
-use Rattle.messages.specs.declared.Decoded.TheVariants as decode
 use Rattle.memory.specs.Offsets.{whole_places}
 use Rattle.table.specs.Bytes.{bytes}
 use Rattle.table.specs.Heard.{heard_as}
@@ -26,7 +25,9 @@ use Rattle.addercoil.specs.Blocks.{Both, both}
 use Rattle.entries.specs.Sent.{Sent, sent}
 use Rattle.addercoil.specs.Stamps.{state_in, state_row, no_state, noted_sent, noted_after, received_stamp}
 use Rattle.entries.specs.Means.{bit}
-use Rattle.addercoil.specs.Tables.{heard_number}
+use Rattle.addercoil.specs.Done.{done_number}
+use Rattle.messages.specs.declared.Message.{Message}
+use Rattle.refusals.specs.declared.Refusal.{Refusal}
 
 -- two entries, both written
 pub written : (l : List ℕ) (a b : ℕ) → length l ≡ 2 → set (set l 0 a) 1 b ≡ a ∷ b ∷ []
@@ -81,15 +82,15 @@ module _ (s m : List ℕ) (stamp : ℕ) (l : List ℕ) where
   abbrev Leaves : Both → Type 0
   Leaves x = not_accepted x.sent.number ≡ true → x ≡ both (sent x.sent.number l) s
 
-  not_accepted_lem : (d : Decoded) → not_accepted (heard_number (heard_as d)) ≡ true → is_accepted d ≡ false
-  not_accepted_lem (decode.Message n) h = absurd (true≢false (sym h))
-  not_accepted_lem (decode.Refused r) h = ap not h
+  not_accepted_lem : (d : Result Message Refusal) → not_accepted (done_number (heard_as d)) ≡ true → is_accepted d ≡ false
+  not_accepted_lem (Ok n) h = absurd (true≢false (sym h))
+  not_accepted_lem (Err r) h = ap not h
 
   stamped_leaves : stamp < 2 ^ 64 → state_row (state_in l) ≡ l → Leaves (noted_after (heard (stamped bytes s (state_in l) m stamp)))
   stamped_leaves fits e h =
-      let a : Decoded = (stamped bytes s (state_in l) m stamp).answer.answer in
+      let a : Result Message Refusal = (stamped bytes s (state_in l) m stamp).answer.answer in
       ap (λ (x : After Stamped). noted_after (heard x)) (not_accepted_leaves bytes bytes_lawful s (state_in l) m stamp fits (not_accepted_lem a h))
-      ∙ ap (λ (x : List ℕ). both (sent (heard_number (heard_as a)) x) s) e
+      ∙ ap (λ (x : List ℕ). both (sent (done_number (heard_as a)) x) s) e
 
   pub stamp_leaves : stamp < 2 ^ 64 → Leaves (received_stamp s m stamp l)
   unfolding received_stamp

@@ -1,4 +1,5 @@
 pub mod Blocks
+pub mod Done
 pub mod Figures
 pub mod Me
 pub mod Messages

@@ -1,5 +1,5 @@
 -- RULES 20.6: positions for another language: a spot as latitude and longitude, a turn and a format as 0 or 1; of fine counts or of coarse ones.
-use Rattle.std.specs.Prelude.{ℕ, cond, ◌||◌, List, [], ◌∷◌, eqb, ltb, ℤ}
+use Rattle.std.specs.Prelude.{ℕ, cond, ◌||◌, List, [], ◌∷◌, eqb, ltb, ℤ, Result, Ok, Err}
 use Rattle.refusals.specs.Numbers.{number_of}
 use Rattle.refusals.specs.Said.{Said, number, gives}
 use Rattle.entries.specs.Twos.{twos}
@@ -10,11 +10,8 @@ use Rattle.positions.specs.declared.Turn.TheVariants.{Airborne, Surface}
 use Rattle.positions.specs.declared.Format.{Format}
 use Rattle.positions.specs.declared.Format.TheVariants.{Even, Odd}
 use Rattle.positions.specs.declared.Counts.{Counts}
-use Rattle.positions.specs.declared.Encoded.{Encoded}
-use Rattle.positions.specs.declared.Encoded.TheVariants as encode
-use Rattle.positions.specs.declared.Found.{Found}
-use Rattle.positions.specs.declared.Found.TheVariants as found
 use Rattle.positions.specs.Positions.{count_size, encoded, paired, singly}
+use Rattle.refusals.specs.declared.Refusal.{Refusal}
 
 -- 0 airborne, 1 surface
 abbrev pub turn_of : ℕ → Turn
@@ -28,17 +25,17 @@ abbrev pub as_counts : ℕ → ℕ → Counts
 as_counts latitude longitude = record { latitude = record { 0 = latitude }; longitude = record { 0 = longitude } }
 
 -- the latitude count, the longitude count
-abbrev pub counts_said : Encoded → Said (List ℕ)
-counts_said (encode.As c) = gives (c.latitude.0 ∷ c.longitude.0 ∷ [])
-counts_said (encode.Refused r) = number (number_of r)
+abbrev pub counts_said : Result Counts Refusal → Said (List ℕ)
+counts_said (Ok c) = gives (c.latitude.0 ∷ c.longitude.0 ∷ [])
+counts_said (Err r) = number (number_of r)
 
 -- the latitude, the longitude
 abbrev pub spot_values : Spot → Said (List ℕ)
 spot_values s = gives (twos s.latitude ∷ s.longitude ∷ [])
 
-abbrev pub spot_said : Found → Said (List ℕ)
-spot_said (found.At s) = spot_values s
-spot_said (found.Refused r) = number (number_of r)
+abbrev pub spot_said : Result Spot Refusal → Said (List ℕ)
+spot_said (Ok s) = spot_values s
+spot_said (Err r) = number (number_of r)
 
 -- 8 for a turn or a format that is neither 0 nor 1, or for the latitude
 unfoldable pub encode_said : Size → ℤ → ℕ → ℕ → ℕ → Said (List ℕ)

@@ -10,7 +10,7 @@ use Rattle.stamps.specs.Stamps.{stamped}
 use Rattle.addercoil.specs.Blocks.{Both, both}
 use Rattle.entries.specs.Sent.{Sent, sent}
 use Rattle.entries.specs.Means.{bit}
-use Rattle.addercoil.specs.Tables.{heard_number}
+use Rattle.addercoil.specs.Done.{done_number}
 
 -- the state in the array, and back
 abbrev pub state_in : List ℕ → Stamps
@@ -25,7 +25,7 @@ no_state l = ltb 1 (get_or l 0 0) || leb (2 ^ 32) (get_or l 1 0)
 
 -- the number, and the array, of a message that was heard
 abbrev pub noted_sent : Noted → Sent
-noted_sent n = sent (heard_number n.answer) (state_row n.state)
+noted_sent n = sent (done_number n.answer) (state_row n.state)
 
 abbrev pub noted_after : After Noted → Both
 noted_after a = both (noted_sent a.answer) a.table

@@ -5,14 +5,14 @@ ghost use Rattle.entries.specs.Sent.{sent, given};
 ghost use Rattle.addercoil.specs.Blocks.{both, fed_said, fed_into};
 
 use entries::give;
-use feed::Fed;
+use refusals::Refusal;
 
-fn give_fed(out: &mut [u64], answer: Fed) -> u32
+fn give_fed(out: &mut [u64], answer: Result<u64, Refusal>) -> u32
     ensures { sent result out.new ≡ given out.old (fed_said answer) }
 {
     match answer {
-        Fed::Bad(n) => give(out, &[n]),
-        Fed::Refused(r) => refusals::number(r),
+        Ok(n) => give(out, &[n]),
+        Err(r) => refusals::number(r),
     }
 }
 

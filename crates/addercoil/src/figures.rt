@@ -4,20 +4,21 @@ ghost use Rattle.entries.specs.Sent.{sent, into};
 ghost use Rattle.addercoil.specs.Figures.{plotted, figures_in, degrees_plotted, from_degrees_said};
 
 use crate::spots::give_spot;
-use degrees::{Degrees, InDegrees};
+use degrees::Degrees;
 use positions::Spot;
+use refusals::Refusal;
 
-fn give_figures(out: &mut [f64], answer: InDegrees) -> u32
+fn give_figures(out: &mut [f64], answer: Result<Degrees, Refusal>) -> u32
     requires { length out.old ≡ 2 }
     ensures { plotted result out.new ≡ figures_in out.old answer }
 {
     match answer {
-        InDegrees::Degrees(d) => {
+        Ok(d) => {
             out[0] = d.latitude;
             out[1] = d.longitude;
             0
         }
-        InDegrees::Refused(r) => refusals::number(r),
+        Err(r) => refusals::number(r),
     }
 }
 
@@ -29,8 +30,8 @@ pub fn addercoil_degrees(latitude: i32, longitude: u32, out: &mut [f64]) -> u32
         return 1;
     }
     let spot = Spot {
-        latitude: latitude,
-        longitude: longitude,
+        latitude,
+        longitude,
     };
     give_figures(out, degrees::to_degrees(spot))
 }
@@ -43,8 +44,8 @@ pub fn addercoil_from_degrees(latitude: f64, longitude: f64, out: &mut [u64]) ->
         return 1;
     }
     let d = Degrees {
-        latitude: latitude,
-        longitude: longitude,
+        latitude,
+        longitude,
     };
     give_spot(out, degrees::from_degrees(d))
 }

@@ -2,6 +2,7 @@
 #![tactic(auto)]
 
 pub mod blocks;
+mod done;
 pub mod figures;
 pub mod me;
 pub mod numbers;

@@ -4,10 +4,11 @@ ghost use Rattle.messages.specs.Message.{decoded};
 ghost use Rattle.messages.specs.Accepted.{frame_says, decoded_by};
 ghost use Rattle.entries.specs.Sent.{sent, given, into};
 ghost use Rattle.rows.specs.Rows.{row_size};
-ghost use Rattle.addercoil.specs.Messages.{message_said, encoded_number, encoded_as, encoded_from};
+ghost use Rattle.addercoil.specs.Messages.{message_said, encoded_as, encoded_from};
 
-use encoder::Encoded;
-use messages::{Accepted, Decoded, Frame};
+use crate::done::done_number;
+use messages::{Frame, Message};
+use refusals::Refusal;
 
 fn give_frame(out: &mut [u64], f: Frame) -> u32
     requires { length out.old ≡ row_size }
@@ -25,13 +26,13 @@ fn give_frame(out: &mut [u64], f: Frame) -> u32
     0
 }
 
-fn give_message(out: &mut [u64], answer: Accepted) -> u32
+fn give_message(out: &mut [u64], answer: Result<Frame, Refusal>) -> u32
     requires { length out.old ≡ row_size }
     ensures { sent result out.new ≡ given out.old (message_said (decoded_by answer)) }
 {
     match answer {
-        Accepted::Frame(f) => give_frame(out, f),
-        Accepted::Refused(r) => refusals::number(r),
+        Ok(f) => give_frame(out, f),
+        Err(r) => refusals::number(r),
     }
 }
 
@@ -45,21 +46,12 @@ pub fn addercoil_decode(message: &[u8], fields: &mut [u64]) -> u32
     give_message(fields, messages::frame_in(message))
 }
 
-fn encoded_number(answer: Encoded) -> u32
-    ensures { result ≡ encoded_number answer }
-{
-    match answer {
-        Encoded::Written => 0,
-        Encoded::Refused(r) => refusals::number(r),
-    }
-}
-
-fn encode_into(out: &mut [u8], answer: Decoded) -> u32
+fn encode_into(out: &mut [u8], answer: Result<Message, Refusal>) -> u32
     ensures { sent result out.new ≡ encoded_as out.old answer }
 {
     match answer {
-        Decoded::Message(m) => encoded_number(encoder::encode(m, out)),
-        Decoded::Refused(r) => refusals::number(r),
+        Ok(m) => done_number(encoder::encode(m, out)),
+        Err(r) => refusals::number(r),
     }
 }
 

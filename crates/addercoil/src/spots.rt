@@ -5,7 +5,8 @@ ghost use Rattle.addercoil.specs.Spots.{turn_of, format_of, as_counts, counts_sa
 
 use counts::{LatitudeCount, LongitudeCount};
 use entries::give;
-use positions::{Counts, Encoded, Format, Found, Size, Spot, Turn};
+use positions::{Counts, Format, Size, Spot, Turn};
+use refusals::Refusal;
 
 fn turn_of(surface: u32) -> Turn
     ensures { result ≡ turn_of surface }
@@ -23,12 +24,12 @@ fn format_of(odd: u32) -> Format
     if odd == 0 { Format::Even } else { Format::Odd }
 }
 
-fn give_counts(out: &mut [u64], answer: Encoded) -> u32
+fn give_counts(out: &mut [u64], answer: Result<Counts, Refusal>) -> u32
     ensures { sent result out.new ≡ given out.old (counts_said answer) }
 {
     match answer {
-        Encoded::As(c) => give(out, &[c.latitude.0 as u64, c.longitude.0 as u64]),
-        Encoded::Refused(r) => refusals::number(r),
+        Ok(c) => give(out, &[c.latitude.0 as u64, c.longitude.0 as u64]),
+        Err(r) => refusals::number(r),
     }
 }
 
@@ -40,12 +41,12 @@ fn give_at(out: &mut [u64], spot: Spot) -> u32
     give(out, &[latitude, longitude])
 }
 
-pub(crate) fn give_spot(out: &mut [u64], answer: Found) -> u32
+pub(crate) fn give_spot(out: &mut [u64], answer: Result<Spot, Refusal>) -> u32
     ensures { sent result out.new ≡ given out.old (spot_said answer) }
 {
     match answer {
-        Found::At(spot) => give_at(out, spot),
-        Found::Refused(r) => refusals::number(r),
+        Ok(spot) => give_at(out, spot),
+        Err(r) => refusals::number(r),
     }
 }
 
@@ -63,8 +64,8 @@ fn give_encoded(
         return 8;
     }
     let spot = Spot {
-        latitude: latitude,
-        longitude: longitude,
+        latitude,
+        longitude,
     };
     let answer = positions::encode(size, spot, turn_of(surface), format_of(odd));
     give_counts(out, answer)
@@ -94,8 +95,8 @@ fn give_single(
         return 8;
     }
     let reference = Spot {
-        latitude: latitude,
-        longitude: longitude,
+        latitude,
+        longitude,
     };
     let answer = positions::single(size, reference, counts, turn_of(surface), format_of(odd));
     give_spot(out, answer)

@@ -4,7 +4,7 @@ ghost use Rattle.addercoil.specs.Blocks.{both};
 ghost use Rattle.entries.specs.Sent.{sent};
 ghost use Rattle.addercoil.specs.Stamps.{noted_sent, received_stamp};
 
-use crate::tables::heard_number;
+use crate::done::done_number;
 use entries::bit;
 use stamps::{Noted, Stamps};
 
@@ -15,8 +15,7 @@ fn give_noted(state: &mut [u64], noted: Noted) -> u32
     let next = noted.state;
     state[0] = bit(next.started);
     state[1] = next.last as u64;
-    let answer = noted.answer;
-    heard_number(answer)
+    done_number(noted.answer)
 }
 
 // A message received with a stamp, with the state in 2 entries: whether one has been accepted, and the last. Or 1, 7, 8, 2 or 13, 3, 4, 5, then 6 or 12, in that order.

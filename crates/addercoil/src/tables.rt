@@ -2,11 +2,12 @@
 ghost use Rattle.std.specs.Prelude.{◌≡◌};
 ghost use Rattle.table.specs.Table.{set_up, set_up_at, received, next_above, clock_in, site_in};
 ghost use Rattle.entries.specs.Sent.{sent, given, into};
-ghost use Rattle.addercoil.specs.Tables.{bytes_for, set_up_number, set_up_sent, heard_number, received_sent, clock_said, site_values, site_said, next_said};
+ghost use Rattle.addercoil.specs.Tables.{bytes_for, set_up_sent, received_sent, clock_said, site_values, site_said, next_said};
 
+use crate::done::done_number;
 use entries::{bit, give};
 use positions::Spot;
-use rules::{Clock, Heard, NextKey, SetUp, Sited};
+use refusals::Refusal;
 use whereabouts::Site;
 
 // How many bytes a table of so many places has: lend just as many. 0 if there is no such table.
@@ -20,20 +21,11 @@ pub fn addercoil_table_bytes(places: usize) -> usize
     }
 }
 
-fn set_up_number(answer: SetUp) -> u32
-    ensures { result ≡ set_up_number answer }
-{
-    match answer {
-        SetUp::Done => 0,
-        SetUp::Refused(r) => refusals::number(r),
-    }
-}
-
 // Empties the table: no track, no site, clock 0. Or 7.
 pub fn addercoil_set_up(table: &mut [u8]) -> u32
     ensures { sent result table.new ≡ set_up_sent (set_up table.old) }
 {
-    set_up_number(table::set_up(table))
+    done_number(table::set_up(table))
 }
 
 // Empties the table and takes the site. Or 7, then 8.
@@ -41,26 +33,17 @@ pub fn addercoil_set_up_at(table: &mut [u8], latitude: i32, longitude: u32) -> u
     ensures { sent result table.new ≡ set_up_sent (set_up_at table.old (record { latitude = latitude; longitude = longitude })) }
 {
     let site = Spot {
-        latitude: latitude,
-        longitude: longitude,
+        latitude,
+        longitude,
     };
-    set_up_number(table::set_up_at(table, site))
-}
-
-pub(crate) fn heard_number(answer: Heard) -> u32
-    ensures { result ≡ heard_number answer }
-{
-    match answer {
-        Heard::Done => 0,
-        Heard::Refused(r) => refusals::number(r),
-    }
+    done_number(table::set_up_at(table, site))
 }
 
 // A message received at a time. Or 1, 7, 2, 3, 4, 5, then 6 or 12, in that order.
 pub fn addercoil_receive(table: &mut [u8], message: &[u8], time: u64) -> u32
     ensures { sent result table.new ≡ received_sent (received table.old message.now time) }
 {
-    heard_number(table::hear(table, message, time))
+    done_number(table::hear(table, message, time))
 }
 
 // The clock, into 1 entry. Or 1, then 7.
@@ -70,10 +53,9 @@ pub fn addercoil_clock(table: &[u8], out: &mut [u64]) -> u32
     if out.len() != 1 {
         return 1;
     }
-    let clock = table::clock_of(table);
-    match clock {
-        Clock::At(time) => give(out, &[time]),
-        Clock::Refused(r) => refusals::number(r),
+    match table::clock_of(table) {
+        Ok(time) => give(out, &[time]),
+        Err(r) => refusals::number(r),
     }
 }
 
@@ -93,10 +75,9 @@ pub fn addercoil_site(table: &[u8], out: &mut [u64]) -> u32
     if out.len() != 3 {
         return 1;
     }
-    let answer = table::site_of(table);
-    match answer {
-        Sited::Site(site) => give_site(out, site),
-        Sited::Refused(r) => refusals::number(r),
+    match table::site_of(table) {
+        Ok(site) => give_site(out, site),
+        Err(r) => refusals::number(r),
     }
 }
 
@@ -107,10 +88,9 @@ pub fn addercoil_next(table: &[u8], key: u32, out: &mut [u64]) -> u32
     if out.len() != 1 {
         return 1;
     }
-    let next = table::next(table, key);
-    match next {
-        NextKey::Key(found) => give(out, &[found as u64]),
-        NextKey::End => give(out, &[0]),
-        NextKey::Refused(r) => refusals::number(r),
+    match table::next(table, key) {
+        Ok(Some(found)) => give(out, &[found as u64]),
+        Ok(None) => give(out, &[0]),
+        Err(r) => refusals::number(r),
     }
 }

@@ -1,16 +1,12 @@
 -- RULES 14.4 and 14.5: when a line of another listing agrees with a row of ours: it is the row's line with a latitude and a longitude within one unit, around the circle for longitude; "-" only with "-"; every other column is equal.
-use Rattle.std.specs.Prelude.{ℕ, ◌+◌, ◌%◌, ◌<◌, ◌≡◌, ◌⊎◌, Bool, cond, ◌||◌, List, ℤ, pos, ◌+ℤ◌, ◌-ℤ◌}
+use Rattle.std.specs.Prelude.{ℕ, ◌+◌, ◌%◌, ◌<◌, ◌≡◌, ◌⊎◌, Bool, cond, ◌||◌, List, ℤ, pos, ◌+ℤ◌, ◌-ℤ◌, Option, Some, None}
 use Rattle.std.specs.Int.Signed.{lt_z}
-use Rattle.text.specs.declared.Figure.{Figure}
-use Rattle.text.specs.declared.Figure.TheVariants.{Unknown, Known}
 use Rattle.text.specs.declared.Row.{Row}
 use Rattle.text.specs.Lines.{row_text}
 use Rattle.form.specs.Form.{same}
-use Rattle.agree.specs.declared.Way.{Way}
-use Rattle.agree.specs.declared.Way.TheVariants.{North, South, East, West}
 
 -- a row of ours at another place
-abbrev pub placed : Row → Figure → Figure → Row
+abbrev pub placed : Row → Option ℤ → Option ℤ → Row
 placed r y x = record { key = r.key; heard = r.heard; latitude = y; longitude = x; altitude = r.altitude; step = r.step }
 
 -- ---- in the words of RULES 14.4
@@ -19,21 +15,21 @@ placed r y x = record { key = r.key; heard = r.heard; latitude = y; longitude = 
 abbrev pub UnitApart : ℤ → ℤ → Type 0
 UnitApart a b = (a ≡ b) ⊎ ((a ≡ b +ℤ pos 1) ⊎ (a ≡ b -ℤ pos 1))
 
-pub data Latitudes : Figure → Figure → Type 0 where
-  no_latitude : Latitudes Unknown Unknown
-  latitude_within : {a b : ℤ} → UnitApart a b → Latitudes (Known a) (Known b)
+pub data Latitudes : Option ℤ → Option ℤ → Type 0 where
+  no_latitude : Latitudes None None
+  latitude_within : {a b : ℤ} → UnitApart a b → Latitudes (Some a) (Some b)
 
 -- equal, or one unit apart on a circle of 2^32, and below 2^32
 abbrev pub CircleApart : ℕ → ℕ → Type 0
 CircleApart a b = (a < 4294967296) × ((a ≡ b) ⊎ ((a ≡ (b + 1) % 4294967296) ⊎ ((a + 1) % 4294967296 ≡ b)))
 
-pub data Longitudes : Figure → Figure → Type 0 where
-  no_longitude : Longitudes Unknown Unknown
-  longitude_within : {a b : ℕ} → CircleApart a b → Longitudes (Known (pos a)) (Known (pos b))
+pub data Longitudes : Option ℤ → Option ℤ → Type 0 where
+  no_longitude : Longitudes None None
+  longitude_within : {a b : ℕ} → CircleApart a b → Longitudes (Some (pos a)) (Some (pos b))
 
 pub record Agrees (line : List ℕ) (r : Row) : Type 0 where
-  pub latitude : Figure
-  pub longitude : Figure
+  pub latitude : Option ℤ
+  pub longitude : Option ℤ
   pub north : Latitudes latitude r.latitude
   pub east : Longitudes longitude r.longitude
   pub text : line ≡ row_text (placed r latitude longitude)
@@ -54,21 +50,16 @@ east z = cond (lt_z z (pos 4294967295)) (up z) (pos 0)
 abbrev pub west : ℤ → ℤ
 west z = cond (lt_z (pos 0) z) (down z) (pos 4294967295)
 
-abbrev pub stepped : Way → ℤ → ℤ
-stepped North z = up z
-stepped South z = down z
-stepped East z = east z
-stepped West z = west z
+-- a figure's neighbour: what is unknown has none but itself
+abbrev pub moved : (ℤ → ℤ) → Option ℤ → Option ℤ
+moved step None = None
+moved step (Some z) = Some (step z)
 
-abbrev pub moved : Way → Figure → Figure
-moved way Unknown = Unknown
-moved way (Known z) = Known (stepped way z)
-
-unfoldable pub shows : List ℕ → Row → Figure → Figure → Bool
+unfoldable pub shows : List ℕ → Row → Option ℤ → Option ℤ → Bool
 shows line r y x = same line (row_text (placed r y x))
 
-unfoldable pub along : List ℕ → Row → Figure → Bool
-along line r y = shows line r y (moved West r.longitude) || shows line r y r.longitude || shows line r y (moved East r.longitude)
+unfoldable pub along : List ℕ → Row → Option ℤ → Bool
+along line r y = shows line r y (moved west r.longitude) || shows line r y r.longitude || shows line r y (moved east r.longitude)
 
 unfoldable pub agrees_of : List ℕ → Row → Bool
-agrees_of line r = along line r (moved South r.latitude) || along line r r.latitude || along line r (moved North r.latitude)
+agrees_of line r = along line r (moved down r.latitude) || along line r r.latitude || along line r (moved up r.latitude)

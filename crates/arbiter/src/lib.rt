@@ -6,8 +6,6 @@ ghost use Rattle.compare.specs.Compared.{checked};
 ghost use Rattle.entries.specs.Sent.{sent, into};
 ghost use Rattle.arbiter.specs.Checks.{check_said};
 
-use compare::Checked;
-
 // 0 for yes, else the first line at fault, into 1 entry. Or 1, then 14, then 16.
 pub fn addercoil_check(capture: &[u8], listing: &[u8], out: &mut [u64]) -> u32
     ensures { sent result out.new ≡ into 1 out.old (check_said (checked capture.now listing.now)) }
@@ -15,10 +13,9 @@ pub fn addercoil_check(capture: &[u8], listing: &[u8], out: &mut [u64]) -> u32
     if out.len() != 1 {
         return 1;
     }
-    let answer = compare::check(capture, listing);
-    match answer {
-        Checked::Yes => entries::give(out, &[0]),
-        Checked::Fault(line) => entries::give(out, &[line]),
-        Checked::Refused(r) => refusals::number(r),
+    match compare::check(capture, listing) {
+        Ok(None) => entries::give(out, &[0]),
+        Ok(Some(line)) => entries::give(out, &[line]),
+        Err(r) => refusals::number(r),
     }
 }

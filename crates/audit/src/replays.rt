@@ -13,9 +13,7 @@ fn give_of(out: &mut [u64], log: &[u8], kind: Kind, address: u32, site: Site) ->
     ensures { sent result out.new ≡ given out.old (worked_out log.now kind address site) }
 {
     let looked = replay::replay(log, kind, address, site);
-    let answer = looked.answer;
-    let track = looked.track;
-    track_rows::give_held(out, keys::key_for(kind, address), track, answer)
+    track_rows::give_held(out, keys::key_for(kind, address), looked)
 }
 
 fn give_replay(out: &mut [u64], log: &[u8], kind: u32, address: u32, site: Site) -> u32
@@ -67,13 +65,12 @@ pub fn addercoil_replay_at(
     if out.len() != track_rows::TRACK {
         return 1;
     }
-    let spot = Spot {
-        latitude: latitude,
-        longitude: longitude,
-    };
     let site = Site {
         known: true,
-        spot: spot,
+        spot: Spot {
+            latitude,
+            longitude,
+        },
     };
     give_replay(out, log, kind, address, site)
 }

@@ -1,8 +1,8 @@
 -- `side_by_side` is not empty, and each of its premises is needed; `roomy_fleet` is not empty. By runs of a few calls in tables of one place and of two, computed. Every number below is one that C gets.
 -- Assumes nothing.
+use Rattle.std.specs.Prelude.{None}
 use Prim.Native.Nat.{ℕ, ◌≤◌}
 use mathlib.Core.Bool.{false, cond, true≢false}
-use mathlib.Core.Option.{none}
 use mathlib.Core.Path.{◌≡◌, refl, ap, sym, ◌∙◌}
 use mathlib.Core.List.{List, [], ◌∷◌}
 use native.Mathlib.Omega.{arith}
@@ -80,14 +80,14 @@ never_in_stream = (
 never_in_deal : Never6 key its_deal (backs 1 its_deal)
 never_in_deal = ((λ _ e. zero_not_six seen.in_both.1 e), ((λ p _. true≢false (sym p ∙ own_others.0)), tt))
 
-pub not_empty : (p : Run none stream (backs 2 stream)) × ((q : Run none its_deal (backs 1 its_deal)) × SameSide key stream its_deal (backs 2 stream) (backs 1 its_deal) (left_of p) (left_of q))
+pub not_empty : (p : Run None stream (backs 2 stream)) × ((q : Run None its_deal (backs 1 its_deal)) × SameSide key stream its_deal (backs 2 stream) (backs 1 its_deal) (left_of p) (left_of q))
 not_empty =
     let p = run_of 2 computed.done.1 stream in
     let q = run_of 1 computed.done.0 its_deal in (
       p,
       (
         q,
-        side_by_side key none stream its_deal _ _ p q
+        side_by_side key None stream its_deal _ _ p q
             (record { calls = rw (own_calls_lem.0, own_calls_lem.2, own_calls_lem.3, own_others.0); clock = refl }) never_in_stream never_in_deal,
       ),
     )
@@ -104,7 +104,7 @@ both_among : Among both_keys stream
 unfolding remainder remainder_from reduce opened kind_of
 both_among = (refl, (refl, (refl, tt)))
 
-pub its_table : TableOf which 0 none stream both_keys
+pub its_table : TableOf which 0 None stream both_keys
 unfolding set_up_sent remainder remainder_from reduce opened kind_of
 its_table =
     record {
@@ -122,7 +122,7 @@ its_table =
       room = let e : 1 ≤ 1 = omega arith in e;
     }
 
-pub other_table : TableOf which 1 none stream both_keys
+pub other_table : TableOf which 1 None stream both_keys
 unfolding set_up_sent remainder remainder_from reduce opened kind_of
 other_table =
     record {
@@ -140,8 +140,8 @@ other_table =
       room = let e : 1 ≤ 1 = omega arith in e;
     }
 
-pub two_in_one_place_each : AsSingle which none stream both_keys key its_table × AsSingle which none stream both_keys 0x1123456 other_table
-two_in_one_place_each = (roomy_fleet which none stream both_keys both_among key its_table, roomy_fleet which none stream both_keys both_among 0x1123456 other_table)
+pub two_in_one_place_each : AsSingle which None stream both_keys key its_table × AsSingle which None stream both_keys 0x1123456 other_table
+two_in_one_place_each = (roomy_fleet which None stream both_keys both_among key its_table, roomy_fleet which None stream both_keys both_among 0x1123456 other_table)
 
 -- ---- each premise is needed
 
@@ -154,7 +154,7 @@ differ table other a b same =
     omega arith
 
 -- the latest time: a table that is read without a tick still shows a track that is out of date
-pub clock_needed : ((cs ds : List Call) (xs ys : List Sent) (p : Run none cs xs) (q : Run none ds ys) → timely key 0 cs ≡ timely key 0 ds
+pub clock_needed : ((cs ds : List Call) (xs ys : List Sent) (p : Run None cs xs) (q : Run None ds ys) → timely key 0 cs ≡ timely key 0 ds
     → Never6 key cs xs → Never6 key ds ys → SameTrack key (left_of p) (left_of q)) → ⊥
 clock_needed h =
     differ _ _ seen.no_tick.2 seen.no_tick.3
@@ -163,7 +163,7 @@ clock_needed h =
     ((λ _ e. zero_not_six seen.no_tick.1 e), tt))
 
 -- that late calls are left out: one that is late in the stream is not late in a table that is behind
-pub order_needed : ((cs ds : List Call) (xs ys : List Sent) (p : Run none cs xs) (q : Run none ds ys) → own_calls key cs ≡ own_calls key ds → latest 0 cs ≡ latest 0 ds
+pub order_needed : ((cs ds : List Call) (xs ys : List Sent) (p : Run None cs xs) (q : Run None ds ys) → own_calls key cs ≡ own_calls key ds → latest 0 cs ≡ latest 0 ds
     → Never6 key cs xs → Never6 key ds ys → SameTrack key (left_of p) (left_of q)) → ⊥
 order_needed h =
     differ _ _ seen.late_in_one.1 seen.in_both.3
@@ -173,7 +173,7 @@ order_needed h =
     never_in_deal)
 
 -- that 6 is excepted: a table of one place has none left for the aircraft
-pub six_excepted : ((cs ds : List Call) (xs ys : List Sent) (p : Run none cs xs) (q : Run none ds ys) → Sparse key cs ds → SameTrack key (left_of p) (left_of q)) → ⊥
+pub six_excepted : ((cs ds : List Call) (xs ys : List Sent) (p : Run None cs xs) (q : Run None ds ys) → Sparse key cs ds → SameTrack key (left_of p) (left_of q)) → ⊥
 six_excepted h =
     differ _ _ seen.full seen.in_both.3
     (h stream its_deal _ _ (run_of 1 computed.done.0 stream) (run_of 1 computed.done.0 its_deal)

@@ -1,8 +1,8 @@
 -- The listings of a fleet, of the calls from C: what is printed of a table is the listing of the definition, and what the table holds of a key is what the single table holds, or nothing.
 -- Assumes nothing.
+use Rattle.std.specs.Prelude.{Option, None}
 use Prim.Native.Nat.{ℕ}
 use mathlib.Core.Bool.{cond}
-use mathlib.Core.Option.{Option, none}
 use mathlib.Core.Path.{◌≡◌, ap, ap₂, ◌∙◌}
 use mathlib.Core.List.{List}
 use lib.Dec.{eqb}
@@ -29,7 +29,7 @@ use Rattle.c_fleet.proofs.Rows.{Rising, rising_held, held_with, all_rows}
 pub rows_left_lem : (which : ℕ → ℕ) (i : ℕ) (site : Option Site) (stream : List Call) (keys : List ℕ) → Among keys stream → (table : TableOf which i site stream keys) (all : ℕ)
     → rows_of bytes (chosen all) (left_of table.run) ≡ rows_for which i (rows_of_all site keys stream all)
 rows_left_lem which i site stream keys among table all =
-    held_same (chosen all) (view (left_of table.run)) (λ key. cond (eqb (which key) i) (rules-view.view wide (single site keys stream) key) none)
+    held_same (chosen all) (view (left_of table.run)) (λ key. cond (eqb (which key) i) (rules-view.view wide (single site keys stream) key) None)
     (held_left which i site stream keys among table) end_of_keys
     ∙ held_with (chosen all) (λ key. eqb (which key) i) (rules-view.view wide (single site keys stream)) end_of_keys
 

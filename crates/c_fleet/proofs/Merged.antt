@@ -1,9 +1,9 @@
 -- The listings of a fleet merged, of the calls from C: after k tables the text is the listing of the rows whose keys go to the first k, and the next table adds its own.
 -- Assumes nothing.
+use Rattle.std.specs.Prelude.{Ok, Option}
 use Prim.Native.Nat.{ℕ, zero, suc, ◌+◌, ◌^◌, ◌≤◌, ◌<◌}
 use native.Mathlib.Omega.{arith}
 use mathlib.Core.Bool.{Bool, true, false, not, ◌&&◌}
-use mathlib.Core.Option.{Option}
 use mathlib.Core.Path.{◌≡◌, refl, ap, ap₂, sym, ◌∙◌, subst}
 use mathlib.Core.List.{List, [], ◌∷◌}
 use lib.Dec.{eqb, ltb}
@@ -13,7 +13,6 @@ use Rattle.fields.proofs.Bools.{by_test, and_left}
 use Rattle.keys.specs.Keys.{end_of_keys}
 use Rattle.entries.specs.Arrays.{filled}
 use Rattle.text.specs.declared.Row.{Row}
-use Rattle.rules.specs.declared.answers.SetUp.TheVariants.{Done}
 use Rattle.rules.specs.Rules.{set_up}
 use Rattle.rules.specs.View as rules-view
 use Rattle.merge.specs.Merged.{mergeable, merged}
@@ -154,7 +153,7 @@ few_keys : (k : ℕ) → k ≤ end_of_keys → k < 2 ^ 64
 few_keys k h = omega arith
 
 module _ (which : ℕ → ℕ) (n : ℕ) (site : Option Site) (stream : List Call) (keys : List ℕ) (all : ℕ) (bad : ℕ → ℕ) (texts : ℕ → List ℕ) (p : Printed which n site stream keys all bad texts) where
-  done : (set_up wide (roomy (length keys)) (site_of site)).answer ≡ Done
+  done : (set_up wide (roomy (length keys)) (site_of site)).answer ≡ Ok tt
   done = single_done which (which 0) site stream keys p.among (p.tables (which 0) (p.inside 0))
 
   fits : clock_of_all site keys stream < 2 ^ 64

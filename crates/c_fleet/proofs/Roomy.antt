@@ -1,18 +1,14 @@
 -- A table of a fleet with room, of the calls from C: its run is one that the rules played, and the theorem over the rules of any form carries over.
 -- Assumes nothing.
+use Rattle.std.specs.Prelude.{Ok, Option, None, Result}
 use Prim.Native.Nat.{ℕ}
 use mathlib.Core.Bool.{cond}
-use mathlib.Core.Option.{Option, none}
 use mathlib.Core.Path.{◌≡◌, refl, ap, sym, ◌∙◌}
 use mathlib.Core.List.{List, map}
 use lib.Dec.{eqb}
 use lib.ListN.{length}
 use Rattle.entries.specs.Sent.{into}
-use Rattle.track.specs.declared.held.Looked.{Looked}
 use Rattle.track_rows.specs.Held.{looked_said}
-use Rattle.rules.specs.declared.answers.Clock as declared
-use Rattle.rules.specs.declared.answers.SetUp.TheVariants.{Done}
-use Rattle.rules.specs.declared.answers.Clock.TheVariants as clock
 use Rattle.rules.specs.Rules as rules
 use Rattle.rules.specs.View as rules-view
 use Rattle.table_bytes.specs.Layout.{clock_of}
@@ -35,6 +31,8 @@ use Rattle.c_promises.proofs.Timed.{clock_is}
 use Rattle.c_fleet.specs.Sides.{number_in}
 use Rattle.c_fleet.specs.Roomy.{single_begun, single, TableOf, RoomyFleet}
 use Rattle.c_fleet.proofs.Sides.{returned_is, left_is, clock_said_lem}
+use Rattle.refusals.specs.declared.Refusal.{Refusal}
+use Rattle.track.specs.declared.Track.{Track}
 
 -- ---- what the run leaves, by the rules
 
@@ -42,7 +40,7 @@ module _ (which : ℕ → ℕ) (i : ℕ) (site : Option Site) (stream : List Cal
   abbrev lent : List ℕ
   lent = table.run.table
 
-  pub single_done : (rules.set_up wide (roomy (length keys)) (site_of site)).answer ≡ Done
+  pub single_done : (rules.set_up wide (roomy (length keys)) (site_of site)).answer ≡ Ok tt
   single_done = one_done bytes bytes_lawful which i (site_of site) (east site) lent (run_done site table.run) stream table.last table.tick keys among table.room
 
   pub clock_left : clock_of (left_of table.run) ≡ wide.clock (single site keys stream)
@@ -50,7 +48,7 @@ module _ (which : ℕ → ℕ) (i : ℕ) (site : Option Site) (stream : List Cal
       ap clock_of (left_is site table.run)
       ∙ table_clock bytes bytes_lawful which i (site_of site) (east site) lent (run_done site table.run) stream table.last table.tick keys among table.room
 
-  pub held_left : (key : ℕ) → view (left_of table.run) key ≡ cond (eqb (which key) i) (rules-view.view wide (single site keys stream) key) none
+  pub held_left : (key : ℕ) → view (left_of table.run) key ≡ cond (eqb (which key) i) (rules-view.view wide (single site keys stream) key) None
   held_left key =
       ap (λ (s : List ℕ). view s key) (left_is site table.run)
       ∙ table_holds bytes bytes_lawful which i (site_of site) (east site) lent (run_done site table.run) stream table.last table.tick keys among table.room key
@@ -67,8 +65,8 @@ roomy_fleet which site stream keys among key table =
       numbers = returned_is key 0 (by_rule site table.run) ∙ ap (map number_in) (sym same.answers);
       clock = λ out x a.
           clock_is a
-          ∙ ap (λ (z : declared.Clock). into 1 out (clock_said z)) (clock_said_lem site table.run ∙ ap clock.At (clock_left which (which key) site stream keys among table));
+          ∙ ap (λ (z : Result ℕ Refusal). into 1 out (clock_said z)) (clock_said_lem site table.run ∙ ap Ok (clock_left which (which key) site stream keys among table));
       track = λ out x a.
           look_up_is a
-          ∙ ap (λ (l : Looked). into 72 out (looked_said key l)) (ap (λ (s : List ℕ). looked_up s key) (left_is site table.run) ∙ sym same.asked);
+          ∙ ap (λ (l : Result (Option Track) Refusal). into 72 out (looked_said key l)) (ap (λ (s : List ℕ). looked_up s key) (left_is site table.run) ∙ sym same.asked);
     }

@@ -1,9 +1,9 @@
 -- Rows in the order of their keys: those of two tests that no key passes both, put together, are those that pass one of the tests. So the rows of all tables are all rows.
 -- Assumes nothing.
+use Rattle.std.specs.Prelude.{Option, Some, None}
 use Prim.Native.Nat.{ℕ, zero, suc, ◌<◌}
 use native.Mathlib.Omega.{arith}
 use mathlib.Core.Bool.{Bool, true, false, cond, true≢false, ◌&&◌, ◌||◌}
-use mathlib.Core.Option.{Option, some, none}
 use mathlib.Core.Path.{◌≡◌, refl, ap, ap₂, sym, ◌∙◌}
 use mathlib.Core.List.{List, [], ◌∷◌, ◌++◌}
 use lib.Dec.{eqb, ltb}
@@ -25,18 +25,18 @@ abbrev pub Rising : List Row → Type 0
 Rising [] = Unit {0}
 Rising (x ∷ xs) = Above x.key xs × Rising xs
 
-module _ (k : ℕ) (r : Option Row) (its : (z : Row) → r ≡ some z → z.key ≡ k) where
+module _ (k : ℕ) (r : Option Row) (its : (z : Row) → r ≡ Some z → z.key ≡ k) where
   above_one : (j : ℕ) → j < k → (q : Option Row) → r ≡ q → Above j (as_list q)
-  above_one j h none e = tt
-  above_one j h (some z) e = (omega (arith, its z e), tt)
+  above_one j h None e = tt
+  above_one j h (Some z) e = (omega (arith, its z e), tt)
 
   above_end : (j : ℕ) (xs : List Row) → j < k → Above j xs → Above j (xs ++ as_list r)
   above_end j [] h a = above_one j h r refl
   above_end j (x ∷ xs) h a = (a.0, above_end j xs h a.1)
 
   rising_one : (q : Option Row) → Rising (as_list q)
-  rising_one none = tt
-  rising_one (some z) = (tt, tt)
+  rising_one None = tt
+  rising_one (Some z) = (tt, tt)
 
   rising_end : (xs : List Row) → Below k xs → Rising xs → Rising (xs ++ as_list r)
   rising_end [] b s = rising_one r
@@ -89,17 +89,17 @@ module _ (is : ℕ → Bool) where
 -- ---- what a table holds of it all
 
 module _ (all : Bool) (is : ℕ → Bool) (one : ℕ → Option Track) where
-  row_with : (k : ℕ) → as_list (row_for all k (cond (is k) (one k) none)) ≡ rows_with is (as_list (row_for all k (one k)))
+  row_with : (k : ℕ) → as_list (row_for all k (cond (is k) (one k) None)) ≡ rows_with is (as_list (row_for all k (one k)))
   unfolding row_for
   row_with k = by_row (row_for all k (one k)) (is k) (key_of all k (one k)) refl refl
     where
-      by_row : (r : Option Row) (b : Bool) → ((z : Row) → r ≡ some z → z.key ≡ k) → is k ≡ b → row_for all k (one k) ≡ r → as_list (row_for all k (cond b (one k) none)) ≡ rows_with is (as_list r)
-      by_row none true its e h = ap as_list h
-      by_row (some z) true its e h = ap as_list h ∙ sym (ap (λ (b : Bool). cond b (z ∷ []) []) (ap is (its z refl) ∙ e))
-      by_row none false its e h = refl
-      by_row (some z) false its e h = sym (ap (λ (b : Bool). cond b (z ∷ []) []) (ap is (its z refl) ∙ e))
+      by_row : (r : Option Row) (b : Bool) → ((z : Row) → r ≡ Some z → z.key ≡ k) → is k ≡ b → row_for all k (one k) ≡ r → as_list (row_for all k (cond b (one k) None)) ≡ rows_with is (as_list r)
+      by_row None true its e h = ap as_list h
+      by_row (Some z) true its e h = ap as_list h ∙ sym (ap (λ (b : Bool). cond b (z ∷ []) []) (ap is (its z refl) ∙ e))
+      by_row None false its e h = refl
+      by_row (Some z) false its e h = sym (ap (λ (b : Bool). cond b (z ∷ []) []) (ap is (its z refl) ∙ e))
 
-  pub held_with : (k : ℕ) → rows_held all (λ key. cond (is key) (one key) none) k ≡ rows_with is (rows_held all one k)
+  pub held_with : (k : ℕ) → rows_held all (λ key. cond (is key) (one key) None) k ≡ rows_with is (rows_held all one k)
   held_with zero = refl
   held_with (suc k) = ap₂ (λ (l m : List Row). l ++ m) (held_with k) (row_with k) ∙ sym (with_append is (rows_held all one k) (as_list (row_for all k (one k))))
 

@@ -1,14 +1,11 @@
 -- Tables side by side, of the calls from C: a run of calls that met their contracts is one that the rules played, so the theorem over the rules carries over.
 -- Assumes nothing.
+use Rattle.std.specs.Prelude.{Result, Ok, Option}
 use Prim.Native.Nat.{ℕ}
 use mathlib.Core.Bool.{Bool, true, false, cond}
 use mathlib.Core.Path.{◌≡◌, refl, ap, ap₂, sym, ◌∙◌}
-use mathlib.Core.Option.{Option}
 use mathlib.Core.List.{List, [], ◌∷◌, map}
 use Rattle.entries.specs.Sent.{Sent, into}
-use Rattle.messages.specs.declared.Decoded.{Decoded}
-use Rattle.rules.specs.declared.answers.Clock as declared
-use Rattle.rules.specs.declared.answers.Clock.TheVariants as clock
 use Rattle.rules.specs.Rules as rules
 use Rattle.table_bytes.specs.Layout.{clock_of}
 use Rattle.table.specs.Bytes.{bytes}
@@ -26,10 +23,12 @@ use Rattle.c_promises.proofs.Isolated.{east, run_done, run_table, run_whole, run
 use Rattle.c_promises.proofs.Replayed.{ran_left, left_whole}
 use Rattle.c_promises.proofs.Timed.{clock_is}
 use Rattle.c_fleet.specs.Sides.{number_in, returned, SideBySide}
+use Rattle.messages.specs.declared.Message.{Message}
+use Rattle.refusals.specs.declared.Refusal.{Refusal}
 
 -- ---- the numbers are those of what the rule answers
 
-mapped : (b : Bool) (d : Decoded) (ds : List Decoded) → cond b (number_in d ∷ map number_in ds) (map number_in ds) ≡ map number_in (cond b (d ∷ ds) ds)
+mapped : (b : Bool) (d : Result Message Refusal) (ds : List (Result Message Refusal)) → cond b (number_in d ∷ map number_in ds) (map number_in ds) ≡ map number_in (cond b (d ∷ ds) ds)
 mapped true d ds = refl
 mapped false d ds = refl
 
@@ -47,7 +46,7 @@ module _ (site : Option Site) {cs : List Call} {xs : List Sent} (p : Run site cs
   pub whole_in_end : bytes.whole (left_of p) ≡ true
   whole_in_end = left_whole p.ran (run_whole site p)
 
-  pub clock_said_lem : clock_in (left_of p) ≡ clock.At (clock_of (left_of p))
+  pub clock_said_lem : clock_in (left_of p) ≡ Ok (clock_of (left_of p))
   unfolding clock_in
   clock_said_lem = rw whole_in_end
 
@@ -59,7 +58,7 @@ side_by_side key site cs ds xs ys p q sparse f g =
       numbers = returned_is key 0 (by_rule site p) ∙ ap (map number_in) same.answers ∙ sym (returned_is key 0 (by_rule site q));
       clock = λ out x y a b.
           clock_is a
-          ∙ ap (λ (z : declared.Clock). into 1 out (clock_said z)) (clock_said_lem site p ∙ ap clock.At clocks ∙ sym (clock_said_lem site q))
+          ∙ ap (λ (z : Result ℕ Refusal). into 1 out (clock_said z)) (clock_said_lem site p ∙ ap Ok clocks ∙ sym (clock_said_lem site q))
           ∙ sym (clock_is b);
       track = same_track key (left_of p) (left_of q) (whole_in_end site p) (whole_in_end site q)
           (ap (λ (z : List ℕ). view z key) (left_is site p) ∙ same.track ∙ sym (ap (λ (z : List ℕ). view z key) (left_is site q)));

@@ -1,6 +1,5 @@
 -- RULES 18.4: a fleet of tables as C sees it: keys go to tables by any function, one stream is dealt out to them, and each aircraft is told and shown what one table would tell and show.
-use Rattle.std.specs.Prelude.{ℕ, ◌≡◌, List}
-use Rattle.std.proofs.Math.Option.{Option}
+use Rattle.std.specs.Prelude.{ℕ, ◌≡◌, List, Option}
 use Rattle.entries.specs.Sent.{Sent}
 use Rattle.isolation.specs.Runs.{Call}
 use Rattle.fleet.specs.Sparse.{latest}

@@ -1,6 +1,5 @@
 -- RULES 18.1: the key of a message, as C asks for it: by it messages are dealt out to tables.
-use Rattle.std.specs.Prelude.{ℕ, true, ◌≡◌, ◌↔◌, List, [], ◌∷◌, length, get_or}
-use Rattle.std.proofs.Math.Option.{Option}
+use Rattle.std.specs.Prelude.{ℕ, true, ◌≡◌, ◌↔◌, List, [], ◌∷◌, length, get_or, Option}
 use contract.Lifetimes.{Lfts}
 use denote.Triple.Clauses.{AtExit}
 use borrow.Fn.Kinds.{Dens, ended_of}

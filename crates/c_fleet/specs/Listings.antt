@@ -1,6 +1,5 @@
 -- RULES 18.6: what C prints of the tables of a fleet: together it is the listing of a single table with a place for every key.
-use Rattle.std.specs.Prelude.{ℕ, ◌<◌, Bool, cond, ◌≡◌, List, [], ◌∷◌, eqb, length}
-use Rattle.std.proofs.Math.Option.{Option}
+use Rattle.std.specs.Prelude.{ℕ, ◌<◌, Bool, cond, ◌≡◌, List, [], ◌∷◌, eqb, length, Option}
 use Rattle.text.specs.declared.Row.{Row}
 use Rattle.isolation.specs.Runs.{Call}
 use Rattle.display.specs.Lines.{chosen}

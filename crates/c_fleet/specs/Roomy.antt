@@ -1,10 +1,8 @@
 -- RULES 18.5: a table of a fleet as C sees it, with a place for every key that goes to it. It is held to one table with a place for every key, however many they are, and no word is said about 6.
-use Rattle.std.specs.Prelude.{ℕ, ◌≤◌, ◌≡◌, List, map, length}
-use Rattle.std.proofs.Math.Option.{Option}
+use Rattle.std.specs.Prelude.{ℕ, ◌≤◌, ◌≡◌, List, map, length, Ok, Option}
 use Rattle.memory.specs.Offsets.{places_in}
 use Rattle.entries.specs.Sent.{Sent, into}
 use Rattle.track_rows.specs.Held.{looked_said}
-use Rattle.rules.specs.declared.answers.Clock.TheVariants as clock
 use Rattle.rules.specs.Rules.{set_up, received, looked_up}
 use Rattle.isolation.specs.Runs.{Call}
 use Rattle.isolation.specs.Logs.{left}
@@ -37,7 +35,7 @@ pub record TableOf (which : ℕ → ℕ) (i : ℕ) (site : Option Site) (stream 
 -- what C is told of a key by its table of the fleet is what the single table tells. The numbers of its calls that are not late; then what addercoil_clock and addercoil_look_up return and write, with an array of any length
 pub record AsSingle (which : ℕ → ℕ) (site : Option Site) (stream : List Call) (keys : List ℕ) (key : ℕ) (table : TableOf which (which key) site stream keys) : Type 0 where
   pub numbers : returned key 0 (least_deal which (which key) stream table.last) table.backs ≡ map number_in (told (received wide) key 0 (single_begun site keys) stream)
-  pub clock : (out : List ℕ) (x : Sent) → Clock (left_of table.run) out x → x ≡ into 1 out (clock_said (clock.At (wide.clock (single site keys stream))))
+  pub clock : (out : List ℕ) (x : Sent) → Clock (left_of table.run) out x → x ≡ into 1 out (clock_said (Ok (wide.clock (single site keys stream))))
   pub track : (out : List ℕ) (x : Sent) → LookUp (left_of table.run) key out x → x ≡ into 72 out (looked_said key (looked_up wide (single site keys stream) key))
 
 -- each acceptable message of the stream has one of the keys, of which there may be more than a table of C has places

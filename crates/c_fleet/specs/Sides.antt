@@ -1,19 +1,19 @@
 -- RULES 18.4: two runs of calls from C that an aircraft can't tell apart at their end: its own calls that are not late are the same, and so is the latest time. Calls of others may be left out.
-use Rattle.std.specs.Prelude.{ℕ, cond, ◌≡◌, List, [], ◌∷◌}
-use Rattle.std.proofs.Math.Option.{Option}
+use Rattle.std.specs.Prelude.{ℕ, cond, ◌≡◌, List, [], ◌∷◌, Result, Option}
 use Rattle.entries.specs.Sent.{Sent}
-use Rattle.messages.specs.declared.Decoded.{Decoded}
 use Rattle.table.specs.Heard.{heard_as}
 use Rattle.isolation.specs.Runs.{Call}
-use Rattle.addercoil.specs.Tables.{heard_number}
+use Rattle.addercoil.specs.Done.{done_number}
 use Rattle.fleet.specs.Sparse.{ticked, heeds, Sparse}
 use Rattle.c_promises.specs.Calls.{Clock}
 use Rattle.c_promises.specs.Runs.{Site, Run, Never6, SameTrack}
 use Rattle.c_promises.specs.Logs.{left_of}
+use Rattle.messages.specs.declared.Message.{Message}
+use Rattle.refusals.specs.declared.Refusal.{Refusal}
 
 -- the number that addercoil_receive returns for an answer
-abbrev pub number_in : Decoded → ℕ
-number_in d = heard_number (heard_as d)
+abbrev pub number_in : Result Message Refusal → ℕ
+number_in d = done_number (heard_as d)
 
 -- the numbers that addercoil_receive returned to an aircraft's own calls that are not late, from a clock on. To one that is late it returned 2
 abbrev pub returned : ℕ → ℕ → List Call → List Sent → List ℕ

@@ -1,11 +1,11 @@
 -- A check, of the calls from C: the number that is written is yes or a line, and tells which, since no line has the number 0. Our own listing is what is printed of a table of 256 places that was fed with the capture. If two
 -- lines were at fault, each would be the first, so that they are one.
 -- Assumes nothing.
+use Rattle.std.specs.Prelude.{Result, Ok, Err, Option, Some, None, ⊤}
 use Prim.Native.Nat.{ℕ, zero, suc, ◌+◌, ◌^◌, ◌<◌}
 use mathlib.Core.Bool.{true, cond, not}
 use mathlib.Core.Path.{◌≡◌, refl, ap, ap₂, sym, ◌∙◌, subst}
 use mathlib.Core.Logic.{◌⊎◌, inl, inr, ⊎_elim, ◌↔◌}
-use mathlib.Core.Option.{none}
 use mathlib.Core.List.{List, [], ◌∷◌, ◌++◌}
 use native.Mathlib.Omega.{arith}
 use borrow.Author.Tests.{eq-eqb, eqb-true, not-false}
@@ -23,20 +23,14 @@ use Rattle.memory.specs.Offsets.{table_size}
 use Rattle.whereabouts.specs.Located.{no_site}
 use Rattle.text.specs.declared.Row.{Row}
 use Rattle.text.specs.Lines.{newline}
-use Rattle.rules.specs.declared.answers.SetUp.{SetUp}
-use Rattle.rules.specs.declared.answers.SetUp.TheVariants.{Done}
 use Rattle.rules.specs.Rules as rules
 use Rattle.rules.proofs.Laws.{not_done}
 use Rattle.table_bytes.specs.Layout.{emptied}
 use Rattle.table.specs.Bytes.{bytes}
 use Rattle.table.specs.Table.{After, after}
-use Rattle.feed.specs.declared.Fed as declared
-use Rattle.feed.specs.declared.Fed.TheVariants.{Bad, Refused}
 use Rattle.feed.specs.Feed.{blocks_in, block_at, block_into, blocks_into, bad_in, counted, fed_block}
 use Rattle.feed.proofs.Answers.{block_bad}
 use Rattle.feed.proofs.Ways.{counted_all}
-use Rattle.compare.specs.declared.Checked.{Checked}
-use Rattle.compare.specs.declared.Checked.TheVariants as checking
 use Rattle.report.specs.Listing.{listing}
 use Rattle.compare.specs.Compared.{table_of, zeros, ours, our_rows, checked}
 use Rattle.compare.specs.Right.{AllAgree, both_none, both_one, Broken, other_line, missing_line, surplus_line, First, Faulty, header_faulty, row_faulty}
@@ -75,13 +69,13 @@ module _ (table block : List ℕ) (bad bad' : ℕ) (out : List ℕ) where
   abbrev Taken : Both → Type 0
   Taken x = x.sent ≡ sent 0 (bad' ∷ []) → (bad' ≡ counted bad (good block)) × (x.table ≡ block_into table block)
 
-  by_fed : length out ≡ 1 → (a : declared.Fed) {l : List ℕ} → after a l ≡ fed_block table block bad → Taken (both (given out (fed_said a)) l)
-  by_fed h (Bad n) {l} e t =
+  by_fed : length out ≡ 1 → (a : Result ℕ Refusal) {l : List ℕ} → after a l ≡ fed_block table block bad → Taken (both (given out (fed_said a)) l)
+  by_fed h (Ok n) {l} e t =
       let z : n ∷ [] ≡ bad' ∷ [] = sym (ap (λ (k : ℕ). filled k (n ∷ [])) h) ∙ ap (λ (x : Sent). x.array) t in
       let same : bad' ≡ n = cc in
       let p = block_bad table block bad n e in
       (same ∙ p.1, p.2)
-  by_fed h (Refused r) e t = absurd (some_number r (ap (λ (x : Sent). x.number) t))
+  by_fed h (Err r) e t = absurd (some_number r (ap (λ (x : Sent). x.number) t))
 
   taken : Taken (block_sent table block bad out)
   unfolding fed_into
@@ -108,10 +102,10 @@ module _ (table capture : List ℕ) where
 
 -- ---- our own listing
 
-emptied_done : (s : List ℕ) → (rules.set_up bytes s no_site).answer ≡ Done → (rules.set_up bytes s no_site).table ≡ emptied s
+emptied_done : (s : List ℕ) → (rules.set_up bytes s no_site).answer ≡ Ok tt → (rules.set_up bytes s no_site).table ≡ emptied s
 unfolding rules.set_up
 emptied_done s =
-    by_test (λ (x : After SetUp). x.answer ≡ Done → x.table ≡ emptied s) (not (bytes.whole s)) _ _
+    by_test (λ (x : After (Result ⊤ Refusal)). x.answer ≡ Ok tt → x.table ≡ emptied s) (not (bytes.whole s)) _ _
     (λ _ a. absurd (not_done a))
     (λ _ a. refl)
 
@@ -122,8 +116,8 @@ emptied_long s t e = ap (λ (n : ℕ). replicate n 0) e
 module _ (capture text : List ℕ) (size : length capture < 2 ^ 64) (x : OurListing capture text) where
   begins : x.back.array ≡ emptied zeros
   begins =
-      begun_table none x.lent x.back x.begun x.done
-      ∙ emptied_done x.lent (begun none x.lent x.back x.begun x.done)
+      begun_table None x.lent x.back x.begun x.done
+      ∙ emptied_done x.lent (begun None x.lent x.back x.begun x.done)
       ∙ emptied_long x.lent zeros (x.long ∙ sym (length-replicate {A = ℕ} (table_size 256) 0))
 
   pub own_is_ours : text ≡ ours capture
@@ -136,22 +130,22 @@ module _ (capture text : List ℕ) (size : length capture < 2 ^ 64) (x : OurList
 -- ---- what is written
 
 -- into an array of one entry
-abbrev check_sent : List ℕ → Checked → Sent
-check_sent out checking.Yes = sent 0 (0 ∷ [])
-check_sent out (checking.Fault line) = sent 0 (line ∷ [])
-check_sent out (checking.Refused r) = sent (number_of r) out
+abbrev check_sent : List ℕ → Result (Option ℕ) Refusal → Sent
+check_sent out (Ok None) = sent 0 (0 ∷ [])
+check_sent out (Ok (Some line)) = sent 0 (line ∷ [])
+check_sent out (Err r) = sent (number_of r) out
 
-by_verdict : (out : List ℕ) → length out ≡ 1 → (x : Checked) → given out (check_said x) ≡ check_sent out x
-by_verdict out h checking.Yes = ap (λ (n : ℕ). sent 0 (filled n (0 ∷ []))) h
-by_verdict out h (checking.Fault line) = ap (λ (n : ℕ). sent 0 (filled n (line ∷ []))) h
-by_verdict out h (checking.Refused r) = refl
+by_verdict : (out : List ℕ) → length out ≡ 1 → (x : Result (Option ℕ) Refusal) → given out (check_said x) ≡ check_sent out x
+by_verdict out h (Ok None) = ap (λ (n : ℕ). sent 0 (filled n (0 ∷ []))) h
+by_verdict out h (Ok (Some line)) = ap (λ (n : ℕ). sent 0 (filled n (line ∷ []))) h
+by_verdict out h (Err r) = refl
 
-check_sent_lem : (out : List ℕ) → length out ≡ 1 → (x : Checked) → into 1 out (check_said x) ≡ check_sent out x
+check_sent_lem : (out : List ℕ) → length out ≡ 1 → (x : Result (Option ℕ) Refusal) → into 1 out (check_said x) ≡ check_sent out x
 unfolding into
 check_sent_lem out h x = rw (eq-eqb _ _ h) (by_verdict out h x)
 
 -- a number that was written was written into one entry
-one_entry : (out : List ℕ) (x : Checked) → (into 1 out (check_said x)).number ≡ 0 → length out ≡ 1
+one_entry : (out : List ℕ) (x : Result (Option ℕ) Refusal) → (into 1 out (check_said x)).number ≡ 0 → length out ≡ 1
 unfolding into
 one_entry out x =
     by_test (λ (y : Sent). y.number ≡ 0 → length out ≡ 1) (not (eqb (length out) 1)) _ _
@@ -165,33 +159,33 @@ no_line_0 (row_faulty lines e f) z = omega (arith, f.number)
 
 module _ (capture text out : List ℕ) where
   -- the entry is n: yes, or the line n
-  told : (n : ℕ) (x : Checked) → checked capture text ≡ x → check_sent out x ≡ sent 0 (n ∷ []) → ((n ≡ 0) × (checked capture text ≡ checking.Yes)) ⊎ (checked capture text ≡ checking.Fault n)
-  told n checking.Yes e t = let z : 0 ∷ [] ≡ n ∷ [] = ap (λ (y : Sent). y.array) t in inl (let q : n ≡ 0 = cc in q, e)
-  told n (checking.Fault line) e t = let z : line ∷ [] ≡ n ∷ [] = ap (λ (y : Sent). y.array) t in inr (e ∙ (let q : line ≡ n = cc in ap checking.Fault q))
-  told n (checking.Refused r) e t = absurd (some_number r (ap (λ (y : Sent). y.number) t))
+  told : (n : ℕ) (x : Result (Option ℕ) Refusal) → checked capture text ≡ x → check_sent out x ≡ sent 0 (n ∷ []) → ((n ≡ 0) × (checked capture text ≡ Ok None)) ⊎ (checked capture text ≡ Ok (Some n))
+  told n (Ok None) e t = let z : 0 ∷ [] ≡ n ∷ [] = ap (λ (y : Sent). y.array) t in inl (let q : n ≡ 0 = cc in q, e)
+  told n (Ok (Some line)) e t = let z : line ∷ [] ≡ n ∷ [] = ap (λ (y : Sent). y.array) t in inr (e ∙ (let q : line ≡ n = cc in ap {B = Result (Option ℕ) Refusal} (λ (y : ℕ). Ok (Some y)) q))
+  told n (Err r) e t = absurd (some_number r (ap (λ (y : Sent). y.number) t))
 
   -- the number is that of a refusal
-  refused : (r : Refusal) (x : Checked) → checked capture text ≡ x → check_sent out x ≡ sent (number_of r) out → checked capture text ≡ checking.Refused r
-  refused r checking.Yes e t = absurd (some_number r (sym (ap (λ (y : Sent). y.number) t)))
-  refused r (checking.Fault line) e t = absurd (some_number r (sym (ap (λ (y : Sent). y.number) t)))
-  refused r (checking.Refused q) e t = e ∙ ap checking.Refused (none_shared q r (ap (λ (y : Sent). y.number) t))
+  refused : (r : Refusal) (x : Result (Option ℕ) Refusal) → checked capture text ≡ x → check_sent out x ≡ sent (number_of r) out → checked capture text ≡ Err r
+  refused r (Ok None) e t = absurd (some_number r (sym (ap (λ (y : Sent). y.number) t)))
+  refused r (Ok (Some line)) e t = absurd (some_number r (sym (ap (λ (y : Sent). y.number) t)))
+  refused r (Err q) e t = e ∙ ap Err (none_shared q r (ap (λ (y : Sent). y.number) t))
 
   module _ (h : length out ≡ 1) {back : Sent} (b : Check capture text out back) where
     back_is : back ≡ check_sent out (checked capture text)
     back_is = check_is b ∙ check_sent_lem out h (checked capture text)
 
-    refused_exactly : (r : Refusal) → back ≡ sent (number_of r) out ↔ checked capture text ≡ checking.Refused r
+    refused_exactly : (r : Refusal) → back ≡ sent (number_of r) out ↔ checked capture text ≡ Err r
     refused_exactly r = (λ e. refused r (checked capture text) refl (sym back_is ∙ e), λ e. back_is ∙ ap (check_sent out) e)
 
 -- ---- one line at fault
 
 -- what breaks is a line or a row, and what agrees is as many of both
-abbrev Some : List (List ℕ) → List Row → Type 0
-Some [] [] = ⊥
-Some [] (r ∷ rs) = Unit {0}
-Some (l ∷ ls) rs = Unit {0}
+abbrev SomeLine : List (List ℕ) → List Row → Type 0
+SomeLine [] [] = ⊥
+SomeLine [] (r ∷ rs) = Unit {0}
+SomeLine (l ∷ ls) rs = Unit {0}
 
-some_broken : {ls : List (List ℕ)} {rs : List Row} → Broken ls rs → Some ls rs
+some_broken : {ls : List (List ℕ)} {rs : List Row} → Broken ls rs → SomeLine ls rs
 some_broken (other_line ne) = tt
 some_broken missing_line = tt
 some_broken surplus_line = tt
@@ -260,18 +254,18 @@ fourteen_sixteen capture text out back h b =
     )
 
 -- what is no refusal is one number
-one_number : (out : List ℕ) (x : Checked) → ((r : Refusal) → x ≡ checking.Refused r → ⊥) → (line : ℕ) × (check_sent out x ≡ sent 0 (line ∷ []))
-one_number out checking.Yes never = (0, refl)
-one_number out (checking.Fault line) never = (line, refl)
-one_number out (checking.Refused r) never = absurd (never r refl)
+one_number : (out : List ℕ) (x : Result (Option ℕ) Refusal) → ((r : Refusal) → x ≡ Err r → ⊥) → (line : ℕ) × (check_sent out x ≡ sent 0 (line ∷ []))
+one_number out (Ok None) never = (0, refl)
+one_number out (Ok (Some line)) never = (line, refl)
+one_number out (Err r) never = absurd (never r refl)
 
 pub yes_or_a_line : YesOrALine
 yes_or_a_line capture text out back h b few fits =
     let p =
     one_number out (checked capture text)
-    (λ (r : Refusal) (e : checked capture text ≡ checking.Refused r).
+    (λ (r : Refusal) (e : checked capture text ≡ Err r).
     ⊎_elim
-    (λ l. let m = (fourteen_exactly capture text).0 (e ∙ ap checking.Refused l) in let u : ⊥ = omega arith in u)
-    (λ f. let m = ((sixteen_exactly capture text).0 (e ∙ ap checking.Refused f)).1 in let z : ◌≡◌ {A = ℕ} 0 1 = cc in let u : ⊥ = omega arith in u)
+    (λ l. let m = (fourteen_exactly capture text).0 (e ∙ ap Err l) in let u : ⊥ = omega arith in u)
+    (λ f. let m = ((sixteen_exactly capture text).0 (e ∙ ap Err f)).1 in let z : ◌≡◌ {A = ℕ} 0 1 = cc in let u : ⊥ = omega arith in u)
     (only_these capture text e)) in
     (p.0, back_is capture text out h b ∙ p.1)

@@ -1,5 +1,7 @@
 -- For whatever is lent and given there is a call that met its contract, with the number and the array that the definition says; and for every capture a listing of our own. The theorems speak of something.
 -- Assumes nothing.
+use Rattle.refusals.specs.declared.Refusal.{Refusal}
+use Rattle.std.specs.Prelude.{Some, None, Ok, Option, Result}
 use Prim.Native.Nat.{ℕ, zero, suc, ◌+◌, ◌^◌, ◌<◌}
 use mathlib.Core.Bool.{true}
 use mathlib.Core.Path.{◌≡◌, refl, ap, sym, ◌∙◌, subst}
@@ -9,7 +11,6 @@ use lib.ListN.{length, replicate, length-replicate}
 use Rattle.capture.specs.Block.{good}
 use Rattle.entries.specs.Sent.{Sent, sent, into}
 use Rattle.memory.specs.Offsets.{table_size, whole_places}
-use Rattle.rules.specs.declared.answers.NextKey.TheVariants.{Key, End}
 use Rattle.rules.specs.Rules as rules
 use Rattle.table_bytes.specs.Layout.{emptied}
 use Rattle.table.specs.Table.{set_up, next_above}
@@ -109,11 +110,11 @@ abbrev buffer : List ℕ
 buffer = replicate line_buffer 7
 
 module _ (s : List ℕ) (w : whole_places (length s) ≡ true) where
-  next_end : {above : ℕ} → next_above s above ≡ End → Next s above (7 ∷ []) (sent 0 (0 ∷ []))
+  next_end : {above : ℕ} → next_above s above ≡ Ok None → Next s above (7 ∷ []) (sent 0 (0 ∷ []))
   unfolding into
   next_end {above} e = subst (Next s above (7 ∷ [])) (ap (λ x. into 1 (7 ∷ []) (next_said x)) e) (next_met s above (7 ∷ []))
 
-  next_key : {above key : ℕ} → next_above s above ≡ Key key → Next s above (7 ∷ []) (sent 0 (key ∷ []))
+  next_key : {above key : ℕ} → next_above s above ≡ Ok (Some key) → Next s above (7 ∷ []) (sent 0 (key ∷ []))
   unfolding into
   next_key {above} e = subst (Next s above (7 ∷ [])) (ap (λ x. into 1 (7 ∷ []) (next_said x)) e) (next_met s above (7 ∷ []))
 
@@ -130,7 +131,7 @@ module _ (s : List ℕ) (w : whole_places (length s) ≡ true) where
   lines {above} (then {key = key} {text = text} e more) =
       let l = line_met s key 1 buffer in
       subst (λ (x : List ℕ). Lines s 1 above (x ++ text)) (line_said_lem l (line_0 key) ∙ sym (line_text_is true s w key))
-      (line (next_key e) (λ z. no_key_0 s above (e ∙ ap Key z)) l (line_0 key) (lines more))
+      (line (next_key e) (λ z. no_key_0 s above (e ∙ ap {B = Result (Option ℕ) Refusal} (λ (y : ℕ). Ok (Some y)) z)) l (line_0 key) (lines more))
 
   pub printed : (bad : ℕ) → (text : List ℕ) × Prints s bad 1 text
   printed bad = (_, prints (header_met s bad 1 buffer) (header_0 bad) (lines (walk_ends true s w).1.1))

@@ -1,5 +1,6 @@
 -- The promises are not empty, and each premise is needed: our own listing of every capture is one, and beyond the bound it gets 14; two messages to a table of one place or of two, whose numbers are computed in merging.
 -- Assumes nothing.
+use Rattle.std.specs.Prelude.{Result, Ok, Err}
 use Prim.Native.Nat.{ℕ, zero, suc, ◌+◌, ◌*◌, ◌/◌, ◌^◌, ◌<◌}
 use mathlib.Core.Bool.{true}
 use mathlib.Core.Path.{◌≡◌, refl, ap, sym, ◌∙◌}
@@ -14,8 +15,6 @@ use Rattle.parity.specs.Parity.{seal}
 use Rattle.capture.specs.Block as capture
 use Rattle.capture.specs.Block.{count_of, start_of}
 use Rattle.capture.proofs.Sealed.{sealed_good}
-use Rattle.messages.specs.declared.Decoded.{Decoded}
-use Rattle.messages.specs.declared.Decoded.TheVariants as decode
 use Rattle.entries.specs.Sent.{Sent, sent}
 use Rattle.table.specs.Heard.{heard_as}
 use Rattle.table.specs.Table.{received}
@@ -25,7 +24,8 @@ use Rattle.isolation.specs.Wrong.{number_in}
 use Rattle.rules.specs.Agreement.{Call}
 use Rattle.merging.specs.Orders.{offered}
 use Rattle.merging.proofs.Examples.{mine, silent, other, later, ready, zeros, Answers, computed, mine_other}
-use Rattle.addercoil.specs.Tables.{heard_number, received_sent}
+use Rattle.addercoil.specs.Done.{done_number}
+use Rattle.addercoil.specs.Tables.{received_sent}
 use Rattle.c_promises.specs.Calls.{Receive}
 use Rattle.c_promises.proofs.Every.{receive_met}
 use Rattle.c_listings.specs.Calls.{Check}
@@ -34,6 +34,8 @@ use Rattle.c_listings.specs.Orders.{Offered, No6, OfOneKey, SameShown}
 use Rattle.c_listings.proofs.Checked.{own_yes, fourteen_sixteen}
 use Rattle.c_listings.proofs.Ordered.{either_order}
 use Rattle.c_listings.proofs.Every.{check_met, our_listing}
+use Rattle.messages.specs.declared.Message.{Message}
+use Rattle.refusals.specs.declared.Refusal.{Refusal}
 
 -- ---- RULES 14: a check
 
@@ -117,9 +119,9 @@ bound_needed =
 abbrev took : List ℕ → List ℕ → ℕ → Sent
 took table message time = received_sent (received table message time)
 
-same_number : (d : Decoded) → heard_number (heard_as d) ≡ number_in d
-same_number (decode.Message m) = refl
-same_number (decode.Refused r) = refl
+same_number : (d : Result Message Refusal) → done_number (heard_as d) ≡ number_in d
+same_number (Ok m) = refl
+same_number (Err r) = refl
 
 -- the calls of both orders, and what they return
 module _ (n : ℕ) (a b : Call) where

@@ -1,10 +1,10 @@
 -- What C prints of a table is its listing: a call that returned 0 filled its buffer with the text of a line, in which no byte is zero, and the walk by `addercoil_next` is that of the definition.
 -- Assumes nothing.
+use Rattle.std.specs.Prelude.{Option, Some, None, Result, Ok, Err}
 use Prim.Native.Nat.{ℕ, zero, suc, ◌+◌, ◌≤◌}
 use mathlib.Core.Bool.{Bool, true, false, cond, not, false≢true}
 use mathlib.Core.Path.{◌≡◌, refl, ap, ap₂, sym, ◌∙◌, subst}
 use mathlib.Core.Logic.{◌⊎◌, inl, inr, ⊎_elim}
-use mathlib.Core.Option.{Option, some, none}
 use mathlib.Core.List.{List, [], ◌∷◌, ◌++◌}
 use native.Mathlib.Omega.{arith}
 use borrow.Author.Tests.{eqb-true, eqb-false, not-false}
@@ -16,18 +16,17 @@ use Rattle.entries.specs.Arrays.{filled}
 use Rattle.entries.specs.Sent.{Sent, sent, given, into}
 use Rattle.memory.specs.Offsets.{whole_places}
 use Rattle.table_bytes.specs.Layout.{clock_of}
-use Rattle.rules.specs.declared.answers.NextKey.{NextKey}
-use Rattle.rules.specs.declared.answers.NextKey.TheVariants.{Key, End, Refused}
 use Rattle.rules.specs.Rules as rules
 use Rattle.table.specs.Bytes.{bytes}
 use Rattle.table.specs.Table.{next_above}
 use Rattle.table.specs.View.{view}
 use Rattle.text.specs.declared.Row.{Row}
-use Rattle.text.specs.Lines.{newline, row_text, text_in}
+use Rattle.text.specs.Lines.{newline, row_text}
 use Rattle.text.proofs.Fits.{header_most, row_most, line_text_lem}
 use Rattle.form.proofs.Pieces.{over, over_append, over_less}
 use Rattle.form.proofs.OwnLines.{row_line, row_text_lem, row_over, header_line, header_text_lem, header_over}
 use Rattle.report.specs.Listing.{row_for, rows_in, line_text, line_for, header_for, header_in, reported, line_in, listing}
+use Rattle.report.specs.Walked as walks
 use Rattle.report.specs.Walked.{some_text, Walked, Walked.ended, Walked.then}
 use Rattle.report.proofs.Walking.{walk_prints}
 use Rattle.addercoil.specs.Tables.{next_said}
@@ -36,6 +35,7 @@ use Rattle.display.specs.Lines.{line_buffer, chosen, lines_said, header_said, li
 use Rattle.c_listings.specs.Calls.{Header, Line, Next}
 use Rattle.c_listings.specs.Prints.{text_of, Lines, Lines.last, Lines.line, Prints, Prints.prints, Prints.at_once}
 use Rattle.c_listings.proofs.Listed.{listing_said}
+use Rattle.refusals.specs.declared.Refusal.{Refusal}
 
 -- ---- each call did what the definition says
 
@@ -77,12 +77,12 @@ ended_over l p = over_append 0 l newline (over_less 10 0 l (omega arith) p) refl
 
 row_over_0 : (v : Option Row) → over 0 (line_text v) ≡ true
 unfolding over
-row_over_0 none = refl
-row_over_0 (some r) = ap (over 0) (row_text_lem r) ∙ ended_over (row_line r) (row_over r)
+row_over_0 None = refl
+row_over_0 (Some r) = ap (over 0) (row_text_lem r) ∙ ended_over (row_line r) (row_over r)
 
 row_fits : (v : Option Row) → length (line_text v) ≤ line_buffer
-row_fits none = omega arith
-row_fits (some r) = omega (arith, row_most r)
+row_fits None = omega arith
+row_fits (Some r) = omega (arith, row_most r)
 
 header_over_0 : (all : Bool) (s : List ℕ) (bad : ℕ) → over 0 (header_for all s bad) ≡ true
 unfolding header_for
@@ -141,27 +141,27 @@ module _ {table : List ℕ} {key all : ℕ} {buffer : List ℕ} {back : Sent} (b
 -- ---- the next key
 
 -- 0 is nobody's
-pub no_key_0 : (s : List ℕ) (above : ℕ) → next_above s above ≡ Key 0 → ⊥
+pub no_key_0 : (s : List ℕ) (above : ℕ) → next_above s above ≡ Ok (Some 0) → ⊥
 unfolding rules.next_above
 no_key_0 s above =
-    by_test (λ (x : NextKey). x ≡ Key 0 → ⊥) (not (whole_places (length s))) _ _
+    by_test (λ (x : Result (Option ℕ) Refusal). x ≡ Ok (Some 0) → ⊥) (not (whole_places (length s))) _ _
     (λ _ e. let z : ◌≡◌ {A = ℕ} 0 1 = cc in omega arith)
-    (λ _. by_test (λ (x : NextKey). x ≡ Key 0 → ⊥) (eqb (rules.least_above bytes s above) 0) _ _
+    (λ _. by_test (λ (x : Option ℕ). ◌≡◌ {A = Result (Option ℕ) Refusal} (Ok x) (Ok (Some 0)) → ⊥) (eqb (rules.least_above bytes s above) 0) _ _
     (λ _ e. let z : ◌≡◌ {A = ℕ} 0 1 = cc in omega arith)
     (λ t e. eqb-false (rules.least_above bytes s above) 0 t (let z : rules.least_above bytes s above ≡ 0 = cc in z)))
 
 -- what an answer writes tells which it was
 module _ (s : List ℕ) (above key : ℕ) (out : List ℕ) where
   abbrev Told : Sent → Type 0
-  Told x = x ≡ sent 0 (key ∷ []) → ((key ≡ 0) × (next_above s above ≡ End)) ⊎ (next_above s above ≡ Key key)
+  Told x = x ≡ sent 0 (key ∷ []) → ((key ≡ 0) × (next_above s above ≡ Ok None)) ⊎ (next_above s above ≡ Ok (Some key))
 
   entry : {k : ℕ} → length out ≡ 1 → sent 0 (filled (length out) (k ∷ [])) ≡ sent 0 (key ∷ []) → k ≡ key
   entry {k} h e = let z : k ∷ [] ≡ key ∷ [] = sym (ap (λ (n : ℕ). filled n (k ∷ [])) h) ∙ ap (λ (x : Sent). x.array) e in cc
 
-  by_next : length out ≡ 1 → (x : NextKey) → next_above s above ≡ x → Told (given out (next_said x))
-  by_next h (Key k) e t = inr (e ∙ ap Key (entry h t))
-  by_next h End e t = inl (sym (entry h t), e)
-  by_next h (Refused r) e t = absurd (some_number r (ap (λ (x : Sent). x.number) t))
+  by_next : length out ≡ 1 → (x : Result (Option ℕ) Refusal) → next_above s above ≡ x → Told (given out (next_said x))
+  by_next h (Ok (Some k)) e t = inr (e ∙ ap {B = Result (Option ℕ) Refusal} (λ (y : ℕ). Ok (Some y)) (entry h t))
+  by_next h (Ok None) e t = inl (sym (entry h t), e)
+  by_next h (Err r) e t = absurd (some_number r (ap (λ (x : Sent). x.number) t))
 
   pub next_told : Told (into 1 out (next_said (next_above s above)))
   unfolding into
@@ -170,24 +170,24 @@ module _ (s : List ℕ) (above key : ℕ) (out : List ℕ) where
       (λ _ t. absurd (let z : ◌≡◌ {A = ℕ} 1 0 = ap (λ (x : Sent). x.number) t in let u : ⊥ = omega arith in u))
       (λ t. by_next (eqb-true (length out) 1 (not-false _ t)) (next_above s above) refl)
 
-pub at_end : {s : List ℕ} {above : ℕ} {out : List ℕ} → Next s above out (sent 0 (0 ∷ [])) → next_above s above ≡ End
+pub at_end : {s : List ℕ} {above : ℕ} {out : List ℕ} → Next s above out (sent 0 (0 ∷ [])) → next_above s above ≡ Ok None
 at_end {s} {above} {out} b = ⊎_elim (λ p. p.1) (λ e. absurd (no_key_0 s above e)) (next_told s above 0 out (sym (next_is b)))
 
-pub at_key : {s : List ℕ} {above key : ℕ} {out : List ℕ} → Next s above out (sent 0 (key ∷ [])) → (key ≡ 0 → ⊥) → next_above s above ≡ Key key
+pub at_key : {s : List ℕ} {above key : ℕ} {out : List ℕ} → Next s above out (sent 0 (key ∷ [])) → (key ≡ 0 → ⊥) → next_above s above ≡ Ok (Some key)
 at_key {s} {above} {key} {out} b n = ⊎_elim (λ p. absurd (n p.0)) (λ e. e) (next_told s above key out (sym (next_is b)))
 
 -- ---- the walk
 
 module _ (all : Bool) (s : List ℕ) (w : whole_places (length s) ≡ true) where
-  row_report : (v : Option Row) → text_in (reported v).line ≡ line_text v
-  row_report none = line_text_lem []
-  row_report (some r) = line_text_lem (row_text r)
+  row_report : (v : Option Row) → walks.line_printed (Ok (reported v)) ≡ line_text v
+  row_report None = refl
+  row_report (Some r) = line_text_lem (row_text r)
 
-  pub line_text_is : (key : ℕ) → text_in (line_in all s key).line ≡ line_for all key (view s key)
+  pub line_text_is : (key : ℕ) → walks.line_printed (line_in all s key) ≡ line_for all key (view s key)
   unfolding line_in
   line_text_is key = rw w (row_report (row_for all key (view s key)))
 
-  pub header_text_is : (bad : ℕ) → text_in (header_in all s bad).line ≡ header_for all s bad
+  pub header_text_is : (bad : ℕ) → walks.header_printed (header_in all s bad) ≡ header_for all s bad
   unfolding header_in
   header_text_is bad = rw w (line_text_lem (header_for all s bad))
 
@@ -197,7 +197,7 @@ module _ (s : List ℕ) (all : ℕ) (w : whole_places (length s) ≡ true) where
   walked {above} (line {key = key} {text = text} b k l z more) =
       let rest = walked more in (
         _,
-        subst (λ (x : List ℕ). Walked (chosen all) s above (some_text (text_in (line_in (chosen all) s key).line) + rest.0) (x ++ text)) (line_text_is (chosen all) s w key ∙ sym (line_said_lem l z))
+        subst (λ (x : List ℕ). Walked (chosen all) s above (some_text (walks.line_printed (line_in (chosen all) s key)) + rest.0) (x ++ text)) (line_text_is (chosen all) s w key ∙ sym (line_said_lem l z))
             (then (at_key b k) rest.1),
       )
 

@@ -1,9 +1,9 @@
 -- A coarse message has no use for a site, so a log says the same of a key of kind C with any site and with none.
 -- Assumes nothing.
+use Rattle.std.specs.Prelude.{Result, Ok, Err, Option, Some, None}
 use Prim.Native.Nat.{ℕ, zero, suc, ◌/◌}
 use mathlib.Core.Bool.{Bool, true, false, cond, false≢true}
 use mathlib.Core.Path.{◌≡◌, refl, ap, sym, ◌∙◌}
-use mathlib.Core.Option.{Option, some, none}
 use mathlib.Core.List.{List}
 use lib.Dec.{eqb, ltb}
 use lib.ListN.{length, take, drop}
@@ -17,8 +17,6 @@ use Rattle.layouts.specs.declared.bodies.Body.{Body}
 use Rattle.layouts.specs.declared.bodies.Body.TheVariants as body
 use Rattle.layouts.specs.Bodies.{body_coarse, body_me}
 use Rattle.messages.specs.declared.Message.{Message}
-use Rattle.messages.specs.declared.Decoded.{Decoded}
-use Rattle.messages.specs.declared.Decoded.TheVariants as decode
 use Rattle.messages.specs.Message.{decoded, key_of, message_kind}
 use Rattle.messages.proofs.Keys.{coarse_by_its_own}
 use Rattle.whereabouts.specs.declared.Site.{Site}
@@ -26,8 +24,10 @@ use Rattle.whereabouts.specs.Located.{no_site}
 use Rattle.track.specs.declared.Track.{Track}
 use Rattle.track.specs.Track.{step_body}
 use Rattle.track.specs.Held.{later_at, found, stepped_from}
-use Rattle.replay.specs.Alone.{own_in, heard_in, Own, told_of, own_after}
+use Rattle.replay.specs.Alone.{own_in, heard_in, told_of, own_after}
+use Rattle.replay.specs.declared.Own.{Own}
 use Rattle.replay.specs.Replay.{bad_site, record_at, heard_at, unheard, own_at, sited, replayed}
+use Rattle.refusals.specs.declared.Refusal.{Refusal}
 
 -- a key of kind C is that of coarse messages alone
 low_coarse : (k : Kind) → is_coarse (low_kind k) ≡ is_coarse k
@@ -42,7 +42,7 @@ module _ (address flag station : ℕ) (site other : Site) where
   abbrev key : ℕ
   key = key_for (C flag station) address
 
-  is_coarse_lem : (message : List ℕ) (m : Message) → decoded message ≡ decode.Message m → key_of m ≡ key → body_coarse m.body ≡ true
+  is_coarse_lem : (message : List ℕ) (m : Message) → decoded message ≡ Ok m → key_of m ≡ key → body_coarse m.body ≡ true
   is_coarse_lem message m d e =
       let c = coarse_by_its_own message m d in
       c.1 ∙ sym c.0 ∙ sym (low_coarse (message_kind m)) ∙ ap is_coarse (keys.keys_apart (message_kind m) (C flag station) m.address address e).0
@@ -57,14 +57,14 @@ module _ (address flag station : ℕ) (site other : Site) where
   step_alike t (body.Coarse b) time h = refl
 
   from_alike : (m : Message) (time : ℕ) (t : Option Track) → body_coarse m.body ≡ true → stepped_from m site time t ≡ stepped_from m other time t
-  from_alike m time none h = refl
-  from_alike m time (some t) h = ap some (step_alike t m.body time h)
+  from_alike m time None h = refl
+  from_alike m time (Some t) h = ap Some (step_alike t m.body time h)
 
-  told_alike : (message : List ℕ) (d : Decoded) → decoded message ≡ d → (time : ℕ) (t : Option Track) → told_of site time (own_in key d) t ≡ told_of other time (own_in key d) t
-  told_alike message (decode.Refused r) e time t = refl
-  told_alike message (decode.Message m) e time t = by_key (eqb (key_of m) key) refl
+  told_alike : (message : List ℕ) (d : Result Message Refusal) → decoded message ≡ d → (time : ℕ) (t : Option Track) → told_of site time (own_in key d) t ≡ told_of other time (own_in key d) t
+  told_alike message (Err r) e time t = refl
+  told_alike message (Ok m) e time t = by_key (eqb (key_of m) key) refl
     where
-      by_key : (b : Bool) → eqb (key_of m) key ≡ b → told_of site time (cond b (some m) none) t ≡ told_of other time (cond b (some m) none) t
+      by_key : (b : Bool) → eqb (key_of m) key ≡ b → told_of site time (cond b (Some m) None) t ≡ told_of other time (cond b (Some m) None) t
       by_key true h = from_alike m time (found m t) (is_coarse_lem message m e (eqb-true (key_of m) key h))
       by_key false h = refl
 

@@ -1,5 +1,6 @@
 -- Degrees, of the calls from C: what the two functions write is what the definitions give, so the laws of both ways carry over.
 -- Assumes nothing.
+use Rattle.std.specs.Prelude.{Result, Ok, Err}
 use Prim.Native.Nat.{ℕ}
 use mathlib.Core.Bool.{false, not}
 use mathlib.Core.Path.{◌≡◌, refl, ap, ap₂, sym, ◌∙◌, subst}
@@ -17,12 +18,8 @@ use Rattle.entries.specs.Arrays.{filled}
 use Rattle.entries.specs.Sent.{Sent, sent, given, into}
 use Rattle.entries.specs.Twos.{twos}
 use Rattle.positions.specs.declared.Spot.{Spot}
-use Rattle.positions.specs.declared.Found.{Found}
-use Rattle.positions.specs.declared.Found.TheVariants as found
 use Rattle.positions.specs.Said.{found_said}
 use Rattle.degrees.specs.declared.Degrees.{Degrees}
-use Rattle.degrees.specs.declared.InDegrees as declared
-use Rattle.degrees.specs.declared.InDegrees.TheVariants as given_as
 use Rattle.degrees.specs.Ways.{centred, in_degrees, from_degrees}
 use Rattle.degrees.specs.Said.{in_degrees_said, DegreesIs, BackIs, Never}
 use Rattle.degrees.proofs.Places.{told, back_told}
@@ -32,6 +29,7 @@ use Rattle.addercoil.specs.Spots.{spot_said}
 use Rattle.addercoil.proofs.Laws.{some_number}
 use Rattle.c_promises.specs.Calls.{InDegrees, FromDegrees}
 use Rattle.c_promises.specs.Degrees.{spot, ExactOr8, NothingRounded, PlaceOr15, WayBack, ThereAndBack, BackAndThere, PlacesApart, PositiveZero, NoFigure, NoFigure.not_a_number, NoFigure.infinite, NoFigure.minus_zero, NoFigures}
+use Rattle.refusals.specs.declared.Refusal.{Refusal}
 
 -- ---- each call did what the definition says
 
@@ -56,9 +54,9 @@ figures x y = record { latitude = x; longitude = y }
 abbrev entries_of : Spot → List ℕ
 entries_of s = twos s.latitude ∷ s.longitude ∷ []
 
-abbrev place_sent : List ℕ → Found → Sent
-place_sent out (found.At s) = sent 0 (entries_of s)
-place_sent out (found.Refused r) = sent (number_of r) out
+abbrev place_sent : List ℕ → Result Spot Refusal → Sent
+place_sent out (Ok s) = sent 0 (entries_of s)
+place_sent out (Err r) = sent (number_of r) out
 
 -- ---- into an array of two
 
@@ -68,9 +66,9 @@ module _ (latitude : ℤ) (longitude : ℕ) (out : List Float) where
   figures_are h = rw (eq-eqb _ _ h)
 
 module _ (x y : Float) (out : List ℕ) where
-  place_by : length out ≡ 2 → (f : Found) → given out (spot_said f) ≡ place_sent out f
-  place_by h (found.At s) = ap (λ (n : ℕ). sent 0 (filled n (entries_of s))) h
-  place_by h (found.Refused r) = refl
+  place_by : length out ≡ 2 → (f : Result Spot Refusal) → given out (spot_said f) ≡ place_sent out f
+  place_by h (Ok s) = ap (λ (n : ℕ). sent 0 (filled n (entries_of s))) h
+  place_by h (Err r) = refl
 
   place_is : length out ≡ 2 → into 2 out (from_degrees_said x y) ≡ place_sent out (from_degrees (figures x y))
   unfolding into from_degrees_said
@@ -80,11 +78,11 @@ module _ (x y : Float) (out : List ℕ) where
 
 module _ (latitude : ℤ) (longitude : ℕ) (out : List Float) where
   abbrev Figured : Plotted → Type 0
-  Figured p = (d : Degrees) × ((in_degrees (spot latitude longitude) ≡ given_as.Degrees d) × (p.array ≡ d.latitude ∷ d.longitude ∷ []))
+  Figured p = (d : Degrees) × ((in_degrees (spot latitude longitude) ≡ Ok d) × (p.array ≡ d.latitude ∷ d.longitude ∷ []))
 
-  by_answer : (a : declared.InDegrees) → in_degrees (spot latitude longitude) ≡ a → (figures_in out a).number ≡ 0 → Figured (figures_in out a)
-  by_answer (given_as.Degrees d) e z = (d, (e, refl))
-  by_answer (given_as.Refused r) e z = absurd (some_number r z)
+  by_answer : (a : Result Degrees Refusal) → in_degrees (spot latitude longitude) ≡ a → (figures_in out a).number ≡ 0 → Figured (figures_in out a)
+  by_answer (Ok d) e z = (d, (e, refl))
+  by_answer (Err r) e z = absurd (some_number r z)
 
   figured : (degrees_plotted out latitude longitude).number ≡ 0 → Figured (degrees_plotted out latitude longitude)
   unfolding degrees_plotted
@@ -95,11 +93,11 @@ module _ (latitude : ℤ) (longitude : ℕ) (out : List Float) where
 
 module _ (x y : Float) (out : List ℕ) where
   abbrev Found_at : Sent → Type 0
-  Found_at p = (s : Spot) × ((from_degrees (figures x y) ≡ found.At s) × (p.array ≡ entries_of s))
+  Found_at p = (s : Spot) × ((from_degrees (figures x y) ≡ Ok s) × (p.array ≡ entries_of s))
 
-  by_found : (f : Found) → from_degrees (figures x y) ≡ f → (place_sent out f).number ≡ 0 → Found_at (place_sent out f)
-  by_found (found.At s) e z = (s, (e, refl))
-  by_found (found.Refused r) e z = absurd (some_number r z)
+  by_found : (f : Result Spot Refusal) → from_degrees (figures x y) ≡ f → (place_sent out f).number ≡ 0 → Found_at (place_sent out f)
+  by_found (Ok s) e z = (s, (e, refl))
+  by_found (Err r) e z = absurd (some_number r z)
 
   found_at : (into 2 out (from_degrees_said x y)).number ≡ 0 → Found_at (into 2 out (from_degrees_said x y))
   unfolding into from_degrees_said
@@ -114,21 +112,21 @@ module _ (x y : Float) (out : List ℕ) where
 pub nothing_rounded : NothingRounded
 nothing_rounded latitude longitude few out back h b = by_given (in_degrees (spot latitude longitude)) refl
   where
-    by_given : (a : declared.InDegrees) → in_degrees (spot latitude longitude) ≡ a → ExactOr8 latitude longitude out back
-    by_given (given_as.Degrees d) e =
+    by_given : (a : Result Degrees Refusal) → in_degrees (spot latitude longitude) ≡ a → ExactOr8 latitude longitude out back
+    by_given (Ok d) e =
         inl (d.latitude, (d.longitude, (in_degrees_is b ∙ figures_are latitude longitude out h ∙ ap (figures_in out) e, laws.exact (spot latitude longitude) d few e)))
-    by_given (given_as.Refused r) e =
-        let q = subst (λ (a : declared.InDegrees). DegreesIs (spot latitude longitude) (in_degrees_said a)) e (told (spot latitude longitude) few) in
+    by_given (Err r) e =
+        let q = subst (λ (a : Result Degrees Refusal). DegreesIs (spot latitude longitude) (in_degrees_said a)) e (told (spot latitude longitude) few) in
         inr (in_degrees_is b ∙ figures_are latitude longitude out h ∙ ap (figures_in out) e ∙ ap (λ (n : ℕ). plotted n out) q.0, q.1)
 
 pub way_back : WayBack
 way_back x y out back h b = by_place (from_degrees (figures x y)) refl
   where
-    by_place : (f : Found) → from_degrees (figures x y) ≡ f → PlaceOr15 x y out back
-    by_place (found.At s) e =
-        inl (s.latitude, (s.longitude, (from_degrees_is b ∙ place_is x y out h ∙ ap (place_sent out) e, subst (λ (f : Found). BackIs (figures x y) (found_said f)) e (back_told (figures x y)))))
-    by_place (found.Refused r) e =
-        let q = subst (λ (f : Found). BackIs (figures x y) (found_said f)) e (back_told (figures x y)) in
+    by_place : (f : Result Spot Refusal) → from_degrees (figures x y) ≡ f → PlaceOr15 x y out back
+    by_place (Ok s) e =
+        inl (s.latitude, (s.longitude, (from_degrees_is b ∙ place_is x y out h ∙ ap (place_sent out) e, subst (λ (f : Result Spot Refusal). BackIs (figures x y) (found_said f)) e (back_told (figures x y)))))
+    by_place (Err r) e =
+        let q = subst (λ (f : Result Spot Refusal). BackIs (figures x y) (found_said f)) e (back_told (figures x y)) in
         inr (from_degrees_is b ∙ place_is x y out h ∙ ap (place_sent out) e ∙ ap (λ (n : ℕ). sent n out) q.0, λ latitude longitude. q.1 (spot latitude longitude))
 
 -- the two doubles that a call wrote
@@ -142,7 +140,7 @@ there_and_back latitude longitude few out x y b numbers back h c =
     let d : p.0 ≡ figures x y = two_are (ap (λ (q : Plotted). q.array) e ∙ p.1.1) in
     from_degrees_is c
     ∙ place_is x y numbers h
-    ∙ ap (place_sent numbers) (laws.there_back (spot latitude longitude) (figures x y) few (p.1.0 ∙ ap given_as.Degrees d))
+    ∙ ap (place_sent numbers) (laws.there_back (spot latitude longitude) (figures x y) few (p.1.0 ∙ ap Ok d))
 
 pub back_and_there : BackAndThere
 back_and_there x y fx fy numbers back b z =
@@ -165,14 +163,14 @@ places_apart latitude latitude' longitude longitude' few few' out out' back back
     let p = figured latitude longitude out (sym (ap (λ (q : Plotted). q.number) e) ∙ z) in
     let p' = figured latitude' longitude' out' (sym (ap (λ (q : Plotted). q.number) e') ∙ z') in
     let d : p'.0 ≡ p.0 = two_are (sym p.1.1 ∙ sym (ap (λ (q : Plotted). q.array) e) ∙ same ∙ ap (λ (q : Plotted). q.array) e' ∙ p'.1.1) in
-    let s : spot latitude longitude ≡ spot latitude' longitude' = laws.apart (spot latitude longitude) (spot latitude' longitude') p.0 few few' p.1.0 (p'.1.0 ∙ ap given_as.Degrees d) in
+    let s : spot latitude longitude ≡ spot latitude' longitude' = laws.apart (spot latitude longitude) (spot latitude' longitude') p.0 few few' p.1.0 (p'.1.0 ∙ ap Ok d) in
     (ap (λ (q : Spot). q.latitude) s, ap (λ (q : Spot). q.longitude) s)
 
 -- ---- zero, and what is no figure
 
-zero_is : in_degrees (spot (pos 0) 0) ≡ given_as.Degrees (figures (fin false 0 (pos 0)) (fin false 0 (pos 0)))
+zero_is : in_degrees (spot (pos 0) 0) ≡ Ok (figures (fin false 0 (pos 0)) (fin false 0 (pos 0)))
 unfolding in_degrees centred
-zero_is = ap (λ (z : Float). given_as.Degrees (figures z z)) (laws.worked).0
+zero_is = ap (λ (z : Float). Ok (figures z z)) (laws.worked).0
 
 pub positive_zero : PositiveZero
 positive_zero out back h b = in_degrees_is b ∙ figures_are (pos 0) 0 out h ∙ ap (figures_in out) zero_is

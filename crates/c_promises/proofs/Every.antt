@@ -1,8 +1,8 @@
 -- For whatever is lent and given there is a call that met its contract, with the number and the array that the definition says; and so a run. The theorems speak of something.
 -- Assumes nothing.
+use Rattle.std.specs.Prelude.{Option, Some, None}
 use Prim.Native.Nat.{ℕ, ◌^◌, ◌<◌}
 use mathlib.Core.Path.{◌≡◌, refl}
-use mathlib.Core.Option.{Option, some, none}
 use mathlib.Core.List.{List, [], ◌∷◌}
 use lib.IntN.{ℤ}
 use lib.Ieee.{Float}
@@ -206,8 +206,8 @@ ran_met table [] = stopped
 ran_met table (c ∷ cs) = then (receive_met table c.message c.time) (ran_met (received table c.message c.time).table cs)
 
 begin_met : (site : Option Site) (table : List ℕ) → Begin site table (set_up_sent (rules.set_up bytes table (site_of site)))
-begin_met none table = set_up_met table
-begin_met (some site) table = set_up_at_met table site.latitude site.longitude
+begin_met None table = set_up_met table
+begin_met (Some site) table = set_up_at_met table site.latitude site.longitude
 
 -- from every set-up that is done, with every calls
 pub run_met : (site : Option Site) (table : List ℕ) → (set_up_sent (rules.set_up bytes table (site_of site))).number ≡ 0

@@ -1,8 +1,8 @@
 -- The promises are not empty and each premise is needed: runs of one or two calls in tables of one place and of two, computed. Every number below is one that C gets.
 -- Assumes nothing.
+use Rattle.std.specs.Prelude.{None}
 use Prim.Native.Nat.{ℕ, zero, suc, ◌*◌, ◌≤◌}
 use mathlib.Core.Bool.{false, true≢false}
-use mathlib.Core.Option.{none}
 use mathlib.Core.Path.{◌≡◌, refl, ap, sym, ◌∙◌}
 use mathlib.Core.List.{List, [], ◌∷◌, map}
 use native.Mathlib.Omega.{arith}
@@ -99,8 +99,8 @@ computed =
 
 -- ---- demand 3
 
-abbrev pub run_of : (n : ℕ) → (set_up_sent (set_up (empty_bytes n))).number ≡ 0 → (cs : List Call) → Run none cs (backs n cs)
-run_of n done cs = run_met none (empty_bytes n) done cs
+abbrev pub run_of : (n : ℕ) → (set_up_sent (set_up (empty_bytes n))).number ≡ 0 → (cs : List Call) → Run None cs (backs n cs)
+run_of n done cs = run_met None (empty_bytes n) done cs
 
 alike : Alike key (first ∷ stranger ∷ []) (first ∷ refused ∷ [])
 alike = its first own_calls_lem.0 (others stranger refused own_calls_lem.3 own_calls_lem.6 refl end)
@@ -116,10 +116,10 @@ not_empty =
     ((λ _ e. zero_not_six computed.two_places.0 e), ((λ p _. true≢false (sym p ∙ own_calls_lem.3)), tt)) in
     let b : Never6 key (first ∷ refused ∷ []) (backs 2 (first ∷ refused ∷ [])) =
     ((λ _ e. zero_not_six computed.two_places.1 e), ((λ p _. true≢false (sym p ∙ own_calls_lem.6)), tt)) in
-    (a, b, isolated key none _ _ _ _ (run_of 2 computed.done.1 _) (run_of 2 computed.done.1 _) alike a b)
+    (a, b, isolated key None _ _ _ _ (run_of 2 computed.done.1 _) (run_of 2 computed.done.1 _) alike a b)
 
 -- why 6 is excepted: of two newcomers to one place the second is refused, and after noise it is not
-pub six_excepted : ((cs ds : List Call) (xs ys : List Sent) → Run none cs xs → Run none ds ys → Alike key cs ds → SameTo key cs xs ys) → ⊥
+pub six_excepted : ((cs ds : List Call) (xs ys : List Sent) → Run None cs xs → Run None ds ys → Alike key cs ds → SameTo key cs xs ys) → ⊥
 six_excepted h =
     let same = h _ _ _ _ (run_of 1 computed.done.0 (stranger_first ∷ second ∷ [])) (run_of 1 computed.done.0 (refused_first ∷ second ∷ []))
     (others stranger_first refused_first own_calls_lem.2 own_calls_lem.5 refl (its second own_calls_lem.1 end)) in
@@ -156,7 +156,7 @@ worked_out_lem =
     }
 
 -- why 6 is excepted
-pub replay_excepted : ((cs : List Call) (xs : List Sent) (run : Run none cs xs) → length cs ≤ 2900 → SameAsTable (Replay (log_of cs) 1 0xABCDEF) (left_of run) key) → ⊥
+pub replay_excepted : ((cs : List Call) (xs : List Sent) (run : Run None cs xs) → length cs ≤ 2900 → SameAsTable (Replay (log_of cs) 1 0xABCDEF) (left_of run) key) → ⊥
 replay_excepted h =
     let cs : List Call = stranger_first ∷ second ∷ [] in
     let run = run_of 1 computed.done.0 (stranger_first ∷ second ∷ []) in
@@ -176,7 +176,7 @@ never_noise zero s = tt
 never_noise (suc n) s = ((λ p _. true≢false (sym p ∙ own_calls_lem.5)), never_noise n _)
 
 abbrev AnyRecords : Type 0
-AnyRecords = (cs : List Call) (xs : List Sent) (run : Run none cs xs) → Never6 key cs xs → SameAsTable (Replay (log_of cs) 1 0xABCDEF) (left_of run) key
+AnyRecords = (cs : List Call) (xs : List Sent) (run : Run None cs xs) → Never6 key cs xs → SameAsTable (Replay (log_of cs) 1 0xABCDEF) (left_of run) key
 
 noise_fails : (n : ℕ) → n ≡ 2901 → AnyRecords → ⊥
 noise_fails n many h =

@@ -1,5 +1,6 @@
 -- One wrong bit, of the calls from C: the number that comes back is what RULES 3.2 says, and for a damaged message that is 7, then 2, then 3.
 -- Assumes nothing.
+use Rattle.std.specs.Prelude.{Result, Ok, Err}
 use Prim.Native.Nat.{ℕ}
 use mathlib.Core.Bool.{Bool, true, false, cond, not}
 use mathlib.Core.Path.{◌≡◌, refl, ap, ap₂, sym, ◌∙◌}
@@ -14,8 +15,6 @@ use Rattle.parity.specs.Parity.{flipped}
 use Rattle.layouts.specs.Said.{Values}
 use Rattle.entries.specs.Sent.{Sent, sent, given, into}
 use Rattle.messages.specs.declared.Message.{Message}
-use Rattle.messages.specs.declared.Decoded.{Decoded}
-use Rattle.messages.specs.declared.Decoded.TheVariants as decode
 use Rattle.messages.specs.Accepted.{Acceptable}
 use Rattle.messages.specs.Damaged.{Damaged}
 use Rattle.messages.specs.Message as messages
@@ -29,11 +28,12 @@ use Rattle.table.specs.Heard.{heard_as}
 use Rattle.table.specs.Table.{received}
 use Rattle.table.proofs.Lawful.{bytes_lawful}
 use Rattle.addercoil.specs.Messages.{message_said}
-use Rattle.addercoil.specs.Tables.{heard_number}
+use Rattle.addercoil.specs.Done.{done_number}
 use Rattle.addercoil.proofs.Laws.{some_number}
 use Rattle.c_promises.specs.Calls.{Decode}
 use Rattle.c_promises.specs.Flips.{Accepted, Accepted.by_receive, Accepted.by_decode, IsBit, OneBitWrong, OneBitWrongDecoded}
 use Rattle.c_promises.proofs.Isolated.{number_is}
+use Rattle.refusals.specs.declared.Refusal.{Refusal}
 
 pub decode_is : {message fields : List ℕ} {back : Sent} → Decode message fields back → back ≡ into 28 fields (message_said (messages.decoded message))
 decode_is {message} {fields} {back} b =
@@ -42,13 +42,13 @@ decode_is {message} {fields} {back} b =
 -- ---- what was accepted is acceptable
 
 module _ (table message : List ℕ) (time : ℕ) where
-  by_answer : (d : Decoded) → (received table message time).answer ≡ d → heard_number (heard_as d) ≡ 0 → Acceptable message
-  by_answer (decode.Message m) e z = taken_acceptable bytes table message time _ (sym (says_the_table bytes bytes_lawful table message time) ∙ ap said e)
-  by_answer (decode.Refused r) e z = absurd (some_number r z)
+  by_answer : (d : Result Message Refusal) → (received table message time).answer ≡ d → done_number (heard_as d) ≡ 0 → Acceptable message
+  by_answer (Ok m) e z = taken_acceptable bytes table message time _ (sym (says_the_table bytes bytes_lawful table message time) ∙ ap said e)
+  by_answer (Err r) e z = absurd (some_number r z)
 
-if_given : (message fields : List ℕ) (d : Decoded) → messages.decoded message ≡ d → (given fields (message_said d)).number ≡ 0 → Acceptable message
-if_given message fields (decode.Message m) e z = (m, e)
-if_given message fields (decode.Refused r) e z = absurd (some_number r z)
+if_given : (message fields : List ℕ) (d : Result Message Refusal) → messages.decoded message ≡ d → (given fields (message_said d)).number ≡ 0 → Acceptable message
+if_given message fields (Ok m) e z = (m, e)
+if_given message fields (Err r) e z = absurd (some_number r z)
 
 if_decoded : (message fields : List ℕ) → (into 28 fields (message_said (messages.decoded message))).number ≡ 0 → Acceptable message
 unfolding into
@@ -71,10 +71,10 @@ number_in : Said Values → ℕ
 number_in (number n) = n
 number_in (gives v) = 0
 
-says_number : (d : Decoded) → heard_number (heard_as d) ≡ number_in (said d)
+says_number : (d : Result Message Refusal) → done_number (heard_as d) ≡ number_in (said d)
 unfolding number_in
-says_number (decode.Message m) = refl
-says_number (decode.Refused r) = refl
+says_number (Ok m) = refl
+says_number (Err r) = refl
 
 else_3 : (b c : Bool) {n : ℕ} → n ≡ number_in (cond b (number 7) (cond c (number 2) (number 3))) → (n ≡ 7 → ⊥) → (n ≡ 2 → ⊥) → n ≡ 3
 unfolding number_in
@@ -94,5 +94,5 @@ pub one_bit_wrong_decoded : OneBitWrongDecoded
 unfolding into
 one_bit_wrong_decoded message bit a i fields back h b =
     decode_is b
-    ∙ ap (λ (d : Decoded). into 28 fields (message_said d)) (damaged_is_3 (flipped bit message) (damaged message bit a i))
+    ∙ ap (λ (d : Result Message Refusal). into 28 fields (message_said d)) (damaged_is_3 (flipped bit message) (damaged message bit a i))
     ∙ rw (eq-eqb _ _ h)

@@ -1,14 +1,13 @@
 -- Demand 3 of the calls from C: a call that meets its contract does what the rule says, so the theorem over the rules carries over.
 -- Assumes nothing.
+use Rattle.refusals.specs.declared.Refusal.{Refusal}
+use Rattle.std.specs.Prelude.{Ok, Err, Option, Some, None, Result, ⊤}
 use Prim.Native.Nat.{ℕ}
 use mathlib.Core.Bool.{true, false≢true}
 use mathlib.Core.Path.{◌≡◌, refl, ap, ap₂, sym, ◌∙◌, subst}
-use mathlib.Core.Option.{Option, some, none}
 use mathlib.Core.List.{List}
 use lib.IntN.{ℤ}
 use Rattle.entries.specs.Sent.{Sent, sent}
-use Rattle.rules.specs.declared.answers.SetUp as Setting-up
-use Rattle.rules.specs.declared.answers.SetUp.TheVariants as setting
 use Rattle.rules.specs.Form.{East}
 use Rattle.rules.specs.Rules as rules
 use Rattle.rules.proofs.Laws.{whole_after, set_up_table_lem}
@@ -18,7 +17,8 @@ use Rattle.table.specs.Table.{set_up, set_up_at, received}
 use Rattle.table.proofs.Lawful.{bytes_lawful}
 use Rattle.isolation.specs.Runs.{Call, NeverFull}
 use Rattle.isolation.proofs.Both.{bytes_isolated}
-use Rattle.addercoil.specs.Tables.{set_up_number, set_up_sent, heard_number, received_sent}
+use Rattle.addercoil.specs.Done.{done_number}
+use Rattle.addercoil.specs.Tables.{set_up_sent, received_sent}
 use Rattle.addercoil.proofs.Laws.{some_number}
 use Rattle.c_promises.specs.Calls.{Receive}
 use Rattle.c_promises.specs.Runs.{Site, site_of, Begin, Ran, Ran.stopped, Ran.then, Run, Never6, Isolation}
@@ -27,8 +27,8 @@ use Rattle.c_promises.proofs.Followed.{Followed, Followed.no_more, Followed.one_
 -- ---- each call did what the rule says
 
 begin_is : (site : Option Site) (table : List ℕ) (back : Sent) → Begin site table back → back ≡ set_up_sent (rules.set_up bytes table (site_of site))
-begin_is none table back b = ap (sent back.number) (sym b.leaves) ∙ b.meets ∙ ap (λ (s : List ℕ). set_up_sent (set_up s)) b.lent
-begin_is (some site) table back b =
+begin_is None table back b = ap (sent back.number) (sym b.leaves) ∙ b.meets ∙ ap (λ (s : List ℕ). set_up_sent (set_up s)) b.lent
+begin_is (Some site) table back b =
     ap (sent back.number) (sym b.leaves)
     ∙ b.meets
     ∙ ap₂ (λ (s : List ℕ) (n : ℤ). set_up_sent (set_up_at s (record { latitude = n; longitude = b.args.1.1.0 }))) b.lent b.north
@@ -42,7 +42,7 @@ receive_is {table} {message} {time} {back} b =
     ∙ ap (λ (t : ℕ). received_sent (received table message t)) b.at
 
 module _ {table message : List ℕ} {time : ℕ} {back : Sent} (b : Receive table message time back) where
-  pub number_is : back.number ≡ heard_number (heard_as (received table message time).answer)
+  pub number_is : back.number ≡ done_number (heard_as (received table message time).answer)
   unfolding received_sent
   number_is = ap (λ (x : Sent). x.number) (receive_is b)
 
@@ -55,16 +55,16 @@ module _ {table message : List ℕ} {time : ℕ} {back : Sent} (b : Receive tabl
 
 -- ---- a set-up that returned 0
 
-if_done : (x : Setting-up.SetUp) → set_up_number x ≡ 0 → x ≡ setting.Done
-if_done setting.Done e = refl
-if_done (setting.Refused r) e = absurd (some_number r e)
+if_done : (x : Result ⊤ Refusal) → done_number x ≡ 0 → x ≡ Ok tt
+if_done (Ok tt) e = refl
+if_done (Err r) e = absurd (some_number r e)
 
 pub east : (site : Option Site) → East (site_of site)
-east none k = absurd (false≢true k)
-east (some site) k = site.fits
+east None k = absurd (false≢true k)
+east (Some site) k = site.fits
 
 module _ (site : Option Site) (table : List ℕ) (back : Sent) (b : Begin site table back) (zero : back.number ≡ 0) where
-  pub begun : (rules.set_up bytes table (site_of site)).answer ≡ setting.Done
+  pub begun : (rules.set_up bytes table (site_of site)).answer ≡ Ok tt
   unfolding set_up_sent
   begun = if_done _ (sym (ap (λ (x : Sent). x.number) (begin_is site table back b)) ∙ zero)
 
@@ -84,7 +84,7 @@ followed w (then {cs = cs} {backs = xs} b more) =
     (subst (λ (z : List ℕ). Followed received (λ (y : List ℕ). y) z cs xs) (table_is b) (followed (whole_left b w) more))
 
 module _ (site : Option Site) {cs : List Call} {xs : List Sent} (p : Run site cs xs) where
-  pub run_done : (rules.set_up bytes p.table (site_of site)).answer ≡ setting.Done
+  pub run_done : (rules.set_up bytes p.table (site_of site)).answer ≡ Ok tt
   run_done = begun site p.table p.back p.begun p.done
 
   pub run_table : p.back.array ≡ (rules.set_up bytes p.table (site_of site)).table

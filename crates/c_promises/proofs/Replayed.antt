@@ -1,9 +1,9 @@
 -- A replay is the table, of the calls from C: both write the row of what is held of the key, and the plain method holds what the table holds.
 -- Assumes nothing.
+use Rattle.std.specs.Prelude.{Option, Some, None, Result}
 use Prim.Native.Nat.{ℕ, zero, suc, ◌*◌, ◌+◌, ◌-◌, ◌≤◌, ◌<◌}
 use mathlib.Core.Bool.{Bool, true, false, not}
 use mathlib.Core.Path.{◌≡◌, refl, ap, ap₂, sym, ◌∙◌, subst}
-use mathlib.Core.Option.{Option, some, none}
 use mathlib.Core.List.{List}
 use native.Mathlib.Omega.{arith}
 use borrow.Author.Tests.{le-leb, lt-leb}
@@ -18,7 +18,6 @@ use Rattle.entries.specs.Arrays.{filled}
 use Rattle.entries.specs.Sent.{Sent, sent, into}
 use Rattle.whereabouts.specs.declared.Site as located
 use Rattle.whereabouts.specs.Located.{no_site, site_at}
-use Rattle.track.specs.declared.held.Looked.{Looked}
 use Rattle.track_rows.specs.Held.{looked_said}
 use Rattle.replay.specs.Replay.{is_log, is_wide, replayed}
 use Rattle.rules.proofs.Laws.{looked_up_lem}
@@ -37,17 +36,19 @@ use Rattle.c_promises.specs.Logs.{left_by, left_of, key_of, key_coarse, SameAsTa
 use Rattle.c_promises.proofs.Coarse.{any_site}
 use Rattle.c_promises.proofs.Followed.{row_of, written, writes}
 use Rattle.c_promises.proofs.Isolated.{east, table_is, whole_left, run_done, run_table, run_whole, run_never}
+use Rattle.refusals.specs.declared.Refusal.{Refusal}
+use Rattle.track.specs.declared.Track.{Track}
 
 -- ---- each call did what the rule says
 
 replay_is : (site : Option Site) (log : List ℕ) (kind address : ℕ) (track : List ℕ) (back : Sent) → ReplayBy site log kind address track back
     → back ≡ into 72 track (replay_said log kind address (site_of site))
-replay_is none log kind address track back b =
+replay_is None log kind address track back b =
     ap (sent back.number) (sym b.leaves)
     ∙ b.meets
     ∙ ap₂ (λ (l : List ℕ) (k : ℕ). into 72 b.args.1.1.1.0.now (replay_said l k b.args.1.1.0 no_site)) b.lent b.its_kind
     ∙ ap₂ (λ (a : ℕ) (o : List ℕ). into 72 o (replay_said log kind a no_site)) b.its_address b.into
-replay_is (some site) log kind address track back b =
+replay_is (Some site) log kind address track back b =
     ap (sent back.number) (sym b.leaves)
     ∙ b.meets
     ∙ ap₂ (λ (l : List ℕ) (k : ℕ). into 72 b.args.1.1.1.1.1.0.now (replay_said l k b.args.1.1.0 (site_at (record { latitude = b.args.1.1.1.0; longitude = b.args.1.1.1.1.0 })))) b.lent b.its_kind
@@ -94,7 +95,7 @@ module _ (kind : Kind) (address : ℕ) (few : address < addresses) (narrow : is_
       let p : x ≡ sent 0 (filled 72 (row_of (key_for kind address) (view (left_of run) (key_for kind address)))) =
       is track x a
       ∙ ap (into 72 track) (asked (log_of cs) bad kind address given (log_whole cs most) n)
-      ∙ ap (λ (l : Looked). into 72 track (looked_said (key_for kind address) l)) (e ∙ by_log ∙ looked_up_lem bytes (left_of run) (key_for kind address) w)
+      ∙ ap (λ (l : Result (Option Track) Refusal). into 72 track (looked_said (key_for kind address) l)) (e ∙ by_log ∙ looked_up_lem bytes (left_of run) (key_for kind address) w)
       ∙ written (key_for kind address) track (view (left_of run) (key_for kind address)) h in
       let q = writes w g b in
       (ap (λ (z : Sent). z.number) p, ap (λ (z : Sent). z.number) q, ap (λ (z : Sent). z.array) (p ∙ sym q))

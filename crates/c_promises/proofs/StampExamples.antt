@@ -1,8 +1,8 @@
 -- What is promised of stamps is not empty, and each premise is needed: runs of one or two calls with stamps, computed. Two messages of two aircraft; then 14 zero bytes, which get 4: a stamp counts all the same.
 -- Assumes nothing.
+use Rattle.std.specs.Prelude.{Some, None}
 use Prim.Native.Nat.{ℕ, ◌+◌, ◌^◌, ◌<◌}
 use mathlib.Core.Bool.{Bool, true, false, cond, not, true≢false}
-use mathlib.Core.Option.{some, none}
 use mathlib.Core.Path.{◌≡◌, refl, ap, sym, ◌∙◌, subst}
 use mathlib.Core.List.{List, [], ◌∷◌, map}
 use native.Mathlib.Omega.{arith}
@@ -47,8 +47,8 @@ equal_backs n cs = stamped_backs (λ (c : Call). c.message) (λ (c : Call). c.ti
 abbrev numbers_of : List Both → List ℕ
 numbers_of xs = map (λ (x : Both). x.sent.number) xs
 
-abbrev run_equal : (n : ℕ) → (set_up_sent (set_up (empty_bytes n))).number ≡ 0 → (cs : List Call) → Narrow (λ (c : Call). c.message) (λ (c : Call). c.time) cs → RunEqual none cs (equal_backs n cs)
-run_equal n done cs small = run_stamps_met (λ (c : Call). c.message) (λ (c : Call). c.time) none (empty_bytes n) done cs small
+abbrev run_equal : (n : ℕ) → (set_up_sent (set_up (empty_bytes n))).number ≡ 0 → (cs : List Call) → Narrow (λ (c : Call). c.message) (λ (c : Call). c.time) cs → RunEqual None cs (equal_backs n cs)
+run_equal n done cs small = run_stamps_met (λ (c : Call). c.message) (λ (c : Call). c.time) None (empty_bytes n) done cs small
 
 -- ---- true times: 2^32, whose stamp is 0; 5, then 4; 0, then 2^31; 2^32 - 1, then 2^32 + 5, whose stamp is 5
 
@@ -74,8 +74,8 @@ all_narrow : (cs : List times.Call) → Narrow (λ (c : times.Call). c.message) 
 all_narrow [] = tt
 all_narrow (c ∷ cs) = (omega arith, all_narrow cs)
 
-abbrev run_true : (cs : List times.Call) → RunTrue none cs (backs cs)
-run_true cs = run_stamps_met (λ (c : times.Call). c.message) (λ (c : times.Call). stamp_of c.time) none (empty_bytes 1) computed.done.0 cs (all_narrow cs)
+abbrev run_true : (cs : List times.Call) → RunTrue None cs (backs cs)
+run_true cs = run_stamps_met (λ (c : times.Call). c.message) (λ (c : times.Call). stamp_of c.time) None (empty_bytes 1) computed.done.0 cs (all_narrow cs)
 
 -- the clock after each call, in an array that held a seven
 abbrev clocks_of : List Both → List Sent
@@ -98,13 +98,13 @@ computed_stamps = record { two_places = (refl, refl); one_place = (refl, refl); 
 -- two runs that keep every premise, and of which the second calls return 0 and 3
 pub stamped_not_empty : SameTo key (first ∷ stranger ∷ []) (tables_of (equal_backs 2 (first ∷ stranger ∷ []))) (tables_of (equal_backs 2 (first ∷ refused ∷ [])))
 stamped_not_empty =
-    stamped_isolated key none _ _ _ _ (run_equal 2 computed.done.1 (first ∷ stranger ∷ []) (omega arith, (omega arith, tt))) (run_equal 2 computed.done.1 (first ∷ refused ∷ []) (omega arith, (omega arith, tt)))
+    stamped_isolated key None _ _ _ _ (run_equal 2 computed.done.1 (first ∷ stranger ∷ []) (omega arith, (omega arith, tt))) (run_equal 2 computed.done.1 (first ∷ refused ∷ []) (omega arith, (omega arith, tt)))
     (its first own_calls_lem.0 (others stranger refused own_calls_lem.3 own_calls_lem.6 refl end))
     ((λ _ e. zero_not_six computed_stamps.two_places.0 e), ((λ p _. true≢false (sym p ∙ own_calls_lem.3)), tt))
     ((λ _ e. zero_not_six computed_stamps.two_places.1 e), ((λ p _. true≢false (sym p ∙ own_calls_lem.6)), tt))
 
 -- why 6 is excepted
-pub stamped_six_excepted : ((cs ds : List Call) (xs ys : List Both) → RunEqual none cs xs → RunEqual none ds ys → Alike key cs ds → SameTo key cs (tables_of xs) (tables_of ys)) → ⊥
+pub stamped_six_excepted : ((cs ds : List Call) (xs ys : List Both) → RunEqual None cs xs → RunEqual None ds ys → Alike key cs ds → SameTo key cs (tables_of xs) (tables_of ys)) → ⊥
 stamped_six_excepted h =
     let same = h _ _ _ _ (run_equal 1 computed.done.0 (stranger_first ∷ second ∷ []) (omega arith, (omega arith, tt))) (run_equal 1 computed.done.0 (refused_first ∷ second ∷ []) (omega arith, (omega arith, tt)))
     (others stranger_first refused_first own_calls_lem.2 own_calls_lem.5 refl (its second own_calls_lem.1 end)) in
@@ -135,17 +135,17 @@ module _ (a b : ℕ) (f : a < 2 ^ 64) (g : b < 2 ^ 64) where
   first_true : accepted one ≡ true → stamp_of a ≡ a → FirstTrue two (backs two)
   first_true t e = subst (λ (o : Bool). IfElse o (stamp_of a ≡ a) (FirstTrue (at b g ∷ []) rest)) (sym t) e
 
-  none_far : accepted one ≡ true → b < a + 2 ^ 31 → NoneFar none two (backs two)
-  none_far t n = (tt, subst (λ (o : Bool). NoneFar (cond o (some a) none) (at b g ∷ []) rest) (sym t) (n, tt))
+  none_far : accepted one ≡ true → b < a + 2 ^ 31 → NoneFar None two (backs two)
+  none_far t n = (tt, subst (λ (o : Bool). NoneFar (cond o (Some a) None) (at b g ∷ []) rest) (sym t) (n, tt))
 
 -- all three hold if the counter starts again between two calls, and the clock is the true time (`by_again`)
-pub across_a_turn : FirstTrue again (backs again) × NeverBack 0 again × NoneFar none again (backs again)
+pub across_a_turn : FirstTrue again (backs again) × NeverBack 0 again × NoneFar None again (backs again)
 across_a_turn =
     let t = first_accepted computed_stamps.by_again.0 in
     (first_true 4294967295 4294967301 (lit< tt) (lit< tt) t refl, (omega arith, (omega arith, tt)), none_far 4294967295 4294967301 (lit< tt) (lit< tt) t (omega arith))
 
 -- the first accepted stamp is the true time: else the clock is another
-pub first_needed : ((cs : List times.Call) (xs : List Both) (run : RunTrue none cs xs) → NeverBack 0 cs → NoneFar none cs xs → Right run.back.array cs xs) → ⊥
+pub first_needed : ((cs : List times.Call) (xs : List Both) (run : RunTrue None cs xs) → NeverBack 0 cs → NoneFar None cs xs → Right run.back.array cs xs) → ⊥
 first_needed h =
     let r = h turned (backs turned) (run_true turned) (omega arith, tt) (tt, tt) in
     let e = (r.0 refl).1 (7 ∷ []) _ refl (clock_met (received_stamp (set_up (empty_bytes 1)).table (replicate 14 0) 0 (0 ∷ 0 ∷ [])).table (7 ∷ [])) in
@@ -158,14 +158,14 @@ first_needed h =
         omega arith
 
 -- true times never go back: else a message is late
-pub never_back_needed : ((cs : List times.Call) (xs : List Both) (run : RunTrue none cs xs) → FirstTrue cs xs → NoneFar none cs xs → Right run.back.array cs xs) → ⊥
+pub never_back_needed : ((cs : List times.Call) (xs : List Both) (run : RunTrue None cs xs) → FirstTrue cs xs → NoneFar None cs xs → Right run.back.array cs xs) → ⊥
 never_back_needed h =
     let t = first_accepted computed_stamps.by_back in
     let r = h back (backs back) (run_true back) (first_true 5 4 (lit< tt) (lit< tt) t refl) (none_far 5 4 (lit< tt) (lit< tt) t (omega arith)) in
     true≢false (sym (r.1.0 refl).0 ∙ second_late computed_stamps.by_back)
 
 -- none is 2^31 or more past the last accepted one: else a message is late
-pub none_far_needed : ((cs : List times.Call) (xs : List Both) (run : RunTrue none cs xs) → FirstTrue cs xs → NeverBack 0 cs → Right run.back.array cs xs) → ⊥
+pub none_far_needed : ((cs : List times.Call) (xs : List Both) (run : RunTrue None cs xs) → FirstTrue cs xs → NeverBack 0 cs → Right run.back.array cs xs) → ⊥
 none_far_needed h =
     let t = first_accepted computed_stamps.by_far in
     let r = h far (backs far) (run_true far) (first_true 0 2147483648 (lit< tt) (lit< tt) t refl) (omega arith, (omega arith, tt)) in

@@ -1,9 +1,9 @@
 -- Demand 3 over equal stamps, of the calls from C: from a state of two zeros each call does what the rule says, and leaves the entries of its state.
 -- Assumes nothing.
+use Rattle.std.specs.Prelude.{Result, Ok, Err, Option}
 use Prim.Native.Nat.{ℕ, ◌^◌, ◌<◌}
 use mathlib.Core.Bool.{Bool, true, false}
 use mathlib.Core.Path.{◌≡◌, refl, ap, ap₂, sym, ◌∙◌, subst}
-use mathlib.Core.Option.{Option}
 use mathlib.Core.List.{List}
 use native.Mathlib.Omega.{arith}
 use borrow.Author.Tests.{eqb-false, lt-leb}
@@ -11,7 +11,6 @@ use lib.Dec.{eqb, ltb}
 use lib.ListN.{length}
 use Rattle.entries.specs.Means.{bit}
 use Rattle.entries.specs.Sent.{sent}
-use Rattle.rules.specs.declared.answers.SetUp.TheVariants.{Done}
 use Rattle.rules.specs.Rules as rules
 use Rattle.rules.specs.View as rules-view
 use Rattle.rules.proofs.Laws.{whole_after}
@@ -20,8 +19,6 @@ use Rattle.table.specs.View.{view}
 use Rattle.table.proofs.Lawful.{bytes_lawful}
 use Rattle.stamps.specs.declared.Stamps.{Stamps}
 use Rattle.stamps.specs.declared.Stamped.{Stamped}
-use Rattle.stamps.specs.declared.Extended.{Extended}
-use Rattle.stamps.specs.declared.Extended.TheVariants.{At, Refused}
 use Rattle.stamps.specs.Heard.{heard}
 use Rattle.stamps.specs.Stamps.{fresh, time_of, stamped_by, stamped}
 use Rattle.stamps.proofs.Ways.{no_length, stamped_by_lem}
@@ -36,6 +33,7 @@ use Rattle.c_promises.specs.Runs.{Site, site_of, Never6}
 use Rattle.c_promises.specs.Stamps.{RanStamps, RanStamps.stopped, RanStamps.then, RunStamps, RunEqual, tables_of, StampedIsolation}
 use Rattle.c_promises.proofs.Followed.{Followed, Followed.no_more, Followed.one_more, never_full, side_by_side}
 use Rattle.c_promises.proofs.Isolated.{east, begun, begun_table, begun_whole}
+use Rattle.refusals.specs.declared.Refusal.{Refusal}
 
 receive_stamp_is : {table message : List ℕ} {stamp : ℕ} {state : List ℕ} {back : Both} → ReceiveStamp table message stamp state back → back ≡ received_stamp table message stamp state
 receive_stamp_is {table} {message} {stamp} {state} {back} b =
@@ -76,18 +74,18 @@ pub record Good (k : Kept (List ℕ)) : Type 0 where
   pub narrow : k.state.last < 2 ^ 32
 
 module _ (s m : List ℕ) (stamp : ℕ) (state : Stamps) where
-  whole_by : (x : Extended) → bytes.whole (stamped_by bytes s state m stamp x).table ≡ bytes.whole s
-  whole_by (At time) = whole_after bytes bytes_lawful s m time
-  whole_by (Refused r) = refl
+  whole_by : (x : Result ℕ Refusal) → bytes.whole (stamped_by bytes s state m stamp x).table ≡ bytes.whole s
+  whole_by (Ok time) = whole_after bytes bytes_lawful s m time
+  whole_by (Err r) = refl
 
-  narrow_by : (x : Extended) → stamp < 2 ^ 32 → state.last < 2 ^ 32 → (stamped_by bytes s state m stamp x).answer.state.last < 2 ^ 32
-  narrow_by (At time) h f = h
-  narrow_by (Refused r) h f = f
+  narrow_by : (x : Result ℕ Refusal) → stamp < 2 ^ 32 → state.last < 2 ^ 32 → (stamped_by bytes s state m stamp x).answer.state.last < 2 ^ 32
+  narrow_by (Ok time) h f = h
+  narrow_by (Err r) h f = f
 
 pub next_good : (k : Kept (List ℕ)) (m : List ℕ) (stamp : ℕ) → stamp < 2 ^ 32 → Good k → Good (by_stamp bytes k m stamp).table
 unfolding stamped
 next_good k m stamp h g =
-    let x : Extended = time_of bytes k.table k.state m stamp in
+    let x : Result ℕ Refusal = time_of bytes k.table k.state m stamp in
     record { whole = whole_by k.table m stamp k.state x ∙ g.whole; narrow = narrow_by k.table m stamp k.state x h g.narrow }
 
 view_kept : (k : Kept (List ℕ)) (key : ℕ) → rules-view.view (kept bytes) k key ≡ view k.table key
@@ -128,7 +126,7 @@ module _ (site : Option Site) {C : Type 0} {message : C → List ℕ} {stamp : C
   pub ready_good : Good (beside p.back.array fresh)
   ready_good = record { whole = begun_whole site p.table p.back p.begun p.done; narrow = omega arith }
 
-  pub ready_done : (rules.set_up bytes p.table (site_of site)).answer ≡ Done
+  pub ready_done : (rules.set_up bytes p.table (site_of site)).answer ≡ Ok tt
   ready_done = begun site p.table p.back p.begun p.done
 
   pub ready_table : p.back.array ≡ (rules.set_up bytes p.table (site_of site)).table
@@ -143,7 +141,7 @@ module _ (site : Option Site) {cs : List Call} {xs : List Both} (p : RunEqual si
       ap (λ (z : List ℕ). beside z fresh) (ready_table site p)
       ∙ sym (ap (λ x. x.table) (set_up_done bytes (beside p.table fresh) (site_of site) (ready_done site p)))
 
-  first_done : (rules.set_up (kept bytes) (beside p.table fresh) (site_of site)).answer ≡ Done
+  first_done : (rules.set_up (kept bytes) (beside p.table fresh) (site_of site)).answer ≡ Ok tt
   first_done = ap (λ x. x.answer) (set_up_done bytes (beside p.table fresh) (site_of site) (ready_done site p))
 
   by_rule : Followed (by_stamp bytes) table_in first cs (tables_of xs)

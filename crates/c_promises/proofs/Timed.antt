@@ -1,16 +1,14 @@
 -- The times are right, of the calls from C: a run is one that was played by the rule, whose answers say by their numbers whether a stamp was accepted. A clock that is the true time tells at which time a message was received.
 -- Assumes nothing.
+use Rattle.std.specs.Prelude.{Result, Ok, Err, Option, Some, None}
 use Prim.Native.Nat.{ℕ}
 use mathlib.Core.Bool.{Bool, true, false, cond, not, true≢false}
 use mathlib.Core.Path.{◌≡◌, refl, ap, ap₂, sym, ◌∙◌, subst}
-use mathlib.Core.Option.{Option, some, none}
 use mathlib.Core.List.{List, [], ◌∷◌, map}
 use native.Mathlib.Omega.{arith}
 use borrow.Author.Tests.{eq-eqb, le-ltb}
 use Rattle.entries.specs.Arrays.{filled}
 use Rattle.entries.specs.Sent.{Sent, sent, into}
-use Rattle.messages.specs.declared.Decoded.{Decoded}
-use Rattle.messages.specs.declared.Decoded.TheVariants as decode
 use Rattle.rules.proofs.Laws.{clock_after}
 use Rattle.table_bytes.specs.Layout.{clock_of}
 use Rattle.table.specs.Bytes.{bytes}
@@ -19,8 +17,6 @@ use Rattle.table.specs.Table.{After, received, clock_in}
 use Rattle.table.proofs.Lawful.{bytes_lawful}
 use Rattle.stamps.specs.declared.Stamps.{Stamps}
 use Rattle.stamps.specs.declared.Stamped.{Stamped}
-use Rattle.stamps.specs.declared.Extended.{Extended}
-use Rattle.stamps.specs.declared.Extended.TheVariants.{At, Refused}
 use Rattle.stamps.specs.Heard.{heard}
 use Rattle.stamps.specs.Stamps.{fresh, time_of, with_stamp, stamped_by, stamped}
 use Rattle.stamps.specs.Times as times
@@ -30,13 +26,16 @@ use Rattle.stamps.proofs.Extension as extension
 use Rattle.isolation.specs.Stamped.{Kept, beside, by_stamp}
 use Rattle.addercoil.specs.Blocks.{Both}
 use Rattle.addercoil.specs.Stamps.{state_row, noted_after}
-use Rattle.addercoil.specs.Tables.{heard_number, received_sent, clock_said}
+use Rattle.addercoil.specs.Done.{done_number}
+use Rattle.addercoil.specs.Tables.{received_sent, clock_said}
 use Rattle.c_promises.specs.Calls.{Clock, Receive}
 use Rattle.c_promises.specs.Runs.{site_of}
 use Rattle.c_promises.specs.Stamps.{RanStamps, RanStamps.stopped, RanStamps.then}
 use Rattle.c_promises.specs.Times.{accepted, FirstTrue, NoneFar, ClockIs, Right, TimesRight}
 use Rattle.c_promises.proofs.Isolated.{east, receive_is}
 use Rattle.c_promises.proofs.Stamped.{Good, next_good, noted, table_noted, state_noted, ready_good, ready_done, ready_table}
+use Rattle.messages.specs.declared.Message.{Message}
+use Rattle.refusals.specs.declared.Refusal.{Refusal}
 
 -- ---- what addercoil_clock says
 
@@ -70,9 +69,9 @@ are_told k s-is l-is g (then {c = c} h b more) =
 
 -- ---- the premises, by numbers and by answers
 
-same_accepted : (d : Decoded) → not (not_accepted (heard_number (heard_as d))) ≡ is_accepted d
-same_accepted (decode.Message m) = refl
-same_accepted (decode.Refused r) = refl
+same_accepted : (d : Result Message Refusal) → not (not_accepted (done_number (heard_as d))) ≡ is_accepted d
+same_accepted (Ok m) = refl
+same_accepted (Err r) = refl
 
 or_else : (A B C : Type 0) (t : Bool) {u : Bool} → t ≡ u → (B → C) → IfElse t A B → IfElse u A C
 or_else A B C true e f x = subst (λ (b : Bool). IfElse b A C) e x
@@ -87,20 +86,20 @@ none_far : (last : Option ℕ) (cs : List Call) (rs : List (After Stamped)) → 
 none_far last [] rs f = tt
 none_far last (c ∷ cs) [] f = tt
 none_far last (c ∷ cs) (r ∷ rs) f =
-    (f.0, none_far (cond (is_accepted r.answer.answer) (some c.time) last) cs rs (subst (λ (b : Bool). NoneFar (cond b (some c.time) last) cs (map told rs)) (same_accepted r.answer.answer) f.1))
+    (f.0, none_far (cond (is_accepted r.answer.answer) (Some c.time) last) cs rs (subst (λ (b : Bool). NoneFar (cond b (Some c.time) last) cs (map told rs)) (same_accepted r.answer.answer) f.1))
 
 -- ---- at which time a message was received
 
 module _ (s m : List ℕ) (state : Stamps) (stamp time : ℕ) where
-  abbrev by : Extended → After Stamped
+  abbrev by : Result ℕ Refusal → After Stamped
   by x = stamped_by bytes s state m stamp x
 
-  true_time : (x : Extended) → Fair bytes s m x → is_accepted (by x).answer.answer ≡ true → clock_of (by x).table ≡ time → by x ≡ with_stamp stamp (received s m time)
-  true_time (At t) f a k =
+  true_time : (x : Result ℕ Refusal) → Fair bytes s m x → is_accepted (by x).answer.answer ≡ true → clock_of (by x).table ≡ time → by x ≡ with_stamp stamp (received s m time)
+  true_time (Ok t) f a k =
       let after : clock_of (received s m t).table ≡ t =
       clock_after bytes bytes_lawful s m t f.1.0 f.1.1.1 f.0 ∙ ap (λ (b : Bool). cond b (clock_of s) t) (le-ltb t (clock_of s) f.1.1.0) in
       ap (λ (u : ℕ). with_stamp stamp (received s m u)) (sym after ∙ k)
-  true_time (Refused r) f a k = absurd (true≢false (sym a ∙ f))
+  true_time (Err r) f a k = absurd (true≢false (sym a ∙ f))
 
 module _ (k : Kept (List ℕ)) (g : Good k) (c : Call) where
   abbrev after_it : After Stamped
@@ -137,4 +136,4 @@ times_right site cs xs run a b f =
     subst (Right run.back.array cs) (sym e)
     (right_told k cs (ready_good site run)
     (extension.times_right bytes bytes_lawful run.table (site_of site) (east site) (ready_done site run) cs rs
-    (subst (λ (s : List ℕ). Played bytes s fresh cs rs) (ready_table site run) (played k cs)) (first_true cs rs (subst (FirstTrue cs) e a)) b (none_far none cs rs (subst (NoneFar none cs) e f))))
+    (subst (λ (s : List ℕ). Played bytes s fresh cs rs) (ready_table site run) (played k cs)) (first_true cs rs (subst (FirstTrue cs) e a)) b (none_far None cs rs (subst (NoneFar None cs) e f))))

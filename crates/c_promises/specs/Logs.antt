@@ -1,6 +1,5 @@
 -- RULES 13.3 and 13.5: a replay as C sees it. Its track equals the table's track after the same records from a set-up with the same site, held or absent, if the table never answered 6 for that key.
-use Rattle.std.specs.Prelude.{ℕ, ◌+◌, ◌*◌, ◌≤◌, ◌<◌, ◌≡◌, List, [], ◌∷◌, length}
-use Rattle.std.proofs.Math.Option.{Option, some, none}
+use Rattle.std.specs.Prelude.{ℕ, ◌+◌, ◌*◌, ◌≤◌, ◌<◌, ◌≡◌, List, [], ◌∷◌, length, Option, Some, None}
 use Rattle.refusals.specs.Numbers.{most_records}
 use Rattle.keys.specs.Keys.{addresses, flags, stations, kinds, first_coarse}
 use Rattle.entries.specs.Sent.{Sent}
@@ -32,8 +31,8 @@ SameAsTable Replayed table key =
 
 -- addercoil_replay of a log, or addercoil_replay_at with a site
 abbrev pub ReplayBy : Option Site → List ℕ → ℕ → ℕ → List ℕ → Sent → Type 0
-ReplayBy none log kind address track back = Replay log kind address track back
-ReplayBy (some site) log kind address track back = ReplayAt log kind address site.latitude site.longitude track back
+ReplayBy None log kind address track back = Replay log kind address track back
+ReplayBy (Some site) log kind address track back = ReplayAt log kind address site.latitude site.longitude track back
 
 -- a run with a site or with none, of at most 2,900 records, none of which returned 6 with a message of the key: kinds I to N
 abbrev pub Replays : Type 0

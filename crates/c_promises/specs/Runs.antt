@@ -1,7 +1,6 @@
 -- RULES 1.4: demand 3 as C sees it. Take two runs from one set-up, with as many calls and equal times. Calls with one aircraft's messages are the same in both. Each other call may bring any other 14 bytes, if they
 -- are no acceptable message of that aircraft. If neither run returns 6 to that aircraft, its answers are equal call by call, and after each call its track is equal, or absent from both.
-use Rattle.std.specs.Prelude.{ℕ, ◌^◌, ◌<◌, true, ◌≡◌, ◌↔◌, List, [], ◌∷◌, ℤ, length, get_or}
-use Rattle.std.proofs.Math.Option.{Option, some, none}
+use Rattle.std.specs.Prelude.{ℕ, ◌^◌, ◌<◌, true, ◌≡◌, ◌↔◌, List, [], ◌∷◌, ℤ, length, get_or, Option, Some, None}
 use Rattle.entries.specs.Sent.{Sent}
 use Rattle.messages.specs.Message.{decoded}
 use Rattle.whereabouts.specs.declared.Site as located
@@ -17,13 +16,13 @@ pub record Site : Type 0 where
 
 -- the site of a table that was set up so: none after addercoil_set_up
 abbrev pub site_of : Option Site → located.Site
-site_of none = no_site
-site_of (some site) = site_at (record { latitude = site.latitude; longitude = site.longitude })
+site_of None = no_site
+site_of (Some site) = site_at (record { latitude = site.latitude; longitude = site.longitude })
 
 -- a set-up with a site or with none
 abbrev pub Begin : Option Site → List ℕ → Sent → Type 0
-Begin none table back = SetUp table back
-Begin (some site) table back = SetUpAt table site.latitude site.longitude back
+Begin None table back = SetUp table back
+Begin (Some site) table back = SetUpAt table site.latitude site.longitude back
 
 -- calls of addercoil_receive, one after another, each lent the table that the one before left
 pub data Ran : List ℕ → List Call → List Sent → Type 0 where

@@ -1,6 +1,5 @@
 -- RULES 1.5: demand 3 as C sees it if messages come with stamps. It then speaks of equal stamps: what a call has for a time is its stamp.
-use Rattle.std.specs.Prelude.{ℕ, ◌^◌, ◌<◌, ◌≡◌, List, [], ◌∷◌}
-use Rattle.std.proofs.Math.Option.{Option}
+use Rattle.std.specs.Prelude.{ℕ, ◌^◌, ◌<◌, ◌≡◌, List, [], ◌∷◌, Option}
 use Rattle.entries.specs.Sent.{Sent, sent}
 use Rattle.addercoil.specs.Blocks.{Both}
 use Rattle.isolation.specs.Runs.{Call, Alike}

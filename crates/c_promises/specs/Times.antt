@@ -1,6 +1,5 @@
 -- RULES 10.7: the times of stamps as C sees them. They are right if the first accepted stamp is the true time, true times never go back and none is 2^31 milliseconds or more past the last accepted one.
-use Rattle.std.specs.Prelude.{ℕ, Bool, true, cond, not, ◌≡◌, List, [], ◌∷◌, length}
-use Rattle.std.proofs.Math.Option.{Option, some, none}
+use Rattle.std.specs.Prelude.{ℕ, Bool, true, cond, not, ◌≡◌, List, [], ◌∷◌, length, Option, Some, None}
 use Rattle.entries.specs.Sent.{Sent, sent}
 use Rattle.addercoil.specs.Blocks.{Both}
 use Rattle.stamps.specs.Times.{not_accepted, IfElse, Call, stamp_of, NeverBack, Near}
@@ -24,7 +23,7 @@ FirstTrue (c ∷ cs) [] = Unit {0}
 
 -- no true time is 2^31 or more past the last accepted one
 abbrev pub NoneFar : Option ℕ → List Call → List Both → Type 0
-NoneFar last (c ∷ cs) (x ∷ xs) = Near last c.time × NoneFar (cond (accepted x) (some c.time) last) cs xs
+NoneFar last (c ∷ cs) (x ∷ xs) = Near last c.time × NoneFar (cond (accepted x) (Some c.time) last) cs xs
 NoneFar last [] xs = Unit {0}
 NoneFar last (c ∷ cs) [] = Unit {0}
 
@@ -44,4 +43,4 @@ Right table (c ∷ cs) [] = Unit {0}
 -- from every set-up on, with a site or with none
 abbrev pub TimesRight : Type 0
 TimesRight =
-    (site : Option Site) (cs : List Call) (xs : List Both) (run : RunTrue site cs xs) → FirstTrue cs xs → NeverBack 0 cs → NoneFar none cs xs → Right run.back.array cs xs
+    (site : Option Site) (cs : List Call) (xs : List Both) (run : RunTrue site cs xs) → FirstTrue cs xs → NeverBack 0 cs → NoneFar None cs xs → Right run.back.array cs xs

@@ -1,11 +1,11 @@
 -- What the contracts promise in the rules' terms: whatever meets the contract of `block_of` says the count or 11, and whatever meets that of `record_of`, of `nth` or
 -- of `advance` says a time and a message, or that the records have ended; a reader from `reader_of` stands at the first. The definitions of specs/Said carry each case of the answer over.
 -- Assumes nothing.
+use Rattle.std.specs.Prelude.{Ok, Err, Some, None}
 use Prim.Native.Nat.{ℕ, ◌+◌}
 use mathlib.Core.Path.{◌≡◌, refl, ap, ◌∙◌}
 use mathlib.Core.Bool.{Bool, true, false, cond}
 use mathlib.Core.List.{List, []}
-use mathlib.Core.Option.{some, none}
 use native.Mathlib.Omega.{arith}
 use seplogic.Ra.Ura.{Ura}
 use base.Logic.{SProp, ent}
@@ -20,12 +20,10 @@ use borrow.Fn.Kinds.{Dens, res_t, ended_of}
 use Rattle.refusals.specs.declared.Refusal.TheVariants as refusal
 use Rattle.refusals.specs.Said.{number, gives}
 use Rattle.refusals.proofs.Clauses.{so_too}
-use Rattle.capture.specs.Block.{part, count_of, start_of, time_of, good, has_record, record_of, message_of}
+use Rattle.capture.specs.Block.{part, count_of, start_of, time_of, good, at, has_record, record_of, message_of}
 use Rattle.capture.specs.Reader as reader
 use Rattle.capture.specs.Said.{timed, block_said, record_said, block_table, timed_in}
-use Rattle.capture.specs.declared.Block.TheVariants.{Good, Refused}
 use Rattle.capture.specs.declared.Reader.{Reader}
-use Rattle.capture.specs.declared.Record.TheVariants.{At, Ended}
 use Rattle.capture.proofs.Turns.{after_turns}
 use Rattle.capture.proofs.block_of.Kinds as block-of-kinds
 use Rattle.capture.proofs.block_of.Reads as Block-of
@@ -36,13 +34,13 @@ use Rattle.capture.proofs.nth.Reads as nth
 use Rattle.capture.specs.contracts.reader_of as reader-of
 use Rattle.capture.specs.contracts.advance as advance
 
-says_count : (t : Bool) (n : ℕ) → block_said (cond t (Good n) (Refused refusal.Block)) ≡ cond t (gives n) (number 11)
+says_count : (t : Bool) (n : ℕ) → block_said (cond t (Ok n) (Err refusal.Block)) ≡ cond t (gives n) (number 11)
 says_count true n = refl
 says_count false n = refl
 
 -- the time, and the message from a to e
-says_timed : (t : Bool) (b : List ℕ) (time a e : ℕ) → a + 14 ≡ e → record_said b (cond t (At time a) Ended) ≡ gives (cond t (some (timed time (cond t (part a e b) []))) none)
-says_timed true b time a e h = ap (λ (k : ℕ). gives (some (timed time (part a k b)))) h
+says_timed : (t : Bool) (b : List ℕ) (time a e : ℕ) → a + 14 ≡ e → record_said b (cond t (Some (at time a)) None) ≡ gives (cond t (Some (timed time (cond t (part a e b) []))) None)
+says_timed true b time a e h = ap (λ (k : ℕ). gives (Some (timed time (part a k b)))) h
 says_timed false b time a e h = refl
 
 says_record : (b : List ℕ) (i : ℕ) → record_said b (record_of b i) ≡ gives (timed_in b i)

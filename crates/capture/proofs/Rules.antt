@@ -1,5 +1,6 @@
 -- What a good block has, and what `block_of`'s answer tells: by the cases of the tests.
 -- Assumes nothing.
+use Rattle.std.specs.Prelude.{Result, Ok, Err}
 use Prim.Native.Nat.{ℕ, ◌<◌, ◌≤◌}
 use mathlib.Core.Path.{◌≡◌, refl, subst}
 use mathlib.Core.Bool.{Bool, true, false, ◌&&◌}
@@ -12,8 +13,6 @@ use Rattle.refusals.specs.declared.Refusal.{Refusal}
 use Rattle.fields.proofs.Bools.{each, by_test}
 use Rattle.parity.specs.Parity.{remainder}
 use Rattle.capture.specs.Block.{zeros, part, count_of, start_of, good, block_of, Kept}
-use Rattle.capture.specs.declared.Block.{Block}
-use Rattle.capture.specs.declared.Block.TheVariants.{Good, Refused}
 use Rattle.capture.proofs.Parts.{zero_within}
 
 pub all_three : (a b c : Bool) → a && b && c ≡ true → (a ≡ true) × (b ≡ true) × (c ≡ true)
@@ -40,17 +39,17 @@ kept_good b k =
 pub unused_zero : (b : List ℕ) (j : ℕ) → good b ≡ true → start_of (count_of b) ≤ j → j < 509 → get_or b j 0 ≡ 0
 unused_zero b j e = zero_within b (start_of (count_of b)) 509 j (good_keeps b e).unused
 
-abbrev Told : List ℕ → Block → Type 0
-Told b (Good n) = (good b ≡ true) × (n ≡ count_of b)
-Told b (Refused r) = (good b ≡ false) × (r ≡ refusal.Block)
+abbrev Told : List ℕ → Result ℕ Refusal → Type 0
+Told b (Ok n) = (good b ≡ true) × (n ≡ count_of b)
+Told b (Err r) = (good b ≡ false) × (r ≡ refusal.Block)
 
 told : (b : List ℕ) → Told b (block_of b)
 told b = by_test (Told b) (good b) _ _ (λ h. (h, refl)) (λ h. (h, refl))
 
 -- what is called good keeps the rules, and has so many records
-pub block_good : (b : List ℕ) (n : ℕ) → block_of b ≡ Good n → (good b ≡ true) × (n ≡ count_of b)
+pub block_good : (b : List ℕ) (n : ℕ) → block_of b ≡ Ok n → (good b ≡ true) × (n ≡ count_of b)
 block_good b n e = subst (Told b) e (told b)
 
 -- what is refused fails a rule, and gets 11
-pub block_refused : (b : List ℕ) (r : Refusal) → block_of b ≡ Refused r → (good b ≡ false) × (r ≡ refusal.Block)
+pub block_refused : (b : List ℕ) (r : Refusal) → block_of b ≡ Err r → (good b ≡ false) × (r ≡ refusal.Block)
 block_refused b r e = subst (Told b) e (told b)

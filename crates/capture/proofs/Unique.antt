@@ -1,5 +1,6 @@
 -- Each public function has one answer: two that satisfy its contract both equal its definition.
 -- Assumes nothing.
+use Rattle.std.specs.Prelude.{Option}
 use Prim.Native.Nat.{ℕ}
 use mathlib.Core.Path.{◌≡◌, sym, ap₂, ◌∙◌}
 use mathlib.Core.List.{List}
@@ -49,5 +50,5 @@ module _ {M : Type 1} {𝓤 : Ura M} (𝓛 : Logic 𝓤) (mem : Memory → SProp
 
   -- the record, and the reader afterwards
   pub advance_once : (κs : Lfts 2) (args : Args advance.signature κs) (x y : Res advance.signature κs) (left left' : AtExit advance.ended κs)
-      → ent 𝓤 (sep 𝓤 ((advance.clauses 𝓛 mem run κs args).ensures tt x left) ((advance.clauses 𝓛 mem run κs args).ensures tt y left')) (fact 𝓤 (◌≡◌ {A = Record × Reader} (x, left.0.now) (y, left'.0.now)))
-  advance_once κs args x y left left' = both_say 𝓤 _ _ _ _ _ (id⊢ 𝓤 _) (id⊢ 𝓤 _) (λ p q. ap₂ (λ (a : Record) (b : Reader). (a, b)) (p.0 ∙ sym q.0) (p.1 ∙ sym q.1))
+      → ent 𝓤 (sep 𝓤 ((advance.clauses 𝓛 mem run κs args).ensures tt x left) ((advance.clauses 𝓛 mem run κs args).ensures tt y left')) (fact 𝓤 (◌≡◌ {A = Option Record × Reader} (x, left.0.now) (y, left'.0.now)))
+  advance_once κs args x y left left' = both_say 𝓤 _ _ _ _ _ (id⊢ 𝓤 _) (id⊢ 𝓤 _) (λ p q. ap₂ (λ (a : Option Record) (b : Reader). (a, b)) (p.0 ∙ sym q.0) (p.1 ∙ sym q.1))

@@ -1,13 +1,12 @@
 -- RULES 11.1 and 11.2: a capture's block of 512 bytes: byte 0 is the count, bytes 1 and 2 are the serial, which isn't tested, bytes 3 to 508 are 23 records of 22 bytes,
 -- and bytes 509 to 511 are the three that make the parity remainder 0. Records are counted from 0.
-use Rattle.std.specs.Prelude.{ℕ, ◌+◌, ◌-◌, ◌*◌, ◌≤◌, Bool, true, cond, ◌&&◌, List, [], ◌∷◌, eqb, leb, ltb, length, get_or, take, drop, ◌≡◌}
+use Rattle.std.specs.Prelude.{ℕ, ◌+◌, ◌-◌, ◌*◌, ◌≤◌, Bool, true, cond, ◌&&◌, List, [], eqb, leb, ltb, length, get_or, take, drop, ◌≡◌, Option, Some, None, Result, Ok, Err}
+use Rattle.std.specs.List.{list_all}
 use Rattle.refusals.specs.declared.Refusal.TheVariants as refusal
 use Rattle.fields.specs.Bytes.{number}
 use Rattle.parity.specs.Parity.{remainder}
-use Rattle.capture.specs.declared.Block.{Block}
-use Rattle.capture.specs.declared.Block.TheVariants.{Good, Refused}
 use Rattle.capture.specs.declared.Record.{Record}
-use Rattle.capture.specs.declared.Record.TheVariants.{At, Ended}
+use Rattle.refusals.specs.declared.Refusal.{Refusal}
 
 -- the bytes from one number up to another, counted from 0, the last not included
 abbrev pub part : ℕ → ℕ → List ℕ → List ℕ
@@ -22,8 +21,7 @@ abbrev pub start_of : ℕ → ℕ
 start_of i = 3 + 22 * i
 
 abbrev pub zeros : List ℕ → Bool
-zeros [] = true
-zeros (x ∷ xs) = eqb x 0 && zeros xs
+zeros s = list_all (λ x. eqb x 0) s
 
 -- ---- the rules
 
@@ -37,8 +35,8 @@ good b =
     && eqb (remainder b) 0
 
 -- its count, or 11
-abbrev pub block_of : List ℕ → Block
-block_of b = cond (good b) (Good (count_of b)) (Refused refusal.Block)
+abbrev pub block_of : List ℕ → Result ℕ Refusal
+block_of b = cond (good b) (Ok (count_of b)) (Err refusal.Block)
 
 -- ---- the records
 
@@ -50,9 +48,12 @@ time_of b i = number (part (start_of i) (start_of i + 8) b)
 abbrev pub has_record : List ℕ → ℕ → Bool
 has_record b i = eqb (length b) 512 && ltb i (count_of b) && ltb i 23
 
--- the record i, or the end
-unfoldable pub record_of : List ℕ → ℕ → Record
-record_of b i = cond (has_record b i) (At (time_of b i) (start_of i + 8)) Ended
+abbrev pub at : ℕ → ℕ → Record
+at time start = record { time = time; start = start }
+
+-- the record i, if there is one
+unfoldable pub record_of : List ℕ → ℕ → Option Record
+record_of b i = cond (has_record b i) (Some (at (time_of b i) (start_of i + 8))) None
 
 -- its message; past the end no bytes
 unfoldable pub message_of : List ℕ → ℕ → List ℕ

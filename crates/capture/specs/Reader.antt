@@ -1,5 +1,5 @@
 -- RULES 11.5: a reader: it gives one record at a time from the block it was lent, then says it has ended.
-use Rattle.std.specs.Prelude.{ℕ, zero, suc, ◌+◌, cond, List, ltb}
+use Rattle.std.specs.Prelude.{ℕ, zero, suc, ◌+◌, cond, List, ltb, Option}
 use Rattle.std.specs.Borrow.{Bor}
 use Rattle.capture.specs.Block.{record_of}
 use Rattle.capture.specs.declared.Reader.{Reader}
@@ -10,7 +10,7 @@ abbrev pub begun : Bor (List ℕ) → Reader
 begun b = record { block = b; at = 0 }
 
 -- what it gives: the record that it stands at
-abbrev pub gives : Reader → Record
+abbrev pub gives : Reader → Option Record
 gives r = record_of r.block.now r.at
 
 -- the number after a record's; it stays at 23, where every block has ended

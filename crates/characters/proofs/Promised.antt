@@ -1,6 +1,7 @@
 -- What the contracts promise in the rules' terms: whatever meets one says 8 where the code is wider than its bits, and else what RULES 5.3 gives. The definitions of
 -- specs/Said carry each case of the answer over; eight bytes that were put together come apart again.
 -- Assumes nothing.
+use Rattle.std.specs.Prelude.{Ok}
 use Prim.Native.Nat.{ℕ, ◌<◌}
 use mathlib.Core.Path.{◌≡◌, refl, ap, ◌∙◌}
 use mathlib.Core.Bool.{cond, ◌&&◌}
@@ -15,25 +16,32 @@ use Rattle.fields.specs.Packing.{wider}
 use Rattle.fields.specs.Bytes.{Bytes}
 use Rattle.fields.proofs.Bools.{and_right, by_test, through}
 use Rattle.fields.proofs.Bytes.{fit_bytes, bytes_number}
-use Rattle.characters.specs.Text.{shown, eight_shown, category_set_of, character_of, text_of}
+use Rattle.characters.specs.Text.{shown, eight_shown, category_set_of, character_of, text_of, set_at, text_at}
 use Rattle.characters.specs.Said.{category_set_said, character_said, text_said, set_means, text_means}
 use Rattle.characters.proofs.category_set_of.Kinds as category-set-of-kinds
 use Rattle.characters.proofs.category_set_of.Reads as category-set-of
 use Rattle.characters.proofs.character_of.Kinds as character-of-kinds
 use Rattle.characters.proofs.character_of.Reads as character-of
+use Rattle.characters.proofs.set_at.Kinds as set-at-kinds
+use Rattle.characters.proofs.set_at.Reads as set-at
+use Rattle.characters.proofs.text_at.Kinds as text-at-kinds
+use Rattle.characters.proofs.text_at.Reads as text-at
 use Rattle.characters.proofs.text_of.Kinds as text-of-kinds
 use Rattle.characters.proofs.text_of.Reads as text_of
 
 -- ---- the definitions say so
 
+pub set_at_says : (type : ℕ) → category_set_said (Ok (set_at type)) ≡ gives (set_means type)
+unfolding set_at
+set_at_says type =
+    through (λ s. category_set_said (Ok s)) gives (eqb type 4) refl
+    (through (λ s. category_set_said (Ok s)) gives (eqb type 3) refl
+    (through (λ s. category_set_said (Ok s)) gives (eqb type 2) refl
+    (through (λ s. category_set_said (Ok s)) gives (eqb type 1) refl refl)))
+
 pub set_says : (type : ℕ) → category_set_said (category_set_of type) ≡ cond (wider 5 type) (number 8) (gives (set_means type))
 unfolding category_set_of
-set_says type =
-    through category_set_said (λ s. s) (wider 5 type) refl
-    (through category_set_said gives (eqb type 4) refl
-    (through category_set_said gives (eqb type 3) refl
-    (through category_set_said gives (eqb type 2) refl
-    (through category_set_said gives (eqb type 1) refl refl))))
+set_says type = through category_set_said (λ s. s) (wider 5 type) refl (set_at_says type)
 
 pub character_says : (code : ℕ) → character_said (character_of code) ≡ cond (wider 6 code) (number 8) (gives (shown code))
 unfolding character_of
@@ -51,9 +59,13 @@ shown_lt code =
 eight_bytes : (n : ℕ) → Bytes (eight_shown n)
 eight_bytes n = fit_bytes 8 (eight_shown n) (shown_lt _, (shown_lt _, (shown_lt _, (shown_lt _, (shown_lt _, (shown_lt _, (shown_lt _, (shown_lt _, tt))))))))
 
+pub text_at_says : (n : ℕ) → text_said (Ok (text_at n)) ≡ gives (text_means n)
+unfolding text_at
+text_at_says n = ap gives (bytes_number (eight_shown n) (eight_bytes n))
+
 pub text_says : (n : ℕ) → text_said (text_of n) ≡ cond (wider 48 n) (number 8) (gives (text_means n))
 unfolding text_of
-text_says n = through text_said (λ s. s) (wider 48 n) refl (ap gives (bytes_number (eight_shown n) (eight_bytes n)))
+text_says n = through text_said (λ s. s) (wider 48 n) refl (text_at_says n)
 
 -- ---- and so does whatever meets a contract
 
@@ -71,3 +83,13 @@ pub text_of_promised : (κs : Lfts 0) (args : Dens κs text-of-kinds.ps) (x : (r
     (left : AtExit (ended_of 0 text-of-kinds.ps text-of-kinds.r) κs) → text_of.Post κs args x left
     → text_said x ≡ cond (wider 48 args.0) (number 8) (gives (text_means args.0))
 text_of_promised κs args x left p = ap text_said p ∙ text_says args.0
+
+pub set_at_promised : (κs : Lfts 0) (args : Dens κs set-at-kinds.ps) (x : (res_t set-at-kinds.r κs).Denot)
+    (left : AtExit (ended_of 0 set-at-kinds.ps set-at-kinds.r) κs) → set-at.Post κs args x left
+    → category_set_said (Ok x) ≡ gives (set_means args.0)
+set_at_promised κs args x left p = ap (λ s. category_set_said (Ok s)) p ∙ set_at_says args.0
+
+pub text_at_promised : (κs : Lfts 0) (args : Dens κs text-at-kinds.ps) (x : (res_t text-at-kinds.r κs).Denot)
+    (left : AtExit (ended_of 0 text-at-kinds.ps text-at-kinds.r) κs) → text-at.Post κs args x left
+    → text_said (Ok x) ≡ gives (text_means args.0)
+text_at_promised κs args x left p = ap (λ s. text_said (Ok s)) p ∙ text_at_says args.0

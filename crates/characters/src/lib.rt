@@ -2,7 +2,7 @@
 #![tactic(auto)]
 
 ghost use Rattle.std.specs.Prelude.{◌≡◌, ◌<◌};
-ghost use Rattle.characters.specs.Text.{category_set_of, character_of, text_of};
+ghost use Rattle.characters.specs.Text.{category_set_of, set_at, character_of, text_of, text_at};
 ghost use Rattle.characters.specs.Text.{shown as Text·shown};
 
 use refusals::Refusal;
@@ -13,87 +13,68 @@ pub enum CategorySet {
     B,
     C,
     D,
-    // a TYPE that is no identification
-    NoSet,
-    Refused(Refusal),
 }
 
-#[derive(Clone, Copy)]
-pub enum Character {
-    // in ASCII
-    Shown(u8),
-    Refused(Refusal),
+// The category set of a TYPE; one that is no identification has none.
+#[tactic(auto, unfolding(crate::specs::Text::set_at))]
+pub fn set_at(typecode: u8) -> Option<CategorySet>
+    ensures { result ≡ set_at typecode }
+{
+    match typecode {
+        4 => Some(CategorySet::A),
+        3 => Some(CategorySet::B),
+        2 => Some(CategorySet::C),
+        1 => Some(CategorySet::D),
+        _ => None,
+    }
 }
 
-#[derive(Clone, Copy)]
-pub enum Text {
-    // eight bytes of ASCII, the first the highest
-    Shown(u64),
-    Refused(Refusal),
-}
-
-// The category set of a TYPE, a code of 5 bits.
-pub fn category_set_of(typecode: u8) -> CategorySet
+// The same of a TYPE within its 5 bits; a wider one is refused.
+#[tactic(auto, unfolding(crate::specs::Text::category_set_of))]
+pub fn category_set_of(typecode: u8) -> Result<Option<CategorySet>, Refusal>
     ensures { result ≡ category_set_of typecode }
 {
     if 32 <= typecode {
-        return CategorySet::Refused(Refusal::Field);
+        return Err(Refusal::Field);
     }
-    if typecode == 4 {
-        return CategorySet::A;
-    }
-    if typecode == 3 {
-        return CategorySet::B;
-    }
-    if typecode == 2 {
-        return CategorySet::C;
-    }
-    if typecode == 1 {
-        return CategorySet::D;
-    }
-    CategorySet::NoSet
+    Ok(set_at(typecode))
 }
 
+#[tactic(auto, unfolding(crate::specs::Text::shown))]
 fn shown(code: u8) -> u8
     requires { code < 64 }
     ensures { result ≡ Text·shown code }
 {
-    if (1 <= code) & (code <= 26) {
-        return 65 + (code - 1);
+    match code {
+        1..=26 => b'A' + (code - 1),
+        32 => b' ',
+        48..=57 => b'0' + (code - 48),
+        _ => b'?',
     }
-    if code == 32 {
-        return 32;
-    }
-    if (48 <= code) & (code <= 57) {
-        return 48 + (code - 48);
-    }
-    63
 }
 
 // The character of a code of 6 bits.
-pub fn character_of(code: u8) -> Character
+#[tactic(auto, unfolding(crate::specs::Text::character_of))]
+pub fn character_of(code: u8) -> Result<u8, Refusal>
     ensures { result ≡ character_of code }
 {
     if 64 <= code {
-        return Character::Refused(Refusal::Field);
+        return Err(Refusal::Field);
     }
-    Character::Shown(shown(code))
+    Ok(shown(code))
 }
 
 fn letter(code: u64) -> u64
     requires { code < 64 }
     ensures { (result ≡ Text·shown code) × (result < 256) }
 {
-    shown(code as u8) as u64
+    u64::from(shown(code as u8))
 }
 
-// The text of eight characters of 6 bits, the first the highest.
-pub fn text_of(characters: u64) -> Text
-    ensures { result ≡ text_of characters }
+// The text of eight characters of 6 bits, the first the highest; what stands above the 48 is not read.
+pub fn text_at(characters: u64) -> u64
+    ensures { result ≡ text_at characters }
 {
-    if 0x1_0000_0000_0000 <= characters {
-        return Text::Refused(Refusal::Field);
-    }
     let a = letter(characters / 0x400_0000_0000 % 64);
     let b = letter(characters / 0x10_0000_0000 % 64);
     let c = letter(characters / 0x4000_0000 % 64);
@@ -104,5 +85,16 @@ pub fn text_of(characters: u64) -> Text
     let h = letter(characters / 1 % 64);
     let high = a * 0x100_0000 + b * 0x1_0000 + c * 0x100 + d;
     let low = e * 0x100_0000 + f * 0x1_0000 + g * 0x100 + h;
-    Text::Shown(high * 0x1_0000_0000 + low)
+    high * 0x1_0000_0000 + low
+}
+
+// The same of 48 bits; a wider number is refused.
+#[tactic(auto, unfolding(crate::specs::Text::text_of))]
+pub fn text_of(characters: u64) -> Result<u64, Refusal>
+    ensures { result ≡ text_of characters }
+{
+    if 0x1_0000_0000_0000 <= characters {
+        return Err(Refusal::Field);
+    }
+    Ok(text_at(characters))
 }

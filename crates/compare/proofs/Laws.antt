@@ -1,5 +1,6 @@
 -- What a check says, for every capture and every text: yes exactly where RULES 14.4 says so, else the first line at fault, or 14, or 16; and our own listing gets yes. By the tests, and the laws of the comparison.
 -- Assumes nothing.
+use Rattle.std.specs.Prelude.{Option, Some, None, Result, Ok, Err}
 use Prim.Native.Nat.{ℕ, zero, suc, ◌+◌, ◌^◌, ◌≤◌, ◌<◌}
 use native.Mathlib.Omega.{arith}
 use mathlib.Core.Path.{◌≡◌, refl, sym, ap, ◌∙◌}
@@ -25,8 +26,6 @@ use Rattle.form.specs.Form.{same, in_form}
 use Rattle.form.proofs.Loops.{same_equal}
 use Rattle.form.proofs.Pieces.{same_self}
 use Rattle.form.proofs.Walking.{some_header}
-use Rattle.compare.specs.declared.Checked.{Checked}
-use Rattle.compare.specs.declared.Checked.TheVariants.{Yes, Fault, Refused}
 use Rattle.compare.specs.Compared.{table_of, bad_of, ours, our_header, our_rows, compared, against, lines_of, verdict, records_of, checked}
 use Rattle.compare.specs.Right.{Right, Faulty, header_faulty, row_faulty}
 use Rattle.compare.proofs.Rows.{AllOurs, rows_ours, listing_in_form}
@@ -62,9 +61,9 @@ bad_most c (suc k) = by (good (block_at c k)) (bad_most c k)
 
 module _ (c l : List ℕ) where
   -- each answer with what earned it
-  data Way : Checked → Type 0 where
-    too_many : 2900 < records_of c → Way (Refused Log)
-    no_form : records_of c ≤ 2900 → in_form l ≡ false → Way (Refused Form)
+  data Way : Result (Option ℕ) Refusal → Type 0 where
+    too_many : 2900 < records_of c → Way (Err Log)
+    no_form : records_of c ≤ 2900 → in_form l ≡ false → Way (Err Form)
     compares : records_of c ≤ 2900 → in_form l ≡ true → Way (verdict c l)
 
   way : Way (checked c l)
@@ -75,26 +74,26 @@ module _ (c l : List ℕ) where
 
   -- the header's line is equal, or at fault
   module _ {h : List ℕ} {ls : List (List ℕ)} (lines : lines_of l ≡ h ∷ ls) where
-    by_header : (t : Bool) → same (h ++ newline) (our_header c) ≡ t → verdict c l ≡ cond t (compared 2 ls (our_rows c)) (Fault 1)
+    by_header : (t : Bool) → same (h ++ newline) (our_header c) ≡ t → verdict c l ≡ cond t (compared 2 ls (our_rows c)) (Ok (Some 1))
     unfolding verdict against
-    by_header t e = ap (λ (x : List (List ℕ)). against x (our_header c) (our_rows c)) lines ∙ ap (λ (b : Bool). cond b (compared 2 ls (our_rows c)) (Fault 1)) e
+    by_header t e = ap (λ (x : List (List ℕ)). against x (our_header c) (our_rows c)) lines ∙ ap (λ (b : Bool). cond b (compared 2 ls (our_rows c)) (Ok (Some 1))) e
 
   all_ours : AllOurs (our_rows c)
   all_ours = rows_ours (table_of c) (table_bytes c)
 
   -- what a verdict tells
-  abbrev Told : Checked → Type 0
-  Told Yes = Right c l
-  Told (Fault n) = Faulty c l n
-  Told (Refused r) = ⊥
+  abbrev Told : Result (Option ℕ) Refusal → Type 0
+  Told (Ok None) = Right c l
+  Told (Ok (Some n)) = Faulty c l n
+  Told (Err r) = ⊥
 
   module _ (few : records_of c ≤ 2900) (form : in_form l ≡ true) where
-    rows_told : {h : List ℕ} {ls : List (List ℕ)} → lines_of l ≡ h ∷ ls → h ++ newline ≡ our_header c → (x : Checked) → compared 2 ls (our_rows c) ≡ x → Told x
-    rows_told {h} {ls} lines e Yes f = record { few = few; form = form; first = h; others = ls; lines = lines; header = e; rows = yes_agree 2 ls all_ours f }
-    rows_told {h} {ls} lines e (Fault n) f = row_faulty lines e (first_fault 2 n ls all_ours f)
-    rows_told {h} {ls} lines e (Refused r) f = never_refused 2 ls (our_rows c) f
+    rows_told : {h : List ℕ} {ls : List (List ℕ)} → lines_of l ≡ h ∷ ls → h ++ newline ≡ our_header c → (x : Result (Option ℕ) Refusal) → compared 2 ls (our_rows c) ≡ x → Told x
+    rows_told {h} {ls} lines e (Ok None) f = record { few = few; form = form; first = h; others = ls; lines = lines; header = e; rows = yes_agree 2 ls all_ours f }
+    rows_told {h} {ls} lines e (Ok (Some n)) f = row_faulty lines e (first_fault 2 n ls all_ours f)
+    rows_told {h} {ls} lines e (Err r) f = never_refused 2 ls (our_rows c) f
 
-    header_told : {h : List ℕ} {ls : List (List ℕ)} → lines_of l ≡ h ∷ ls → (t : Bool) → same (h ++ newline) (our_header c) ≡ t → Told (cond t (compared 2 ls (our_rows c)) (Fault 1))
+    header_told : {h : List ℕ} {ls : List (List ℕ)} → lines_of l ≡ h ∷ ls → (t : Bool) → same (h ++ newline) (our_header c) ≡ t → Told (cond t (compared 2 ls (our_rows c)) (Ok (Some 1)))
     header_told {h} {ls} lines true e = rows_told lines (same_equal (h ++ newline) (our_header c) e) (compared 2 ls (our_rows c)) refl
     header_told {h} {ls} lines false e =
         header_faulty lines (λ f. false≢true (sym e ∙ ap (λ (x : List ℕ). same x (our_header c)) f ∙ same_self (our_header c)))
@@ -116,17 +115,17 @@ module _ (c l : List ℕ) where
     pub few : records_of c ≤ 2900
     pub not_in : in_form l ≡ false
 
-  abbrev pub Tells : Checked → Type 0
-  Tells Yes = Right c l
-  Tells (Fault n) = Faulty c l n
-  Tells (Refused r) = Many r ⊎ Formless r
+  abbrev pub Tells : Result (Option ℕ) Refusal → Type 0
+  Tells (Ok None) = Right c l
+  Tells (Ok (Some n)) = Faulty c l n
+  Tells (Err r) = Many r ⊎ Formless r
 
-  told_tells : (x : Checked) → Told x → Tells x
-  told_tells Yes p = p
-  told_tells (Fault n) p = p
-  told_tells (Refused r) p = absurd p
+  told_tells : (x : Result (Option ℕ) Refusal) → Told x → Tells x
+  told_tells (Ok None) p = p
+  told_tells (Ok (Some n)) p = p
+  told_tells (Err r) p = absurd p
 
-  by_way : {x : Checked} → Way x → Tells x
+  by_way : {x : Result (Option ℕ) Refusal} → Way x → Tells x
   by_way (too_many h) = inl (record { is = refl; over = h })
   by_way (no_form h f) = inr (record { is = refl; few = h; not_in = f })
   by_way (compares h f) = told_tells (verdict c l) (verdict_told h f)
@@ -137,7 +136,7 @@ module _ (c l : List ℕ) where
 
   -- ---- and what is right gets yes
 
-  right_verdict : Right c l → verdict c l ≡ Yes
+  right_verdict : Right c l → verdict c l ≡ Ok None
   right_verdict p =
       by_header p.lines true (ap (λ (x : List ℕ). same x (our_header c)) p.header ∙ same_self (our_header c)) ∙ agree_yes 2 all_ours p.rows
 
@@ -145,29 +144,29 @@ module _ (c l : List ℕ) where
   unfolding checked
   taken few form = rw (le-ltb 2900 (records_of c) few, form)
 
-  pub yes_exactly : checked c l ≡ Yes ↔ Right c l
+  pub yes_exactly : checked c l ≡ Ok None ↔ Right c l
   yes_exactly = (λ e. rw e at check_tells, λ p. taken p.few p.form ∙ right_verdict p)
 
-  pub fault_first : {n : ℕ} → checked c l ≡ Fault n → Faulty c l n
+  pub fault_first : {n : ℕ} → checked c l ≡ Ok (Some n) → Faulty c l n
   fault_first e = rw e at check_tells
 
-  pub fourteen_exactly : checked c l ≡ Refused Log ↔ 2900 < records_of c
+  pub fourteen_exactly : checked c l ≡ Err Log ↔ 2900 < records_of c
   unfolding checked
   fourteen_exactly = (λ e. back (rw e at check_tells), λ h. rw (lt-ltb 2900 (records_of c) h))
     where
-      back : Tells (Refused Log) → 2900 < records_of c
+      back : Tells (Err Log) → 2900 < records_of c
       back (inl p) = p.over
       back (inr p) = let e : Log ≡ Form = p.is in let z : ◌≡◌ {A = ℕ} 0 1 = cc in absurd (omega arith)
 
-  pub sixteen_exactly : checked c l ≡ Refused Form ↔ (records_of c ≤ 2900) × (in_form l ≡ false)
+  pub sixteen_exactly : checked c l ≡ Err Form ↔ (records_of c ≤ 2900) × (in_form l ≡ false)
   unfolding checked
   sixteen_exactly = (λ e. back (rw e at check_tells), λ h. rw (le-ltb 2900 (records_of c) h.0, h.1))
     where
-      back : Tells (Refused Form) → (records_of c ≤ 2900) × (in_form l ≡ false)
+      back : Tells (Err Form) → (records_of c ≤ 2900) × (in_form l ≡ false)
       back (inl p) = let e : Form ≡ Log = p.is in let z : ◌≡◌ {A = ℕ} 0 1 = cc in absurd (omega arith)
       back (inr p) = (p.few, p.not_in)
 
-  pub only_these : {r : Refusal} → checked c l ≡ Refused r → (r ≡ Log) ⊎ (r ≡ Form)
+  pub only_these : {r : Refusal} → checked c l ≡ Err r → (r ≡ Log) ⊎ (r ≡ Form)
   only_these {r} e = reason (rw e at check_tells)
     where
       reason : Many r ⊎ Formless r → (r ≡ Log) ⊎ (r ≡ Form)
@@ -176,12 +175,12 @@ module _ (c l : List ℕ) where
 
 -- ---- our own listing
 
-own_verdict : (c : List ℕ) → verdict c (ours c) ≡ Yes
+own_verdict : (c : List ℕ) → verdict c (ours c) ≡ Ok None
 unfolding verdict listing header_for
 own_verdict c = own_yes (clock_of (table_of c)) (length (our_rows c)) (bad_of c) (our_rows c)
 
 -- of every capture within the bound, which as any slice has fewer than 2^64 bytes
-pub own_listing_yes : (c : List ℕ) → length c < 2 ^ 64 → records_of c ≤ 2900 → checked c (ours c) ≡ Yes
+pub own_listing_yes : (c : List ℕ) → length c < 2 ^ 64 → records_of c ≤ 2900 → checked c (ours c) ≡ Ok None
 own_listing_yes c size few =
     taken c (ours c) few (listing_in_form (table_of c) (table_bytes c) (bad_of c) (omega (arith, bad_most c (blocks_in c))))
     ∙ own_verdict c

@@ -1,5 +1,6 @@
 -- What the contract promises in the rules' terms: whatever meets the contract of `check` says 14, then 16, or what the comparison gives, 0 or a line. The definition of specs/Said carries each case of the answer over.
 -- Assumes nothing.
+use Rattle.std.specs.Prelude.{Option, Result, Err}
 use Prim.Native.Nat.{ℕ}
 use mathlib.Core.Path.{◌≡◌, refl, ap, ◌∙◌}
 use mathlib.Core.Bool.{Bool, true, false, cond, not}
@@ -11,18 +12,17 @@ use borrow.Fn.Kinds.{Dens, res_t, ended_of}
 use Rattle.refusals.specs.declared.Refusal.TheVariants.{Log, Form}
 use Rattle.refusals.specs.Said.{number}
 use Rattle.form.specs.Form.{in_form}
-use Rattle.compare.specs.declared.Checked.{Checked}
-use Rattle.compare.specs.declared.Checked.TheVariants.{Refused}
 use Rattle.compare.specs.Compared.{verdict, records_of, checked}
 use Rattle.compare.specs.Said.{checked_said}
 use Rattle.compare.proofs.check.Kinds as check-kinds
 use Rattle.compare.proofs.check.Reads as check
+use Rattle.refusals.specs.declared.Refusal.{Refusal}
 
 check_says : (c l : List ℕ) → checked_said (checked c l) ≡ cond (ltb 2900 (records_of c)) (number 14) (cond (not (in_form l)) (number 16) (checked_said (verdict c l)))
 unfolding checked
 check_says c l = by_tests (ltb 2900 (records_of c)) (not (in_form l)) (verdict c l)
   where
-    by_tests : (a b : Bool) (v : Checked) → checked_said (cond a (Refused Log) (cond b (Refused Form) v)) ≡ cond a (number 14) (cond b (number 16) (checked_said v))
+    by_tests : (a b : Bool) (v : Result (Option ℕ) Refusal) → checked_said (cond a (Err Log) (cond b (Err Form) v)) ≡ cond a (number 14) (cond b (number 16) (checked_said v))
     by_tests true b v = refl
     by_tests false true v = refl
     by_tests false false v = refl

@@ -1,11 +1,11 @@
 -- The rows of a table of bytes: their figures have at most 20 digits and stand on the globe. So our own listing is in the form, and agreement with a row is what RULES 14.4 says. By what fits a place, and the bounds of an altitude.
 -- Assumes nothing.
+use Rattle.std.specs.Prelude.{Some, None, Option, Result, Ok, Err}
 use Prim.Native.Nat.{ℕ, zero, suc, ◌+◌, ◌-◌, ◌*◌, ◌%◌, ◌^◌, ◌≤◌, ◌<◌}
 use native.Mathlib.Omega.{arith}
 use mathlib.Core.Path.{◌≡◌, ap}
 use mathlib.Core.Bool.{Bool, true, false, cond, ◌||◌}
 use mathlib.Core.List.{List, [], ◌∷◌, ◌++◌}
-use mathlib.Core.Option.{Option, some, none}
 use borrow.Author.Tests.{leb-true}
 use lib.Dec.{ltb, eqb}
 use lib.IntN.{ℤ, pos, negsuc, nat_abs, ◌-ℤ◌}
@@ -17,14 +17,13 @@ use Rattle.fields.proofs.Bools.{by_test}
 use Rattle.fields.proofs.Bytes.{bytes_take, bytes_drop}
 use Rattle.keys.specs.Keys.{end_of_keys}
 use Rattle.readings.specs.declared.altitude.Altitude.{Altitude}
-use Rattle.readings.specs.declared.altitude.Altitude.TheVariants as altitude
-use Rattle.readings.specs.Altitude.{altitude_of, five_hundreds, hundreds, straight, six_less, gray_step, eleven, bit}
+use Rattle.refusals.specs.declared.Refusal.{Refusal}
+use Rattle.readings.specs.Altitude.{altitude_at, altitude_of, five_hundreds, hundreds, straight, six_less, gray_step, eleven, bit}
 use Rattle.memory.specs.Offsets.{body_size, body_start, places_in, clock_at}
 use Rattle.memory.proofs.Numbers.{number_lt}
 use Rattle.track.specs.declared.Track.{Track}
 use Rattle.place.specs.Place.{Fits, track_of}
 use Rattle.place.proofs.BothWays.{read_fits}
-use Rattle.text.specs.declared.Figure.TheVariants.{Unknown, Known}
 use Rattle.text.specs.declared.Row.{Row}
 use Rattle.rules.specs.Form.{holds}
 use Rattle.rules.specs.Search.{lowest}
@@ -47,20 +46,20 @@ mag_size : (z : ℤ) → nat_abs z ≤ 1073741824 → mag z < 4294967296
 mag_size (pos n) h = omega arith
 mag_size (negsuc n) h = omega arith
 
-latitude_by : (z : ℤ) (t : Bool) → nat_abs z ≤ 1073741824 → Sized (cond t (Known z) Unknown) × OnGlobe (cond t (Known z) Unknown)
+latitude_by : (z : ℤ) (t : Bool) → nat_abs z ≤ 1073741824 → Sized (cond t (Some z) None) × OnGlobe (cond t (Some z) None)
 latitude_by z true h = (omega arith, mag_size z h)
 latitude_by z false h = (tt, tt)
 
-longitude_by : (n : ℕ) (t : Bool) → n < 2 ^ 32 → Sized (cond t (Known (pos n)) Unknown) × OnCircle (cond t (Known (pos n)) Unknown)
+longitude_by : (n : ℕ) (t : Bool) → n < 2 ^ 32 → Sized (cond t (Some (pos n)) None) × OnCircle (cond t (Some (pos n)) None)
 longitude_by n true h = (omega arith, h)
 longitude_by n false h = (tt, tt)
 
 -- ---- an altitude, of any code
 
-abbrev Short : Altitude → Type 0
-Short (altitude.Feet z step) = (nat_abs z < 10 ^ 20) × (step < 10 ^ 20)
-Short altitude.Unknown = Unit {0}
-Short (altitude.Refused r) = Unit {0}
+abbrev Short : Result (Option Altitude) Refusal → Type 0
+Short (Ok (Some a)) = (nat_abs a.feet < 10 ^ 20) × (a.step < 10 ^ 20)
+Short (Ok None) = Unit {0}
+Short (Err r) = Unit {0}
 
 less_sized : (n k : ℕ) → n < 2 ^ 32 → k < 2 ^ 32 → nat_abs (pos n -ℤ pos k) < 10 ^ 20
 less_sized n zero p q = omega arith
@@ -91,19 +90,19 @@ by_hundreds_lem f h p q =
     less_sized (500 * f + 100 * cond (eqb (f % 2) 1) (6 - cond (eqb h 7) 5 h) (cond (eqb h 7) 5 h)) 1300 (omega arith) (omega arith)
 
 altitude_short : (code : ℕ) → Short (altitude_of code)
-unfolding altitude_of
+unfolding altitude_of altitude_at
 altitude_short code =
     by_test Short (wider 12 code) _ _ (λ _. tt)
-    (λ _. by_test Short (eqb code 0) _ _ (λ _. tt)
-    (λ _. by_test Short (eqb (bit 8 code) 1) _ _ (λ _. (less_sized (25 * eleven code) 1000 (omega arith) (omega arith), omega arith))
-    (λ _. by_test Short (eqb (hundreds code) 0 || eqb (hundreds code) 5 || eqb (hundreds code) 6) _ _ (λ _. tt)
+    (λ _. by_test (λ a. Short (Ok a)) (eqb code 0) _ _ (λ _. tt)
+    (λ _. by_test (λ a. Short (Ok a)) (eqb (bit 8 code) 1) _ _ (λ _. (less_sized (25 * eleven code) 1000 (omega arith) (omega arith), omega arith))
+    (λ _. by_test (λ a. Short (Ok a)) (eqb (hundreds code) 0 || eqb (hundreds code) 5 || eqb (hundreds code) 6) _ _ (λ _. tt)
     (λ _. (by_hundreds_lem (five_hundreds code) (hundreds code) (five_most code) (hundreds_most code), omega arith)))))
 
-altitude_sized : (a : Altitude) → Short a → Sized (feet a) × Sized (step_in a)
+altitude_sized : (a : Result (Option Altitude) Refusal) → Short a → Sized (feet a) × Sized (step_in a)
 unfolding feet step_in
-altitude_sized (altitude.Feet z step) p = (p.0, p.1)
-altitude_sized altitude.Unknown p = (tt, tt)
-altitude_sized (altitude.Refused r) p = (tt, tt)
+altitude_sized (Ok (Some a)) p = (p.0, p.1)
+altitude_sized (Ok None) p = (tt, tt)
+altitude_sized (Err r) p = (tt, tt)
 
 -- ---- a row
 
@@ -146,7 +145,7 @@ module _ (s : List ℕ) (b : Bytes s) where
   unfolding row_for view_at
   key_ours k = by (lowest (λ i. holds (clock_of s) k (bytes.cell s i)) (places_in s)) (ltb (lowest (λ i. holds (clock_of s) k (bytes.cell s i)) (places_in s)) (places_in s))
     where
-      by : (i : ℕ) (t : Bool) → AllOurs (as_list (row_for true k (track_in (cond t (some (bytes.cell s i)) none))))
+      by : (i : ℕ) (t : Bool) → AllOurs (as_list (row_for true k (track_in (cond t (Some (bytes.cell s i)) None))))
       by i true = one_ours (row_ours k (track_of (body_at s (places_in s) i)) (body_fits_lem i)) none_ours
       by i false = none_ours
 
@@ -158,8 +157,8 @@ module _ (s : List ℕ) (b : Bytes s) where
   rows_ours = rw (rows_walked s true) (below_ours end_of_keys)
 
   one_most : (v : Option Row) → length (as_list v) ≤ 1
-  one_most none = omega arith
-  one_most (some r) = omega arith
+  one_most None = omega arith
+  one_most (Some r) = omega arith
 
   below_most : (k : ℕ) → length (rows_below true s k) ≤ k
   below_most zero = rw (rows_none true s) (omega arith)

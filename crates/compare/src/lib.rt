@@ -9,17 +9,7 @@ ghost use Rattle.report.specs.Code.{key_or_limit};
 ghost use Rattle.form.specs.Scan.{lines_from};
 ghost use Rattle.compare.specs.Compared.{compared, against as against_of, verdict as verdict_of, checked};
 
-use feed::Fed;
 use refusals::Refusal;
-use rules::NextKey;
-
-#[derive(Clone, Copy)]
-pub enum Checked {
-    Yes,
-    // the number of the line, the header's being 1
-    Fault(u64),
-    Refused(Refusal),
-}
 
 // The bytes of a table of 256 places.
 const TABLE: usize = memory::HEAD + memory::PLACE * 256;
@@ -28,16 +18,15 @@ const TABLE: usize = memory::HEAD + memory::PLACE * 256;
 fn key_above(table: &[u8], above: u32) -> u32
     ensures { result ≡ key_or_limit (next_above table.now above) }
 {
-    let next = table::next(table, above);
-    match next {
-        NextKey::Key(key) => key,
-        NextKey::End => keys::END,
-        NextKey::Refused(_) => keys::END,
+    match table::next(table, above) {
+        Ok(Some(key)) => key,
+        Ok(None) => keys::END,
+        Err(_) => keys::END,
     }
 }
 
 // Their lines from a place on, of which the first has the number 2, against our rows: line by line and key by key, with no search.
-fn rows_compared(table: &[u8], theirs: &[u8], from: usize) -> Checked
+fn rows_compared(table: &[u8], theirs: &[u8], from: usize) -> Result<Option<u64>, Refusal>
     requires { (whole_places (length table.now) ≡ true) × (from ≤ length theirs.now) }
     ensures { result ≡ compared 2 (lines_from theirs.now from) (rows_in true table.now) }
 {
@@ -47,60 +36,57 @@ fn rows_compared(table: &[u8], theirs: &[u8], from: usize) -> Checked
     while key < keys::END {
         let end = form::line_end(theirs, at);
         if end == 0 {
-            return Checked::Fault(n);
+            return Ok(Some(n));
         }
         let row = report::row_in(table, key);
         if !agree::agrees(&theirs[at..end], row) {
-            return Checked::Fault(n);
+            return Ok(Some(n));
         }
         at = end;
         n += 1;
         key = key_above(table, key);
     }
     if form::line_end(theirs, at) == 0 {
-        return Checked::Yes;
+        return Ok(None);
     }
-    Checked::Fault(n)
+    Ok(Some(n))
 }
 
 // Their text against the listing of a table: its header, byte for byte, then its rows.
-fn against(table: &[u8], bad: u64, theirs: &[u8]) -> Checked
+fn against(table: &[u8], bad: u64, theirs: &[u8]) -> Result<Option<u64>, Refusal>
     requires { whole_places (length table.now) ≡ true }
     ensures { result ≡ against_of (lines_from theirs.now 0) (header_for true table.now bad) (rows_in true table.now) }
 {
     let end = form::line_end(theirs, 0);
-    let ours = report::header_of(table, bad, true);
-    let line = ours.line;
-    let bytes = line.bytes;
-    let n = line.len;
-    if !form::same(&theirs[0..end], &bytes[0..n]) {
-        return Checked::Fault(1);
+    let ours = report::header_of(table, bad, true)?;
+    if !form::same(&theirs[0..end], ours.as_bytes()) {
+        return Ok(Some(1));
     }
     rows_compared(table, theirs, end)
 }
 
 // Their text against ours, made of the capture in a table of our own, so that nothing is lent.
-fn verdict(capture: &[u8], listing: &[u8]) -> Checked
+fn verdict(capture: &[u8], listing: &[u8]) -> Result<Option<u64>, Refusal>
     ensures { result ≡ verdict_of capture.now listing.now }
 {
     let mut table = [0u8; TABLE];
-    table::set_up(&mut table);
+    let _ = table::set_up(&mut table);
     let fed = feed::feed(&mut table, capture);
     match fed {
-        Fed::Bad(bad) => against(&table, bad, listing),
-        Fed::Refused(r) => Checked::Refused(r),
+        Ok(bad) => against(&table, bad, listing),
+        Err(r) => Err(r),
     }
 }
 
 // A capture of at most 2,900 records in good blocks, else 14, and a listing in our form, else 16, made by any program: yes, or the first line at fault.
-pub fn check(capture: &[u8], listing: &[u8]) -> Checked
+pub fn check(capture: &[u8], listing: &[u8]) -> Result<Option<u64>, Refusal>
     ensures { result ≡ checked capture.now listing.now }
 {
     if 2900 < feed::records_in(capture) {
-        return Checked::Refused(Refusal::Log);
+        return Err(Refusal::Log);
     }
     if !form::in_form(listing) {
-        return Checked::Refused(Refusal::Form);
+        return Err(Refusal::Form);
     }
     verdict(capture, listing)
 }

@@ -1,5 +1,6 @@
 -- What two listings as one hand over, by what the crate below answers: the tests are the same, and come in the same order.
 -- Assumes nothing.
+use Rattle.std.specs.Prelude.{Result, Ok, Err}
 use Prim.Native.Nat.{ℕ, ◌+◌}
 use native.Mathlib.Omega.{arith}
 use mathlib.Core.Path.{◌≡◌, refl, sym, ap, ◌∙◌}
@@ -12,15 +13,13 @@ use Rattle.refusals.specs.declared.Refusal.{Refusal}
 use Rattle.refusals.specs.declared.Refusal.TheVariants.{Length, Form}
 use Rattle.refusals.specs.Numbers.{number_of}
 use Rattle.entries.specs.Arrays.{filled}
-use Rattle.merge.specs.declared.Merged.{Merged}
-use Rattle.merge.specs.declared.Merged.TheVariants.{Bytes, Refused}
 use Rattle.merge.specs.Merged.{mergeable, merged, Left, left, merged_into}
 use Rattle.dealer.specs.Joint.{Joint, joint, merge_into}
 
 -- by the answer
-abbrev answered : Merged → List ℕ → List ℕ → Joint
-answered (Bytes n) out written = joint 0 out (n ∷ [])
-answered (Refused r) out written = joint (number_of r) out written
+abbrev answered : Result ℕ Refusal → List ℕ → List ℕ → Joint
+answered (Ok n) out written = joint 0 out (n ∷ [])
+answered (Err r) out written = joint (number_of r) out written
 
 abbrev joint_by : Left → List ℕ → Joint
 joint_by l written = answered l.answer l.out written
@@ -60,23 +59,23 @@ module _ (a b out written : List ℕ) where
     joint_as = by_tests room (mergeable a b) ∙ sym into
       where
         by_tests : (t u : Bool) →
-            joint_by (cond (not t) (left (Refused Length) out) (cond (not u) (left (Refused Form) out) (left (Bytes (length (merged a b))) (filled (length out) (merged a b))))) written
+            joint_by (cond (not t) (left (Err Length) out) (cond (not u) (left (Err Form) out) (left (Ok (length (merged a b))) (filled (length out) (merged a b))))) written
             ≡ cond (not t) (joint 1 out written) (cond (not u) (joint 16 out written) (joint 0 (filled (length out) (merged a b)) (length (merged a b) ∷ [])))
         by_tests true true = refl
         by_tests true false = refl
         by_tests false u = refl
 
-    module _ {r : Merged} {x : List ℕ} (e : left r x ≡ merged_into a b out) where
-      pub text_joint : {n m : ℕ} → r ≡ Bytes n → m ≡ n → joint 0 x (set written 0 m) ≡ merge_into a b out written
+    module _ {r : Result ℕ Refusal} {x : List ℕ} (e : left r x ≡ merged_into a b out) where
+      pub text_joint : {n m : ℕ} → r ≡ Ok n → m ≡ n → joint 0 x (set written 0 m) ≡ merge_into a b out written
       text_joint {n} {m} q p =
           ap (joint 0 x) (only written m one ∙ ap (λ (k : ℕ). k ∷ []) p)
-          ∙ sym (ap (λ (y : Merged). answered y x written) q)
+          ∙ sym (ap (λ (y : Result ℕ Refusal). answered y x written) q)
           ∙ ap (λ (l : Left). joint_by l written) e
           ∙ joint_as
 
-      pub number_joint : {k : Refusal} {n : ℕ} → r ≡ Refused k → n ≡ number_of k → joint n x written ≡ merge_into a b out written
+      pub number_joint : {k : Refusal} {n : ℕ} → r ≡ Err k → n ≡ number_of k → joint n x written ≡ merge_into a b out written
       number_joint q p =
           ap (λ (j : ℕ). joint j x written) p
-          ∙ sym (ap (λ (y : Merged). answered y x written) q)
+          ∙ sym (ap (λ (y : Result ℕ Refusal). answered y x written) q)
           ∙ ap (λ (l : Left). joint_by l written) e
           ∙ joint_as

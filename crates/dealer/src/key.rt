@@ -5,7 +5,6 @@ ghost use Rattle.entries.specs.Sent.{sent, into};
 ghost use Rattle.dealer.specs.Keys.{key_said};
 
 use entries::give;
-use messages::Accepted;
 
 // The key of an acceptable message, into one entry. Or 1, then 3, 4, 5.
 pub fn addercoil_key(message: &[u8], out: &mut [u64]) -> u32
@@ -16,7 +15,7 @@ pub fn addercoil_key(message: &[u8], out: &mut [u64]) -> u32
     }
     let answer = messages::accept(message);
     match answer {
-        Accepted::Frame(f) => give(out, &[messages::frame_key(f) as u64]),
-        Accepted::Refused(r) => refusals::number(r),
+        Ok(f) => give(out, &[messages::frame_key(f) as u64]),
+        Err(r) => refusals::number(r),
     }
 }

@@ -1,19 +1,15 @@
 -- The two answers, from their parts: what the code found of each figure, and what the definitions say.
 -- Assumes nothing.
+use Rattle.std.specs.Prelude.{None, Ok, Err, Option, Some}
 use Rattle.std.proofs.Common.{◌≡◌, ℕ, suc, ◌-◌, ◌%◌, ◌^◌, ◌<◌, Bool, true, false, cond, ◌&&◌, ℤ, pos, negsuc, nat_abs, sym, refl, ap, ◌∙◌, subst, true≢false, arith, ltb-true, lt-ltb, le-leb, leb-false, leb-true}
-use mathlib.Core.Option.{Option, some, none}
 use lib.Signed.{mag}
 use lib.Ieee.{Float}
 use Rattle.refusals.specs.declared.Refusal.TheVariants as refusal
 use Rattle.fields.proofs.Bools.{each}
 use Rattle.positions.specs.declared.Spot.{Spot}
-use Rattle.positions.specs.declared.Found.TheVariants as found
 use Rattle.positions.specs.Whole.{modulo}
 use Rattle.positions.specs.Positions.{units, pole_to_pole}
 use Rattle.degrees.specs.declared.Degrees.{Degrees}
-use Rattle.degrees.specs.declared.InDegrees.TheVariants as given
-use Rattle.degrees.specs.declared.Whole.{Whole}
-use Rattle.degrees.specs.declared.Whole.TheVariants.{None}
 use Rattle.degrees.specs.Value.{degrees_of, Exactly, units_of}
 use Rattle.degrees.specs.Ways.{centred, in_degrees, half_turn, place_of, from_degrees}
 use Rattle.positions.specs.Said.{found_said}
@@ -26,11 +22,11 @@ use Rattle.degrees.proofs.Divided.{none_some, exact_units, units_exact}
 -- ---- the way there
 
 pub given_is : (s : Spot) (x y : Float) → pole_to_pole s.latitude ≡ true → x ≡ degrees_of s.latitude → y ≡ degrees_of (centred s.longitude)
-    → given.Degrees (record { latitude = x; longitude = y }) ≡ in_degrees s
+    → Ok (record { latitude = x; longitude = y }) ≡ in_degrees s
 unfolding in_degrees
 given_is s x y t p q = rw (t, p, q)
 
-pub refused_is : (s : Spot) → pole_to_pole s.latitude ≡ false → given.Refused refusal.Field ≡ in_degrees s
+pub refused_is : (s : Spot) → pole_to_pole s.latitude ≡ false → Err refusal.Field ≡ in_degrees s
 unfolding in_degrees
 refused_is s t = rw t
 
@@ -39,7 +35,7 @@ unfolding in_degrees
 told s h = by_test (pole_to_pole s.latitude) refl
   where
     by_test : (b : Bool) → pole_to_pole s.latitude ≡ b
-        → DegreesIs s (in_degrees_said (cond b (given.Degrees (record { latitude = degrees_of s.latitude; longitude = degrees_of (centred s.longitude) })) (given.Refused refusal.Field)))
+        → DegreesIs s (in_degrees_said (cond b (Ok (record { latitude = degrees_of s.latitude; longitude = degrees_of (centred s.longitude) })) (Err refusal.Field)))
     by_test true e =
         let l = leb-true (nat_abs s.latitude) 1073741824 e in
         record {
@@ -52,7 +48,7 @@ told s h = by_test (pole_to_pole s.latitude) refl
 
 -- ---- the way back, as the code finds it
 
-module _ (d : Degrees) (w : Whole) where
+module _ (d : Degrees) (w : Option ℤ) where
   pub no_latitude : WholeIs d.latitude w → w ≡ None → (s : Spot) → Same s d → ⊥
   no_latitude i e s t = subst (WholeIs d.latitude) e i s.latitude (quarter_mag s.latitude t.in_latitude) t.latitude_is
 
@@ -84,24 +80,24 @@ back_in (pos a) h = (ap centred {x = a % units} {y = a} (omega arith) ∙ east a
 back_in (negsuc a) h =
     (west (units - suc (a % units)) (omega arith) (omega arith) ∙ ap negsuc {x = 4294967295 - (units - suc (a % units))} {y = a} (omega arith), omega arith)
 
-some_same : (n k : ℤ) → some n ≡ some k → n ≡ k
+some_same : (n k : ℤ) → Some n ≡ Some k → n ≡ k
 some_same n k e = cc
 
 module _ (d : Degrees) where
   -- of a place that has the doubles d the definition finds both numbers
   both_there : (s : Spot) → Same s d → (x y : Option ℤ) → units_of d.latitude ≡ x → units_of d.longitude ≡ y
-      → (x ≡ some s.latitude) × (y ≡ some (centred s.longitude))
+      → (x ≡ Some s.latitude) × (y ≡ Some (centred s.longitude))
   both_there s t x y p q =
       (sym p ∙ exact_units d.latitude s.latitude t.latitude_is, sym q ∙ exact_units d.longitude (centred s.longitude) t.longitude_is)
 
   of_both : (x y : Option ℤ) → units_of d.latitude ≡ x → units_of d.longitude ≡ y → BackIs d (found_said (place_of x y))
   unfolding place_of
-  of_both none y p q = (refl, λ s t. none_some s.latitude (both_there s t none y p q).0)
-  of_both (some n) none p q = (refl, λ s t. none_some (centred s.longitude) (both_there s t (some n) none p q).1)
-  of_both (some n) (some k) p q = by_test (pole_to_pole n && half_turn k) refl
+  of_both None y p q = (refl, λ s t. none_some s.latitude (both_there s t None y p q).0)
+  of_both (Some n) None p q = (refl, λ s t. none_some (centred s.longitude) (both_there s t (Some n) None p q).1)
+  of_both (Some n) (Some k) p q = by_test (pole_to_pole n && half_turn k) refl
     where
       by_test : (b : Bool) → (pole_to_pole n && half_turn k) ≡ b
-          → BackIs d (found_said (cond b (found.At (record { latitude = n; longitude = modulo k units })) (found.Refused refusal.Degrees)))
+          → BackIs d (found_said (cond b (Ok (record { latitude = n; longitude = modulo k units })) (Err refusal.Degrees)))
       by_test true e =
           let g = each (pole_to_pole n) (half_turn k) e in
           let b = back_in k (ltb-true (mag k) 2147483648 g.1) in
@@ -109,7 +105,7 @@ module _ (d : Degrees) where
       by_test false e = (
         refl,
         λ s t.
-            let g = both_there s t (some n) (some k) p q in
+            let g = both_there s t (Some n) (Some k) p q in
             let a : n ≡ s.latitude = some_same n s.latitude g.0 in
             let c : k ≡ centred s.longitude = some_same k (centred s.longitude) g.1 in
             true≢false

@@ -3,8 +3,7 @@
 use Rattle.std.proofs.Common.{◌≡◌, ℕ, suc, ◌-◌, ◌<◌, ◌≤◌, true, false, not, T, ℤ, pos, negsuc, nat_abs, sym, ap, ◌∙◌, true≢false, arith}
 use mathlib.Core.Bool.{false≢true}
 use lib.Signed.{mag, nat_abs-le}
-use lib.Ieee.{Float, nan, inf, fin, binary64, mul, neg, lt, ne, is_nan}
-use lib.Ieee.Compare.{nan_differs}
+use lib.Ieee.{Float, nan, inf, fin, binary64, mul, neg, lt, is_nan}
 use Rattle.degrees.specs.Value.{under, Exactly, degrees_of}
 use Rattle.degrees.specs.Code.{whole_of, Counted}
 use Rattle.degrees.proofs.Return.{times_turn, neg_whole, side_pos, side_neg}
@@ -33,12 +32,6 @@ north x k t c (pos a) h e =
     (ap pos (sym q), omega arith)
 north x k t c (negsuc a) h e =
     absurd (false≢true (sym t ∙ ap (λ (y : Float). lt y zero_f) (turned_is x (negsuc a) h e) ∙ side_neg (suc a) (omega arith) h))
-
-pub no_nan : (x : Float) → ne x x ≡ false → T (not (is_nan x))
-unfolding is_nan
-no_nan nan e = absurd (true≢false (sym nan_differs ∙ e))
-no_nan (inf s) e = tt
-no_nan (fin s m e) h = tt
 
 pub valued : (x : Float) (n : ℤ) → Exactly x n → T (not (is_nan x))
 unfolding is_nan

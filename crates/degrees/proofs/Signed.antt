@@ -1,6 +1,8 @@
 -- The crossings between whole numbers of either sign and the code's unsigned ones: a longitude taken in and out, and the range of each.
 -- Assumes nothing.
-use Rattle.std.proofs.Common.{◌≡◌, ℕ, zero, suc, ◌+◌, ◌-◌, ◌^◌, ◌<◌, ◌≤◌, ℤ, pos, negsuc, ◌-ℤ◌, nat_abs, refl, ap, ◌∙◌, ⊎_elim, arith, le-ltb, lt-ltb}
+use Rattle.std.proofs.Common.{◌≡◌, ℕ, zero, suc, ◌+◌, ◌-◌, ◌^◌, ◌<◌, ◌≤◌, ℤ, pos, negsuc, ◌-ℤ◌, nat_abs, refl, sym, ap, ◌∙◌, ⊎_elim, arith, le-ltb, lt-ltb}
+use Rattle.std.proofs.Math.Facts.{to_z-neg, to_z_pos}
+use Rattle.std.specs.Int.{w32, cast_signed as to_z}
 use lib.Signed.{mag, nat_abs-le}
 use Rattle.signs.specs.Raised.{raised}
 use Rattle.positions.proofs.Shift.{order, sub_neg}
@@ -49,3 +51,12 @@ quarter z h = omega arith
 
 pub half : (n : ℕ) → n < 2 ^ 32 → nat_abs (centred n) ≤ 2147483648
 half n h = nat_abs-le (centred n) (centred_mag n h)
+
+-- the code's way in and out is the machine's own reading of 32 bits
+pub signed_is : (n : ℕ) → n < 2 ^ 32 → to_z w32 n ≡ centred n
+signed_is n h =
+    ⊎_elim
+    (λ (l : 2147483648 ≤ n).
+    ap (to_z w32) {x = n} {y = 2 ^ 32 - suc (4294967295 - n)} (omega arith) ∙ to_z-neg w32 (4294967295 - n) (omega arith) ∙ sym (west n l h))
+    (λ (l : n < 2147483648). to_z_pos w32 {n = n} l ∙ sym (east n l))
+    (order n 2147483648)

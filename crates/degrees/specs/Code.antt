@@ -1,10 +1,8 @@
 -- What the private functions promise to each other. No public contract cites this file.
-use Rattle.std.specs.Prelude.{◌≡◌, ℕ, ◌*◌, ◌<◌, ◌≤◌, Bool, false, ℤ, Float}
+use Rattle.std.specs.Prelude.{◌≡◌, ℕ, ◌*◌, ◌<◌, ◌≤◌, Bool, false, ℤ, Float, Option, Some, None}
 use Rattle.std.specs.Int.Signed.{mag}
 use Rattle.std.specs.Float.{binary64}
 use Rattle.std.specs.Float.Ieee.{round}
-use Rattle.degrees.specs.declared.Whole.{Whole}
-use Rattle.degrees.specs.declared.Whole.TheVariants.{Units, None}
 use Rattle.degrees.specs.Value.{Exactly, degrees_of}
 
 -- the double 360 a, with a sign
@@ -20,6 +18,6 @@ abbrev pub Guessed : Float → ℤ → Type 0
 Guessed x r = (n : ℤ) → mag n < 2147483648 → x ≡ degrees_of n → r ≡ n
 
 -- the number of 32 bits of which a double is the figure, if there is one
-abbrev pub WholeIs : Float → Whole → Type 0
-WholeIs x (Units n) = (mag n < 2147483648) × Exactly x n
+abbrev pub WholeIs : Float → Option ℤ → Type 0
+WholeIs x (Some n) = (mag n < 2147483648) × Exactly x n
 WholeIs x None = (n : ℤ) → mag n < 2147483648 → Exactly x n → ⊥

@@ -1,16 +1,14 @@
 -- RULES 15.1 to 15.3: what the answers say in the rules' terms, with no rounding in the words: the doubles that are exactly the place, the place that the doubles exactly are,
 -- or a number and why.
-use Rattle.std.specs.Prelude.{◌≡◌, ◌^◌, ◌<◌, ◌≤◌, ◌≢◌, unsigned_abs, Float}
+use Rattle.std.specs.Prelude.{◌≡◌, ◌^◌, ◌<◌, ◌≤◌, ◌≢◌, unsigned_abs, Float, Result, Ok, Err}
 use Rattle.refusals.specs.Numbers.{number_of}
 use Rattle.refusals.specs.Said.{Said, number, gives}
 use Rattle.refusals.specs.declared.Refusal.TheVariants as refusal
 use Rattle.positions.specs.declared.Spot.{Spot}
-use Rattle.positions.specs.declared.Found.TheVariants as found
 use Rattle.degrees.specs.declared.Degrees.{Degrees}
-use Rattle.degrees.specs.declared.InDegrees.{InDegrees}
-use Rattle.degrees.specs.declared.InDegrees.TheVariants as given
 use Rattle.degrees.specs.Value.{Exactly}
 use Rattle.degrees.specs.Ways.{centred, in_degrees, from_degrees}
+use Rattle.refusals.specs.declared.Refusal.{Refusal}
 
 -- the place s is within range, and the two doubles d are exactly it
 pub record Same (s : Spot) (d : Degrees) : Type 0 where
@@ -19,9 +17,9 @@ pub record Same (s : Spot) (d : Degrees) : Type 0 where
   pub latitude_is : Exactly d.latitude s.latitude
   pub longitude_is : Exactly d.longitude (centred s.longitude)
 
-abbrev pub in_degrees_said : InDegrees → Said Degrees
-in_degrees_said (given.Degrees d) = gives d
-in_degrees_said (given.Refused r) = number (number_of r)
+abbrev pub in_degrees_said : Result Degrees Refusal → Said Degrees
+in_degrees_said (Ok d) = gives d
+in_degrees_said (Err r) = number (number_of r)
 
 -- there: the doubles that are exactly the place, and 8 where its latitude is out of range
 abbrev pub DegreesIs : Spot → Said Degrees → Type 0
@@ -35,6 +33,6 @@ BackIs d (number n) = (n ≡ 15) × ((s : Spot) → Same s d → ⊥)
 
 -- a double that is never handed out, and that earns 15 as either figure, whatever the other is
 pub record Never (x : Float) : Type 0 where
-  pub out : (s : Spot) (d : Degrees) → s.longitude < 2 ^ 32 → in_degrees s ≡ given.Degrees d → (d.latitude ≢ x) × (d.longitude ≢ x)
-  pub north : (y : Float) → from_degrees (record { latitude = x; longitude = y }) ≡ found.Refused refusal.Degrees
-  pub east : (y : Float) → from_degrees (record { latitude = y; longitude = x }) ≡ found.Refused refusal.Degrees
+  pub out : (s : Spot) (d : Degrees) → s.longitude < 2 ^ 32 → in_degrees s ≡ Ok d → (d.latitude ≢ x) × (d.longitude ≢ x)
+  pub north : (y : Float) → from_degrees (record { latitude = x; longitude = y }) ≡ Err refusal.Degrees
+  pub east : (y : Float) → from_degrees (record { latitude = y; longitude = x }) ≡ Err refusal.Degrees

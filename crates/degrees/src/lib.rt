@@ -4,10 +4,10 @@
 
 ghost use Rattle.std.specs.Prelude.{◌≡◌, ◌<◌, negsuc};
 ghost use Rattle.degrees.specs.Value.{degrees_of};
-ghost use Rattle.degrees.specs.Ways.{centred, in_degrees, from_degrees};
+ghost use Rattle.degrees.specs.Ways.{in_degrees, from_degrees};
 ghost use Rattle.degrees.specs.Code.{Counted, Guessed, WholeIs};
 
-use positions::{Found, Spot};
+use positions::Spot;
 use refusals::Refusal;
 
 // A place in degrees: latitude from the equator, longitude from -180 up to below 180.
@@ -17,53 +17,32 @@ pub struct Degrees {
     pub longitude: f64,
 }
 
-#[derive(Clone, Copy)]
-pub enum InDegrees {
-    Degrees(Degrees),
-    Refused(Refusal),
-}
-
-// The units of which a double is the figure.
-#[derive(Clone, Copy)]
-enum Whole {
-    Units(i32),
-    None,
-}
-
 // A place in degrees, exactly.
-pub fn to_degrees(spot: Spot) -> InDegrees
+pub fn to_degrees(spot: Spot) -> Result<Degrees, Refusal>
     ensures { result ≡ in_degrees spot }
 {
-    let n = spot.latitude;
-    if positions::pole_to_pole(signs::raise(n)) {
-        let latitude = figure(n);
-        let longitude = figure(taken_in(spot.longitude));
-        InDegrees::Degrees(Degrees {
-            latitude,
-            longitude,
-        })
-    } else {
-        InDegrees::Refused(Refusal::Field)
+    if !positions::pole_to_pole(signs::raise(spot.latitude)) {
+        return Err(Refusal::Field);
     }
+    let latitude = figure(spot.latitude);
+    let longitude = figure(spot.longitude.cast_signed());
+    Ok(Degrees {
+        latitude,
+        longitude,
+    })
 }
 
 // The place that two doubles exactly are.
-pub fn from_degrees(d: Degrees) -> Found
+pub fn from_degrees(d: Degrees) -> Result<Spot, Refusal>
     ensures { result ≡ from_degrees d }
 {
-    let a = units_of(d.latitude);
-    let Whole::Units(latitude) = a else {
-        return Found::Refused(Refusal::Degrees);
-    };
+    let latitude = units_of(d.latitude).ok_or(Refusal::Degrees)?;
     if !positions::pole_to_pole(signs::raise(latitude)) {
-        return Found::Refused(Refusal::Degrees);
+        return Err(Refusal::Degrees);
     }
-    let b = units_of(d.longitude);
-    let Whole::Units(n) = b else {
-        return Found::Refused(Refusal::Degrees);
-    };
-    let longitude = taken_out(n);
-    Found::At(Spot {
+    let n = units_of(d.longitude).ok_or(Refusal::Degrees)?;
+    let longitude = n.cast_unsigned();
+    Ok(Spot {
         latitude,
         longitude,
     })
@@ -82,29 +61,6 @@ fn minus(k: u32) -> i32
     ensures { result ≡ negsuc k }
 {
     -1 - (k as i32)
-}
-
-// A longitude taken into -2^31 up to 2^31 - 1.
-fn taken_in(longitude: u32) -> i32
-    ensures { result ≡ centred longitude }
-{
-    if longitude < 2147483648 {
-        longitude as i32
-    } else {
-        minus(4294967295 - longitude)
-    }
-}
-
-// .. and out again.
-fn taken_out(n: i32) -> u32
-    ensures { centred result ≡ n }
-{
-    let up = signs::raise(n);
-    if up < 4294967296 {
-        up as u32
-    } else {
-        (up - 4294967296) as u32
-    }
 }
 
 // Of a double that is the whole number 360 k: k.
@@ -142,19 +98,15 @@ fn guess(x: f64) -> i32
 }
 
 // Guesses, goes forth again and compares the patterns: so no other double is taken, and negative zero is none.
-fn units_of(x: f64) -> Whole
+fn units_of(x: f64) -> Option<i32>
     ensures { WholeIs x result }
 {
-    if x != x {
-        return Whole::None;
+    if x.is_nan() {
+        return None;
     }
     let n = guess(x);
     let y = figure(n);
     let given = f64::to_bits(x);
     let due = f64::to_bits(y);
-    if given == due {
-        Whole::Units(n)
-    } else {
-        Whole::None
-    }
+    if given == due { Some(n) } else { None }
 }

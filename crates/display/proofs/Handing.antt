@@ -1,5 +1,6 @@
 -- What a whole listing hands over, by what the crate below answers: the tests are the same, and come in the same order.
 -- Assumes nothing.
+use Rattle.std.specs.Prelude.{Result, Ok, Err}
 use Prim.Native.Nat.{ℕ, suc}
 use native.Mathlib.Omega.{arith}
 use mathlib.Core.Path.{◌≡◌, refl, sym, ap, ◌∙◌}
@@ -14,17 +15,15 @@ use Rattle.refusals.specs.Numbers.{number_of}
 use Rattle.memory.specs.Offsets.{whole_places}
 use Rattle.entries.specs.Arrays.{filled}
 use Rattle.report.specs.Listing.{listing}
-use Rattle.whole.specs.declared.Listed.{Listed}
-use Rattle.whole.specs.declared.Listed.TheVariants.{Bytes, Refused}
 use Rattle.whole.specs.Whole.{room_for, order_after, Left, left, listed}
 use Rattle.display.specs.Lines.{chosen}
 use Rattle.display.specs.Handed.{Handed, handed, listing_into}
 use Rattle.display.specs.Code.{no_choice, no_listing}
 
 -- by the answer
-abbrev answered : Listed → List ℕ → List ℕ → List ℕ → Handed
-answered (Bytes n) order out written = handed 0 order out (n ∷ [])
-answered (Refused r) order out written = handed (number_of r) order out written
+abbrev answered : Result ℕ Refusal → List ℕ → List ℕ → List ℕ → Handed
+answered (Ok n) order out written = handed 0 order out (n ∷ [])
+answered (Err r) order out written = handed (number_of r) order out written
 
 abbrev handed_by : Left → List ℕ → Handed
 handed_by l written = answered l.answer l.order l.out written
@@ -79,23 +78,23 @@ module _ (all : ℕ) (s : List ℕ) (bad : ℕ) (order out written : List ℕ) w
     handed_as h = by_tests room (whole_places (length s)) ∙ sym (into ∙ rw h)
       where
         by_tests : (a b : Bool) →
-            handed_by (cond (not a) (left (Refused Length) order out) (cond (not b) (left (Refused Places) order out) (left (Bytes (length text)) (order_after s order) (filled (length out) text)))) written
+            handed_by (cond (not a) (left (Err Length) order out) (cond (not b) (left (Err Places) order out) (left (Ok (length text)) (order_after s order) (filled (length out) text)))) written
             ≡ cond (not a) (handed 1 order out written) (cond (not b) (handed 7 order out written) (handed 0 (order_after s order) (filled (length out) text) (length text ∷ [])))
         by_tests true true = refl
         by_tests true false = refl
         by_tests false b = refl
 
-    module _ (h : ltb 1 all ≡ false) {a : Listed} {o x : List ℕ} (e : left a o x ≡ listed (chosen all) s bad order out) where
-      pub text_handed : {n m : ℕ} → a ≡ Bytes n → m ≡ n → handed 0 o x (set written 0 m) ≡ listing_into all s bad order out written
+    module _ (h : ltb 1 all ≡ false) {a : Result ℕ Refusal} {o x : List ℕ} (e : left a o x ≡ listed (chosen all) s bad order out) where
+      pub text_handed : {n m : ℕ} → a ≡ Ok n → m ≡ n → handed 0 o x (set written 0 m) ≡ listing_into all s bad order out written
       text_handed {n} {m} q p =
           ap (handed 0 o x) (only written m one ∙ ap (λ (k : ℕ). k ∷ []) p)
-          ∙ sym (ap (λ (y : Listed). answered y o x written) q)
+          ∙ sym (ap (λ (y : Result ℕ Refusal). answered y o x written) q)
           ∙ ap (λ (l : Left). handed_by l written) e
           ∙ handed_as h
 
-      pub number_handed : {r : Refusal} {k : ℕ} → a ≡ Refused r → k ≡ number_of r → handed k o x written ≡ listing_into all s bad order out written
+      pub number_handed : {r : Refusal} {k : ℕ} → a ≡ Err r → k ≡ number_of r → handed k o x written ≡ listing_into all s bad order out written
       number_handed q p =
           ap (λ (j : ℕ). handed j o x written) p
-          ∙ sym (ap (λ (y : Listed). answered y o x written) q)
+          ∙ sym (ap (λ (y : Result ℕ Refusal). answered y o x written) q)
           ∙ ap (λ (l : Left). handed_by l written) e
           ∙ handed_as h

@@ -1,10 +1,10 @@
 -- Every line ends in a zero: the buffer has one byte more than the longest line.
 -- Assumes nothing.
+use Rattle.std.specs.Prelude.{Option, Some, None}
 use Prim.Native.Nat.{ℕ, ◌≤◌}
 use mathlib.Core.Path.{◌≡◌, ◌∙◌}
 use mathlib.Core.Bool.{Bool}
 use mathlib.Core.List.{List, []}
-use mathlib.Core.Option.{Option, some, none}
 use native.Mathlib.Omega.{arith}
 use lib.ListN.{length, get_or, get_or-eq_default}
 use Rattle.entries.specs.Arrays.{filled}
@@ -25,8 +25,8 @@ unfolding header_for
 header_ends all s bad = ends (header_for all s bad) (omega (arith, header_most (clock_of s) (length (rows_in all s)) bad))
 
 row_ends : (v : Option Row) → get_or (filled line_buffer (line_text v)) line_room 0 ≡ 0
-row_ends none = ends [] (omega arith)
-row_ends (some r) = ends (row_text r) (omega (arith, row_most r))
+row_ends None = ends [] (omega arith)
+row_ends (Some r) = ends (row_text r) (omega (arith, row_most r))
 
 pub line_ends : (all : Bool) (key : ℕ) (v : Option Track) → get_or (filled line_buffer (line_for all key v)) line_room 0 ≡ 0
 line_ends all key v = row_ends (row_for all key v)

@@ -3,9 +3,8 @@ ghost use Rattle.std.specs.Prelude.{◌≡◌};
 ghost use Rattle.refusals.specs.Said.{gives};
 ghost use Rattle.entries.specs.Sent.{sent, given, into};
 ghost use Rattle.display.specs.Lines.{line_buffer, header_said, line_said};
-ghost use Rattle.display.specs.Code.{no_choice, report_said};
+ghost use Rattle.display.specs.Code.{no_choice};
 
-use report::{Printed, Report};
 use text::Line;
 
 // A line's buffer: one byte more than a line has room for, so that it always ends in a zero.
@@ -14,21 +13,8 @@ const BUFFER: usize = text::LINE + 1;
 fn give_line(out: &mut [u8], line: Line) -> u32
     ensures { sent result out.new ≡ given out.old (gives line.bytes) }
 {
-    let bytes = line.bytes;
-    entries::fill_bytes(out, &bytes);
+    entries::fill_bytes(out, &line.bytes);
     0
-}
-
-fn give_report(out: &mut [u8], report: Report) -> u32
-    ensures { sent result out.new ≡ given out.old (report_said report) }
-{
-    let answer = report.answer;
-    let line = report.line;
-    match answer {
-        Printed::Text => give_line(out, line),
-        Printed::Nothing => give_line(out, line),
-        Printed::Refused(r) => refusals::number(r),
-    }
 }
 
 // What a choice that is neither 0 nor 1 earns: 7 comes before 8.
@@ -52,7 +38,10 @@ pub fn addercoil_header(table: &[u8], bad: u64, all: u32, out: &mut [u8]) -> u32
     if 1 < all {
         return no_choice(table);
     }
-    give_report(out, report::header_of(table, bad, all == 1))
+    match report::header_of(table, bad, all == 1) {
+        Ok(line) => give_line(out, line),
+        Err(r) => refusals::number(r),
+    }
 }
 
 // The line of a key, none if it is not held or not shown, into 129 bytes: all 0 shows the tracks with a position, 1 all. Or 1, then 7, 8.
@@ -65,5 +54,12 @@ pub fn addercoil_line(table: &[u8], key: u32, all: u32, out: &mut [u8]) -> u32
     if 1 < all {
         return no_choice(table);
     }
-    give_report(out, report::line_of(table, key, all == 1))
+    match report::line_of(table, key, all == 1) {
+        Ok(Some(line)) => give_line(out, line),
+        Ok(None) => {
+            entries::fill_bytes(out, &[]);
+            0
+        }
+        Err(r) => refusals::number(r),
+    }
 }

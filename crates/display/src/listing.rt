@@ -4,7 +4,6 @@ ghost use Rattle.display.specs.Handed.{handed, listing_into};
 ghost use Rattle.display.specs.Code.{no_listing};
 
 use crate::lines::no_choice;
-use whole::Listed;
 
 // What a choice that is neither 0 nor 1 earns: 1 and 7 come before 8.
 fn unlisted(table: &[u8], order: usize, out: usize) -> u32
@@ -36,10 +35,10 @@ pub fn addercoil_listing(
     }
     let listed = whole::listing(table, bad, all == 1, order, out);
     match listed {
-        Listed::Bytes(n) => {
+        Ok(n) => {
             written[0] = n as u64;
             0
         }
-        Listed::Refused(r) => refusals::number(r),
+        Err(r) => refusals::number(r),
     }
 }

@@ -12,8 +12,5 @@ pub fn addercoil_look_up(table: &[u8], key: u32, out: &mut [u64]) -> u32
     if out.len() != track_rows::TRACK {
         return 1;
     }
-    let looked = table::look_up(table, key);
-    let answer = looked.answer;
-    let track = looked.track;
-    track_rows::give_held(out, key, track, answer)
+    track_rows::give_held(out, key, table::look_up(table, key))
 }

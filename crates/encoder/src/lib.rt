@@ -8,15 +8,8 @@ ghost use Rattle.messages.specs.Message.{head_taken, head_widths, head_fields, s
 ghost use Rattle.encoder.specs.Encoded.{encoded, encoded_bytes};
 ghost use Rattle.encoder.specs.Code.{me_of};
 
-use layouts::Written;
 use messages::Message;
 use refusals::Refusal;
-
-#[derive(Clone, Copy)]
-pub enum Encoded {
-    Written,
-    Refused(Refusal),
-}
 
 fn head_of(m: Message) -> u64
     ensures { result ≡ pack head_widths (head_fields m) }
@@ -27,20 +20,17 @@ fn head_of(m: Message) -> u64
 fn head_fits(m: Message) -> bool
     ensures { result ≡ (fits head_widths (head_fields m) && head_taken m) }
 {
-    let taken = messages::head_taken(m);
-    (m.format < 32) & (m.control < 8) & (m.address < 0x100_0000) & taken
+    (m.format < 32) & (m.control < 8) & (m.address < 0x100_0000) & messages::head_taken(m)
 }
 
 // ME of a message that can be sent.
-fn me_of(m: Message) -> Written
+fn me_of(m: Message) -> Result<u64, Refusal>
     ensures { result ≡ me_of m }
 {
-    let body = m.body;
-    if head_fits(m) {
-        layouts::me_of(body)
-    } else {
-        Written::Refused(Refusal::Field)
+    if !head_fits(m) {
+        return Err(Refusal::Field);
     }
+    layouts::me_of(m.body)
 }
 
 fn fill(out: &mut [u8], head: u64, me: u64)
@@ -54,18 +44,13 @@ fn fill(out: &mut [u8], head: u64, me: u64)
 }
 
 // Writes the 14 bytes that say it. What is refused leaves the buffer as it was.
-pub fn encode(m: Message, out: &mut [u8]) -> Encoded
+pub fn encode(m: Message, out: &mut [u8]) -> Result<(), Refusal>
     ensures { (result ≡ encoded m out.old) × (out.new ≡ encoded_bytes m out.old) }
 {
     if out.len() != 14 {
-        return Encoded::Refused(Refusal::Length);
+        return Err(Refusal::Length);
     }
-    let w = me_of(m);
-    match w {
-        Written::Me(me) => {
-            fill(out, head_of(m), me);
-            Encoded::Written
-        }
-        Written::Refused(r) => Encoded::Refused(r),
-    }
+    let me = me_of(m)?;
+    fill(out, head_of(m), me);
+    Ok(())
 }

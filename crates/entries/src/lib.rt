@@ -8,10 +8,9 @@ ghost use Rattle.entries.specs.Means.{reading, altitude_reading, step_reading, s
 ghost use Rattle.entries.specs.Means.{bit as bit_of};
 
 pub use arrays::{entry, fill, fill_bytes, give, twos_of};
-use characters::{CategorySet, Text};
-use readings::{
-    Altitude, CoarseSpeed, Difference, Heading, Movement, Rate, Speed, Supplement, Version,
-};
+use characters::CategorySet;
+use readings::{Altitude, CoarseSpeed, Difference, Movement, Rate, Speed};
+use refusals::Refusal;
 
 #[derive(Clone, Copy)]
 pub struct Reading {
@@ -22,157 +21,153 @@ pub struct Reading {
 fn known(value: u64) -> Reading
     ensures { result ≡ reading 1 value }
 {
-    Reading {
-        what: 1,
-        value: value,
-    }
+    Reading { what: 1, value }
 }
 
 // A reading that has no number.
 pub fn only(what: u64) -> Reading
     ensures { result ≡ reading what 0 }
 {
-    Reading {
-        what: what,
-        value: 0,
-    }
+    Reading { what, value: 0 }
+}
+
+// From a value up.
+fn and_up(value: u64) -> Reading
+    ensures { result ≡ reading 2 value }
+{
+    Reading { what: 2, value }
 }
 
 pub fn bit(b: bool) -> u64
     ensures { result ≡ bit_of b }
 {
-    if b { 1 } else { 0 }
+    u64::from(b)
 }
 
-pub fn altitude_reading(a: Altitude) -> Reading
+pub fn altitude_reading(a: Result<Option<Altitude>, Refusal>) -> Reading
     ensures { result ≡ altitude_reading a }
 {
     match a {
-        Altitude::Unknown => only(0),
-        Altitude::Feet { feet, step: _ } => known(crate::arrays::twos_of(feet)),
-        Altitude::Refused(_) => only(5),
+        Ok(Some(a)) => known(twos_of(a.feet)),
+        Ok(None) => only(0),
+        Err(_) => only(5),
     }
 }
 
 // How coarse an altitude is.
-pub fn step_reading(a: Altitude) -> Reading
+pub fn step_reading(a: Result<Option<Altitude>, Refusal>) -> Reading
     ensures { result ≡ step_reading a }
 {
     match a {
-        Altitude::Unknown => only(0),
-        Altitude::Feet { feet: _, step } => known(step as u64),
-        Altitude::Refused(_) => only(5),
+        Ok(Some(a)) => known(u64::from(a.step)),
+        Ok(None) => only(0),
+        Err(_) => only(5),
     }
 }
 
-pub fn speed_reading(a: Speed) -> Reading
+pub fn speed_reading(a: Result<Speed, Refusal>) -> Reading
     ensures { result ≡ speed_reading a }
 {
     match a {
-        Speed::Unknown => only(0),
-        Speed::Knots(z) => known(crate::arrays::twos_of(z)),
-        Speed::Over => only(2),
-        Speed::Refused(_) => only(5),
+        Ok(Speed::Unknown) => only(0),
+        Ok(Speed::Knots(z)) => known(twos_of(z)),
+        Ok(Speed::Over) => only(2),
+        Err(_) => only(5),
     }
 }
 
-pub fn rate_reading(a: Rate) -> Reading
+pub fn rate_reading(a: Result<Rate, Refusal>) -> Reading
     ensures { result ≡ rate_reading a }
 {
     match a {
-        Rate::Unknown => only(0),
-        Rate::FeetPerMinute(z) => known(crate::arrays::twos_of(z)),
-        Rate::Over => only(2),
-        Rate::Refused(_) => only(5),
+        Ok(Rate::Unknown) => only(0),
+        Ok(Rate::FeetPerMinute(z)) => known(twos_of(z)),
+        Ok(Rate::Over) => only(2),
+        Err(_) => only(5),
     }
 }
 
-pub fn difference_reading(a: Difference) -> Reading
+pub fn difference_reading(a: Result<Difference, Refusal>) -> Reading
     ensures { result ≡ difference_reading a }
 {
     match a {
-        Difference::Unknown => only(0),
-        Difference::Feet(z) => known(crate::arrays::twos_of(z)),
-        Difference::Over => only(2),
-        Difference::Refused(_) => only(5),
+        Ok(Difference::Unknown) => only(0),
+        Ok(Difference::Feet(z)) => known(twos_of(z)),
+        Ok(Difference::Over) => only(2),
+        Err(_) => only(5),
     }
 }
 
-pub fn heading_reading(a: Heading) -> Reading
+pub fn heading_reading(a: Result<u32, Refusal>) -> Reading
     ensures { result ≡ heading_reading a }
 {
     match a {
-        Heading::Turn(n) => known(n as u64),
-        Heading::Refused(_) => only(5),
+        Ok(n) => known(u64::from(n)),
+        Err(_) => only(5),
     }
 }
 
-pub fn movement_reading(a: Movement) -> Reading
+pub fn movement_reading(a: Result<Movement, Refusal>) -> Reading
     ensures { result ≡ movement_reading a }
 {
     match a {
-        Movement::Unknown => only(0),
-        Movement::Stopped => only(4),
-        Movement::LowerEdge(n) => known(n as u64),
-        Movement::AndUp(n) => Reading {
-            what: 2,
-            value: n as u64,
-        },
-        Movement::Reserved => only(3),
-        Movement::Refused(_) => only(5),
+        Ok(Movement::Unknown) => only(0),
+        Ok(Movement::Stopped) => only(4),
+        Ok(Movement::LowerEdge(n)) => known(u64::from(n)),
+        Ok(Movement::AndUp(n)) => and_up(u64::from(n)),
+        Ok(Movement::Reserved) => only(3),
+        Err(_) => only(5),
     }
 }
 
-pub fn coarse_speed_reading(a: CoarseSpeed) -> Reading
+pub fn coarse_speed_reading(a: Result<CoarseSpeed, Refusal>) -> Reading
     ensures { result ≡ coarse_speed_reading a }
 {
     match a {
-        CoarseSpeed::Unknown => only(0),
-        CoarseSpeed::LowerEdge(n) => known(n as u64),
-        CoarseSpeed::AndUp(n) => Reading {
-            what: 2,
-            value: n as u64,
-        },
-        CoarseSpeed::Refused(_) => only(5),
+        Ok(CoarseSpeed::Unknown) => only(0),
+        Ok(CoarseSpeed::LowerEdge(n)) => known(u64::from(n)),
+        Ok(CoarseSpeed::AndUp(n)) => and_up(u64::from(n)),
+        Err(_) => only(5),
     }
 }
 
-pub fn set_reading(a: CategorySet) -> Reading
+pub fn set_reading(a: Result<Option<CategorySet>, Refusal>) -> Reading
     ensures { result ≡ set_reading a }
 {
     match a {
-        CategorySet::A => known(65),
-        CategorySet::B => known(66),
-        CategorySet::C => known(67),
-        CategorySet::D => known(68),
-        CategorySet::NoSet => only(0),
-        CategorySet::Refused(_) => only(5),
+        Ok(Some(CategorySet::A)) => known(65),
+        Ok(Some(CategorySet::B)) => known(66),
+        Ok(Some(CategorySet::C)) => known(67),
+        Ok(Some(CategorySet::D)) => known(68),
+        Ok(None) => only(0),
+        Err(_) => only(5),
     }
 }
 
-pub fn text_reading(a: Text) -> Reading
+pub fn text_reading(a: Result<u64, Refusal>) -> Reading
     ensures { result ≡ text_reading a }
 {
     match a {
-        Text::Shown(n) => known(n),
-        Text::Refused(_) => only(5),
+        Ok(n) => known(n),
+        Err(_) => only(5),
     }
 }
 
-pub fn version_reading(a: Version) -> Reading
+// Of a version that is reserved there is none.
+pub fn version_reading(a: Option<u8>) -> Reading
     ensures { result ≡ version_reading a }
 {
     match a {
-        Version::Number(n) => known(n as u64),
-        Version::Reserved => only(3),
+        Some(n) => known(u64::from(n)),
+        None => only(3),
     }
 }
 
-pub fn supplement_reading(a: Supplement) -> Reading
+pub fn supplement_reading(a: Option<u8>) -> Reading
     ensures { result ≡ supplement_reading a }
 {
     match a {
-        Supplement::Unknown => only(0),
-        Supplement::Bit(n) => known(n as u64),
+        Some(n) => known(u64::from(n)),
+        None => only(0),
     }
 }

@@ -1,5 +1,6 @@
 -- A capture in two parts, of which the first has whole blocks: one part after the other is the whole. The blocks of the whole are those of the first and then those of the second.
 -- Assumes nothing.
+use Rattle.std.specs.Prelude.{Ok}
 use Prim.Native.Nat.{ℕ, zero, suc, ◌+◌, ◌*◌, ◌<◌, ◌≤◌}
 use mathlib.Core.Path.{◌≡◌, refl, sym, ap, ap₂, ◌∙◌}
 use mathlib.Core.Bool.{cond}
@@ -10,7 +11,6 @@ use lib.ListN.{length, take, drop, length-append, length-drop}
 use lib.Seq.{take-append-le, drop-append-le, drop-append-add}
 use Rattle.capture.specs.Block.{good}
 use Rattle.table.specs.Table.{after}
-use Rattle.feed.specs.declared.Fed.TheVariants.{Bad}
 use Rattle.feed.specs.Feed.{blocks_in, block_at, block_into, blocks_into, bad_in, fed}
 use Rattle.feed.proofs.Answers.{fed_bad}
 use Rattle.feed.proofs.Ways.{feed_on}
@@ -72,7 +72,7 @@ module _ (c d : List ℕ) (a : ℕ) (e : length c ≡ 512 * a) where
       ∙ ap (λ (n : ℕ). bad_in c n + bad_in d (blocks_in d)) (sym blocks_first)
 
   -- to feed the first and then the second is to feed the whole
-  pub fed_then : (s : List ℕ) {m n : ℕ} {l k : List ℕ} → after (Bad m) l ≡ fed s c → after (Bad n) k ≡ fed l d → after (Bad (m + n)) k ≡ fed s (c ++ d)
+  pub fed_then : (s : List ℕ) {m n : ℕ} {l k : List ℕ} → after (Ok m) l ≡ fed s c → after (Ok n) k ≡ fed l d → after (Ok (m + n)) k ≡ fed s (c ++ d)
   fed_then s {m} {n} {l} p q =
       let f = fed_bad s c m p in
       let g = fed_bad l d n q in

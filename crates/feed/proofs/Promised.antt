@@ -1,6 +1,7 @@
 -- What the contracts promise in the rules' terms: whatever meets the contract of `feed` or of `feed_block` says how many blocks are bad, or 7. The definition of specs/Said
 -- carries each case of the answer over.
 -- Assumes nothing.
+use Rattle.std.specs.Prelude.{Result, Ok, Err}
 use Prim.Native.Nat.{ℕ}
 use mathlib.Core.Path.{◌≡◌, refl, ap, ◌∙◌}
 use mathlib.Core.Bool.{Bool, true, false, cond, not}
@@ -14,19 +15,18 @@ use Rattle.refusals.specs.Said.{Said, number, gives}
 use Rattle.capture.specs.Block.{good}
 use Rattle.memory.specs.Offsets.{whole_places}
 use Rattle.table.specs.Table.{After, after}
-use Rattle.feed.specs.declared.Fed.{Fed}
-use Rattle.feed.specs.declared.Fed.TheVariants.{Bad, Refused}
 use Rattle.feed.specs.Feed.{blocks_in, bad_in, counted, fed, fed_block}
 use Rattle.feed.specs.Said.{fed_said}
 use Rattle.feed.proofs.feed.Kinds as feed-kinds
 use Rattle.feed.proofs.feed.Reads as feed
 use Rattle.feed.proofs.feed_block.Kinds as feed-block-kinds
 use Rattle.feed.proofs.feed_block.Reads as feed-block
+use Rattle.refusals.specs.declared.Refusal.{Refusal}
 
-abbrev said_after : After Fed → Said ℕ
+abbrev said_after : After (Result ℕ Refusal) → Said ℕ
 said_after x = fed_said x.answer
 
-says : (t : Bool) (s l : List ℕ) (n : ℕ) → said_after (cond t (after (Refused Places) s) (after (Bad n) l)) ≡ cond t (number 7) (gives n)
+says : (t : Bool) (s l : List ℕ) (n : ℕ) → said_after (cond t (after (Err Places) s) (after (Ok n) l)) ≡ cond t (number 7) (gives n)
 says true s l n = refl
 says false s l n = refl
 

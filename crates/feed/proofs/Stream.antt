@@ -1,5 +1,6 @@
 -- A block after whole blocks, fed with their count, is one more block of the capture: for who reads a capture block by block and keeps none of it.
 -- Assumes nothing.
+use Rattle.std.specs.Prelude.{Ok}
 use Prim.Native.Nat.{ℕ, ◌+◌, ◌*◌, ◌^◌, ◌<◌, ◌≤◌}
 use mathlib.Core.Path.{◌≡◌, sym, ap, ap₂, ◌∙◌}
 use mathlib.Core.Bool.{cond}
@@ -10,7 +11,6 @@ use lib.ListN.{length}
 use lib.Seq.{take_all}
 use Rattle.capture.specs.Block.{good}
 use Rattle.table.specs.Table.{after}
-use Rattle.feed.specs.declared.Fed.TheVariants.{Bad}
 use Rattle.feed.specs.Feed.{blocks_in, block_at, block_into, blocks_into, bad_in, fed, fed_block}
 use Rattle.feed.proofs.Answers.{fed_bad, block_bad}
 use Rattle.feed.proofs.Join.{into_both, bad_both}
@@ -31,11 +31,11 @@ module _ (b : List ℕ) (some : 1 ≤ length b) (most : length b ≤ 512) where
   bad_one : cond (good b) 0 1 ≡ bad_in b (blocks_in b)
   bad_one = ap (λ (x : List ℕ). cond (good x) 0 1) (sym itself) ∙ sym (zero-add (cond (good (block_at b 0)) 0 1)) ∙ ap (bad_in b) (sym one)
 
-  module _ (c : List ℕ) (a : ℕ) (e : length c ≡ 512 * a) (s : List ℕ) {n m : ℕ} {l k : List ℕ} (p : after (Bad n) l ≡ fed s c) (h : n + 1 < 2 ^ 64) (q : after (Bad m) k ≡ fed_block l b n) where
+  module _ (c : List ℕ) (a : ℕ) (e : length c ≡ 512 * a) (s : List ℕ) {n m : ℕ} {l k : List ℕ} (p : after (Ok n) l ≡ fed s c) (h : n + 1 < 2 ^ 64) (q : after (Ok m) k ≡ fed_block l b n) where
     counts : m ≡ n + cond (good b) 0 1
     counts = (block_bad l b n m q).1 ∙ sym (counted_all n (good b) (omega (arith, at_most (good b))))
 
-    pub block_then : after (Bad m) k ≡ fed s (c ++ b)
+    pub block_then : after (Ok m) k ≡ fed s (c ++ b)
     block_then =
         let f = fed_bad s c n p in
         let g = block_bad l b n m q in

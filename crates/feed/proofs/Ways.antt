@@ -1,5 +1,6 @@
 -- Each way out of the functions, over variables: the tests passed on the way decide the definition's.
 -- Assumes nothing.
+use Rattle.std.specs.Prelude.{Result, Ok, Err, ⊤, Some, None}
 use Prim.Native.Nat.{ℕ, zero, suc, ◌+◌, ◌-◌, ◌*◌, ◌^◌, ◌<◌, ◌≤◌}
 use mathlib.Core.Path.{◌≡◌, refl, sym, ap, ap₂, subst, ◌∙◌}
 use mathlib.Core.Bool.{Bool, true, false, cond}
@@ -13,28 +14,22 @@ use lib.Seq.{take_all}
 use Rattle.refusals.specs.declared.Refusal.{Refusal}
 use Rattle.refusals.specs.declared.Refusal.TheVariants.{Places}
 use Rattle.fields.proofs.Bools.{by_test}
-use Rattle.capture.specs.Block.{part, count_of, good, block_of, time_of, record_of, message_of}
-use Rattle.capture.specs.declared.Block.TheVariants as block
-use Rattle.capture.specs.declared.Record.TheVariants.{At, Ended}
+use Rattle.capture.specs.Block.{part, count_of, good, at, block_of, time_of, record_of, message_of}
 use Rattle.capture.proofs.Records.{record_at_lem, message_at, message_ended}
 use Rattle.capture.proofs.Rules.{block_good, block_refused}
 use Rattle.memory.specs.Offsets.{whole_places}
-use Rattle.rules.specs.declared.answers.Clock.{Clock}
-use Rattle.rules.specs.declared.answers.Clock.TheVariants as clock
 use Rattle.rules.specs.Rules as rules
-use Rattle.rules.specs.declared.answers.Heard.{Heard}
 use Rattle.table.specs.Heard.{heard}
 use Rattle.table.specs.Table.{After, after, received, clock_in}
-use Rattle.feed.specs.declared.Fed.TheVariants.{Bad, Refused}
 use Rattle.feed.specs.Feed.{records_into, block_into, counted, blocks_in, block_at, blocks_into, bad_in, fed, fed_block}
 
 -- ---- a record
 
 -- where there is one, its message is received at its time
-pub record_taken : (s b : List ℕ) (i t a : ℕ) {x : Heard} {l : List ℕ} → At t a ≡ record_of b i → after x l ≡ heard (received s (part a (a + 14) b) t)
+pub record_taken : (s b : List ℕ) (i t a : ℕ) {x : Result ⊤ Refusal} {l : List ℕ} → Some (at t a) ≡ record_of b i → after x l ≡ heard (received s (part a (a + 14) b) t)
     → l ≡ (received s (message_of b i) (time_of b i)).table
 record_taken s b i t a e h =
-    ap (λ (y : After Heard). y.table) h
+    ap (λ (y : After (Result ⊤ Refusal)). y.table) h
     ∙ ap₂ (λ (m : List ℕ) (u : ℕ). (received s m u).table) (message_at b i t a e) (record_at_lem b i t a (sym e)).1
 
 no_message : (s m : List ℕ) (t : ℕ) → (length m ≡ 14 → ⊥) → s ≡ (received s m t).table
@@ -42,7 +37,7 @@ unfolding rules.received
 no_message s m t f = rw (ne_eqb (length m) 14 f)
 
 -- where there is none, the message has no bytes, which changes nothing
-pub none_taken : (s b : List ℕ) (i : ℕ) → Ended ≡ record_of b i → s ≡ (received s (message_of b i) (time_of b i)).table
+pub none_taken : (s b : List ℕ) (i : ℕ) → None ≡ record_of b i → s ≡ (received s (message_of b i) (time_of b i)).table
 none_taken s b i e =
     let n = ap length (message_ended b i e) in
     no_message s (message_of b i) (time_of b i) (λ h. omega arith)
@@ -64,12 +59,12 @@ module _ (s b : List ℕ) where
   unfolding block_into
   taken e = rw e
 
-  pub block_skipped : (r : Refusal) → block_of b ≡ block.Refused r → (false ≡ good b) × (s ≡ block_into s b)
+  pub block_skipped : (r : Refusal) → block_of b ≡ Err r → (false ≡ good b) × (s ≡ block_into s b)
   block_skipped r e =
       let p = block_refused b r e in
       (sym p.0, skipped p.0)
 
-  pub block_taken : (n : ℕ) {l : List ℕ} → block_of b ≡ block.Good n → l ≡ records_into s b n → (true ≡ good b) × (l ≡ block_into s b)
+  pub block_taken : (n : ℕ) {l : List ℕ} → block_of b ≡ Ok n → l ≡ records_into s b n → (true ≡ good b) × (l ≡ block_into s b)
   block_taken n e h =
       let p = block_good b n e in
       (sym p.0, h ∙ ap (records_into s b) p.1 ∙ taken p.0)
@@ -130,34 +125,34 @@ module _ (c : List ℕ) (k : ℕ) where
 -- ---- the answers
 
 -- what a table's clock tells of its length
-abbrev Told : List ℕ → Clock → Type 0
-Told s (clock.At t) = whole_places (length s) ≡ true
-Told s (clock.Refused r) = whole_places (length s) ≡ false
+abbrev Told : List ℕ → Result ℕ Refusal → Type 0
+Told s (Ok t) = whole_places (length s) ≡ true
+Told s (Err r) = whole_places (length s) ≡ false
 
 told : (s : List ℕ) → Told s (clock_in s)
 unfolding clock_in
 told s = by_test (Told s) (whole_places (length s)) _ _ (λ h. h) (λ h. h)
 
-pub whole : (s : List ℕ) (t : ℕ) → clock_in s ≡ clock.At t → whole_places (length s) ≡ true
+pub whole : (s : List ℕ) (t : ℕ) → clock_in s ≡ Ok t → whole_places (length s) ≡ true
 whole s t e = subst (Told s) e (told s)
 
-broken : (s : List ℕ) (r : Refusal) → clock_in s ≡ clock.Refused r → whole_places (length s) ≡ false
+broken : (s : List ℕ) (r : Refusal) → clock_in s ≡ Err r → whole_places (length s) ≡ false
 broken s r e = subst (Told s) e (told s)
 
 module _ (s c : List ℕ) where
-  pub feed_size : (r : Refusal) → clock_in s ≡ clock.Refused r → after (Refused Places) s ≡ fed s c
+  pub feed_size : (r : Refusal) → clock_in s ≡ Err r → after (Err Places) s ≡ fed s c
   unfolding fed
   feed_size r e = rw (broken s r e)
 
-  pub feed_on : whole_places (length s) ≡ true → {n : ℕ} {l : List ℕ} → n ≡ bad_in c (blocks_in c) → l ≡ blocks_into s c (blocks_in c) → after (Bad n) l ≡ fed s c
+  pub feed_on : whole_places (length s) ≡ true → {n : ℕ} {l : List ℕ} → n ≡ bad_in c (blocks_in c) → l ≡ blocks_into s c (blocks_in c) → after (Ok n) l ≡ fed s c
   unfolding fed
   feed_on w p q = rw (w, p, q)
 
 module _ (s b : List ℕ) (n : ℕ) where
-  pub feed_block_size : (r : Refusal) → clock_in s ≡ clock.Refused r → after (Refused Places) s ≡ fed_block s b n
+  pub feed_block_size : (r : Refusal) → clock_in s ≡ Err r → after (Err Places) s ≡ fed_block s b n
   unfolding fed_block
   feed_block_size r e = rw (broken s r e)
 
-  pub feed_block_on : whole_places (length s) ≡ true → {t : Bool} {m : ℕ} {l : List ℕ} → t ≡ good b → m ≡ counted n t → l ≡ block_into s b → after (Bad m) l ≡ fed_block s b n
+  pub feed_block_on : whole_places (length s) ≡ true → {t : Bool} {m : ℕ} {l : List ℕ} → t ≡ good b → m ≡ counted n t → l ≡ block_into s b → after (Ok m) l ≡ fed_block s b n
   unfolding fed_block
   feed_block_on w p q h = rw (w, q, p, h)

@@ -1,11 +1,10 @@
 -- RULES 11.3, 11.4 and 14.8: a capture into a lent table: what its records do to the table, and how many of its blocks are bad.
-use Rattle.std.specs.Prelude.{ℕ, zero, suc, ◌+◌, ◌-◌, ◌*◌, ◌/◌, ◌^◌, min, Bool, cond, not, List, length, take, drop}
+use Rattle.std.specs.Prelude.{ℕ, zero, suc, ◌+◌, ◌-◌, ◌*◌, ◌/◌, ◌^◌, min, Bool, cond, not, List, length, take, drop, Result, Ok, Err}
 use Rattle.refusals.specs.declared.Refusal.TheVariants.{Places}
 use Rattle.capture.specs.Block.{count_of, good, time_of, message_of}
 use Rattle.memory.specs.Offsets.{whole_places}
 use Rattle.table.specs.Table.{After, after, received}
-use Rattle.feed.specs.declared.Fed.{Fed}
-use Rattle.feed.specs.declared.Fed.TheVariants.{Bad, Refused}
+use Rattle.refusals.specs.declared.Refusal.{Refusal}
 
 -- ---- a block
 
@@ -48,10 +47,10 @@ records_in c zero = 0
 records_in c (suc k) = records_in c k + good_records (block_at c k)
 
 -- 7 comes before any block's 11
-unfoldable pub fed : List ℕ → List ℕ → After Fed
+unfoldable pub fed : List ℕ → List ℕ → After (Result ℕ Refusal)
 fed s c =
-    cond (not (whole_places (length s))) (after (Refused Places) s)
-    (after (Bad (bad_in c (blocks_in c))) (blocks_into s c (blocks_in c)))
+    cond (not (whole_places (length s))) (after (Err Places) s)
+    (after (Ok (bad_in c (blocks_in c))) (blocks_into s c (blocks_in c)))
 
 -- ---- a capture that comes block by block
 
@@ -60,17 +59,17 @@ unfoldable pub counted : ℕ → Bool → ℕ
 counted bad good = cond good bad (min (bad + 1) (2 ^ 64 - 1))
 
 -- one block, with the count of bad blocks so far
-unfoldable pub fed_block : List ℕ → List ℕ → ℕ → After Fed
+unfoldable pub fed_block : List ℕ → List ℕ → ℕ → After (Result ℕ Refusal)
 fed_block s b bad =
-    cond (not (whole_places (length s))) (after (Refused Places) s)
-    (after (Bad (counted bad (good b))) (block_into s b))
+    cond (not (whole_places (length s))) (after (Err Places) s)
+    (after (Ok (counted bad (good b))) (block_into s b))
 
 -- the next block, after what the blocks before it answered and left; a refusal stays
-abbrev pub fed_next : Fed → List ℕ → List ℕ → After Fed
-fed_next (Bad bad) s b = fed_block s b bad
-fed_next (Refused r) s b = after (Refused r) s
+abbrev pub fed_next : Result ℕ Refusal → List ℕ → List ℕ → After (Result ℕ Refusal)
+fed_next (Ok bad) s b = fed_block s b bad
+fed_next (Err r) s b = after (Err r) s
 
 -- the first k blocks of a capture in turn, the count from 0
-abbrev pub in_turn : List ℕ → List ℕ → ℕ → After Fed
-in_turn s c zero = after (Bad 0) s
+abbrev pub in_turn : List ℕ → List ℕ → ℕ → After (Result ℕ Refusal)
+in_turn s c zero = after (Ok 0) s
 in_turn s c (suc k) = fed_next (in_turn s c k).answer (in_turn s c k).table (block_at c k)

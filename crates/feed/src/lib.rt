@@ -6,28 +6,19 @@ ghost use Rattle.capture.specs.Block.{good, time_of, message_of};
 ghost use Rattle.table.specs.Table.{after, received};
 ghost use Rattle.feed.specs.Feed.{records_into, block_into, counted, blocks_in, block_at, blocks_into, bad_in, good_records, records_in, fed, fed_block};
 
-use capture::{Block, Record};
+use capture::Record;
 use refusals::Refusal;
-use rules::Clock;
-
-#[derive(Clone, Copy)]
-pub enum Fed {
-    // how many blocks are bad
-    Bad(u64),
-    Refused(Refusal),
-}
 
 // The record i of a block, received. What the table answers to it is dropped: a refused record leaves what RULES 3.2 says.
 fn take_record(table: &mut [u8], block: &[u8], i: usize)
     ensures { table.new ≡ (received table.old (message_of block.now i) (time_of block.now i)).table }
 {
-    let r = capture::record_of(block, i);
-    match r {
-        Record::At { time, start } => {
+    match capture::record_of(block, i) {
+        Some(Record { time, start }) => {
             let end = start + 14;
-            table::hear(table, &block[start..end], time);
+            let _ = table::hear(table, &block[start..end], time);
         }
-        Record::Ended => {}
+        None => {}
     }
 }
 
@@ -35,10 +26,8 @@ fn take_record(table: &mut [u8], block: &[u8], i: usize)
 fn take_records(table: &mut [u8], block: &[u8], n: usize)
     ensures { table.new ≡ records_into table.old block.now n }
 {
-    let mut i: usize = 0;
-    while i < n {
+    for i in 0..n {
         take_record(table, block, i);
-        i += 1;
     }
 }
 
@@ -46,7 +35,7 @@ fn take_records(table: &mut [u8], block: &[u8], n: usize)
 fn take_block(table: &mut [u8], block: &[u8]) -> bool
     ensures { (result ≡ good block.now) × (table.new ≡ block_into table.old block.now) }
 {
-    let Block::Good(count) = capture::block_of(block) else {
+    let Ok(count) = capture::block_of(block) else {
         return false;
     };
     take_records(table, block, count);
@@ -67,7 +56,7 @@ fn count(bad: u64, good: bool) -> u64
     }
 }
 
-// The block k of a capture; the last may be a part of one.
+// The block k of a capture; the last may be a part of one. No `chunks`: `bad_in`, `blocks_into` and `records_in` of specs/Feed count the blocks.
 fn block_at(capture: &[u8], k: usize) -> &[u8]
     requires { 512 * k < length capture.now }
     ensures { result.now ≡ block_at capture.now k }
@@ -94,10 +83,8 @@ fn take_blocks(table: &mut [u8], capture: &[u8]) -> u64
 {
     let n = blocks_in(capture);
     let mut bad: u64 = 0;
-    let mut k: usize = 0;
-    while k < n {
+    for k in 0..n {
         bad = count(bad, take_block(table, block_at(capture, k)));
-        k += 1;
     }
     bad
 }
@@ -106,10 +93,9 @@ fn take_blocks(table: &mut [u8], capture: &[u8]) -> u64
 fn block_records(block: &[u8]) -> usize
     ensures { (result ≡ good_records block.now) × (result ≤ 23) }
 {
-    let b = capture::block_of(block);
-    match b {
-        Block::Good(count) => count,
-        Block::Refused(_) => 0,
+    match capture::block_of(block) {
+        Ok(count) => count,
+        Err(_) => 0,
     }
 }
 
@@ -119,30 +105,28 @@ pub fn records_in(capture: &[u8]) -> usize
 {
     let n = blocks_in(capture);
     let mut records: usize = 0;
-    let mut k: usize = 0;
-    while k < n {
+    for k in 0..n {
         records += block_records(block_at(capture, k));
-        k += 1;
     }
     records
 }
 
 // A whole capture: how many of its blocks are bad, or 7.
-pub fn feed(table: &mut [u8], capture: &[u8]) -> Fed
+pub fn feed(table: &mut [u8], capture: &[u8]) -> Result<u64, Refusal>
     ensures { after result table.new ≡ fed table.old capture.now }
 {
-    let Clock::At(_) = table::clock_of(table) else {
-        return Fed::Refused(Refusal::Places);
+    let Ok(_) = table::clock_of(table) else {
+        return Err(Refusal::Places);
     };
-    Fed::Bad(take_blocks(table, capture))
+    Ok(take_blocks(table, capture))
 }
 
 // One block of a capture that comes block by block, with the count of bad blocks so far: that count after it, or 7.
-pub fn feed_block(table: &mut [u8], block: &[u8], bad: u64) -> Fed
+pub fn feed_block(table: &mut [u8], block: &[u8], bad: u64) -> Result<u64, Refusal>
     ensures { after result table.new ≡ fed_block table.old block.now bad }
 {
-    let Clock::At(_) = table::clock_of(table) else {
-        return Fed::Refused(Refusal::Places);
+    let Ok(_) = table::clock_of(table) else {
+        return Err(Refusal::Places);
     };
-    Fed::Bad(count(bad, take_block(table, block)))
+    Ok(count(bad, take_block(table, block)))
 }

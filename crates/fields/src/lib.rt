@@ -4,21 +4,13 @@
 ghost use Rattle.std.specs.Prelude.{◌≡◌, ◌%◌, ◌^◌, length};
 ghost use Rattle.fields.specs.Bytes.{number, bytes_of};
 
-fn wide(x: u8) -> u64
-    ensures { result ≡ x }
-{
-    x as u64
-}
-
 // The number that bytes make, modulo 2^64: of up to eight bytes it is the number itself.
 pub fn number_of(s: &[u8]) -> u64
     ensures { result ≡ number s.now % 2 ^ 64 }
 {
     let mut n: u64 = 0;
-    let mut i: usize = 0;
-    while i < s.len() {
-        n = n % 0x100_0000_0000_0000 * 256 + wide(s[i]);
-        i += 1;
+    for &x in s {
+        n = n % 0x100_0000_0000_0000 * 256 + u64::from(x);
     }
     n
 }
@@ -28,10 +20,9 @@ pub fn put_number(out: &mut [u8], n: u64)
     ensures { out.new ≡ bytes_of (length out.old) n }
 {
     let mut rest = n;
-    let mut i = out.len();
-    while 0 < i {
-        i -= 1;
+    // No `iter_mut().rev()`: it keeps a pointer in memory, and of such code the archives of 32 bits are not made (tools/staticlib).
+    for i in (0..out.len()).rev() {
         out[i] = (rest % 256) as u8;
-        rest = rest / 256;
+        rest /= 256;
     }
 }

@@ -1,8 +1,8 @@
 -- The statement is not empty, and both of its premises are needed: runs of a few calls, computed in the bytes and in the slice.
 -- Assumes nothing.
+use Rattle.std.specs.Prelude.{Ok, Option, Some, None}
 use Prim.Native.Nat.{ℕ, suc, ◌<◌, ◌^◌}
 use mathlib.Core.Bool.{false, true≢false}
-use mathlib.Core.Option.{Option, some, none}
 use mathlib.Core.Path.{◌≡◌, refl, ap, sym, ◌∙◌}
 use mathlib.Core.List.{List, [], ◌∷◌}
 use native.Mathlib.Omega.{arith}
@@ -17,7 +17,6 @@ use Rattle.track.specs.Meaning.{meant_groups, meant_position, meant_saved, meant
 use Rattle.memory.specs.Bytes.{number_at, low_bytes, put}
 use Rattle.place.specs.Place.{saved_from, groups_in, lowered, position_in, written_in, track_of, above_pole, marks_of, saved_number, saved_bytes, message_bytes, spot_bytes, body_of}
 use Rattle.memory.specs.Ranges as ranges
-use Rattle.rules.specs.declared.answers.SetUp.TheVariants.{Done}
 use Rattle.rules.specs.Form.{is_held, holds, Form}
 use Rattle.rules.specs.Rules.{set_up, place_of, free_place, delivered, received}
 use Rattle.rules.specs.View.{view_at, view}
@@ -62,8 +61,8 @@ own_others = (refl, refl, refl)
 
 -- when the aircraft was last heard, one up; 0 if its track is absent
 abbrev heard_in : Option Track → ℕ
-heard_in none = 0
-heard_in (some t) = suc t.heard
+heard_in None = 0
+heard_in (Some t) = suc t.heard
 
 abbrev whole_run : List Call
 whole_run = stranger_first ∷ first ∷ stranger ∷ []
@@ -86,8 +85,8 @@ module _ {S : Type 0} (F : Form S) (empty : ℕ → S) where
 
   -- what is computed of it
   pub record Computed : Type 0 where
-    pub done_1 : (set_up F (empty 1) no_site).answer ≡ Done
-    pub done_2 : (set_up F (empty 2) no_site).answer ≡ Done
+    pub done_1 : (set_up F (empty 1) no_site).answer ≡ Ok tt
+    pub done_2 : (set_up F (empty 2) no_site).answer ≡ Ok tt
     pub held_in_both : (number_to 2 (stranger_first ∷ []) first ≡ 0) × (number_to 1 [] first ≡ 0) × (end_of 2 whole_run ≡ 1001) × (end_of 1 its_run ≡ 1001)
     pub one_place : (number_to 1 (stranger_first ∷ []) first ≡ 6) × (number_to 1 (first ∷ []) tick_2 ≡ 4)
     pub out_of_date : (number_to 2 [] first ≡ 0) × (end_of 2 (first ∷ far ∷ []) ≡ 0) × (end_of 1 (first ∷ []) ≡ 1001) × (end_of 1 (first ∷ tick_126 ∷ []) ≡ 0)

@@ -1,13 +1,12 @@
 -- A fleet: a deal of a stream is sparse of it for each key that goes to the table. Nothing that is handed over is late, and of the aircraft's own calls each that is not late is handed over.
 -- Assumes nothing.
+use Rattle.std.specs.Prelude.{Result, Ok, Err}
 use Prim.Native.Nat.{ℕ, ◌≤◌, ◌<◌, ◌^◌}
 use native.Mathlib.Omega.{arith}
 use mathlib.Core.Bool.{Bool, true, false, cond, not, ◌&&◌}
 use mathlib.Core.Path.{◌≡◌, refl, ap, sym, ◌∙◌, subst}
 use mathlib.Core.List.{List, [], ◌∷◌, ◌++◌}
 use borrow.Author.Tests.{ltb-false, le-ltb, eqb-true, eq-eqb}
-use Rattle.messages.specs.declared.Decoded.{Decoded}
-use Rattle.messages.specs.declared.Decoded.TheVariants as decode
 use Rattle.messages.specs.Message.{decoded, key_of}
 use Rattle.rules.specs.Form.{Form, Lawful}
 use Rattle.rules.specs.Rules.{received}
@@ -15,6 +14,8 @@ use Rattle.isolation.specs.Runs.{Call, is_of, own}
 use Rattle.fleet.specs.Sparse.{late, ticked, latest, timely, Sparse}
 use Rattle.fleet.specs.Fleet.{is_for, call_for, Dealt, Dealt.end, Dealt.hand, Dealt.skip, Dealt.tick, Fleet, handed, least_deal}
 use Rattle.fleet.proofs.Shards.{shards}
+use Rattle.messages.specs.declared.Message.{Message}
+use Rattle.refusals.specs.declared.Refusal.{Refusal}
 
 -- ---- times
 
@@ -45,9 +46,9 @@ latest_fits n (c ∷ cs) h = latest_fits (ticked n c) cs (by_test (late n c))
 
 module _ (which : ℕ → ℕ) (key : ℕ) where
   -- its own messages are for its table
-  own_for : (d : Decoded) → is_of key d ≡ true → is_for which (which key) d ≡ true
-  own_for (decode.Refused r) o = o
-  own_for (decode.Message m) o = eq-eqb (which (key_of m)) (which key) (ap which (eqb-true (key_of m) key o))
+  own_for : (d : Result Message Refusal) → is_of key d ≡ true → is_for which (which key) d ≡ true
+  own_for (Err r) o = o
+  own_for (Ok m) o = eq-eqb (which (key_of m)) (which key) (ap which (eqb-true (key_of m) key o))
 
   not_for : (c : Call) (b : Bool) → call_for which (which key) c && b ≡ false → own key c && b ≡ false
   unfolding own

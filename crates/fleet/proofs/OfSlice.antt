@@ -1,5 +1,6 @@
 -- Tables side by side, of the code of `slice_table`: of two runs of its calls whose clauses all hold, each from a set-up and sparse for an aircraft, it is told the same, and a question for it is answered the same.
 -- Assumes nothing.
+use Rattle.std.specs.Prelude.{Result, Ok, ⊤}
 use Prim.Native.Nat.{ℕ}
 use mathlib.Core.Path.{◌≡◌}
 use mathlib.Core.List.{List}
@@ -9,10 +10,7 @@ use prog.Memory.{Memory}
 use prog.Routine.{Routine}
 use types.Logic.{Logic}
 use contract.Monad.{Fun, fact}
-use Rattle.messages.specs.declared.Decoded.{Decoded}
 use Rattle.whereabouts.specs.declared.Site.{Site}
-use Rattle.rules.specs.declared.answers.SetUp.{SetUp}
-use Rattle.rules.specs.declared.answers.SetUp.TheVariants.{Done}
 use Rattle.rules.specs.Form.{East}
 use Rattle.rules.specs.Rules.{set_up, received}
 use Rattle.slice_table.specs.Slice.{Slice, slice}
@@ -28,13 +26,15 @@ use Rattle.fleet.specs.Fleet.{Dealt}
 use Rattle.fleet.proofs.Shards.{shards}
 use Rattle.fleet.proofs.Fleet.{dealt_sparse}
 use Rattle.fleet.proofs.Played.{played_shards}
+use Rattle.messages.specs.declared.Message.{Message}
+use Rattle.refusals.specs.declared.Refusal.{Refusal}
 
 pub slice_shards : Shards slice slice (received slice) (received slice)
 slice_shards = shards slice slice slice_lawful slice_lawful
 
 module _ {M : Type 1} {𝓤 : Ura M} (𝓛 : Logic 𝓤) (mem : Memory → SProp 𝓤) (run : Routine → Fun 𝓤) where
-  pub slice_code_shards : (key : ℕ) (site : Site) → East site → (s t : Slice) (a b : After SetUp) (u : Begun 𝓛 mem run site s a) (v : Begun 𝓛 mem run site t b) → a.answer ≡ Done → b.answer ≡ Done
-      → {xs ys : List Call} → Sparse key xs ys → {ps qs : List (After Decoded)} (x : Ran 𝓛 mem run a.table xs ps) (y : Ran 𝓛 mem run b.table ys qs) → NotFull key xs ps → NotFull key ys qs
+  pub slice_code_shards : (key : ℕ) (site : Site) → East site → (s t : Slice) (a b : After (Result ⊤ Refusal)) (u : Begun 𝓛 mem run site s a) (v : Begun 𝓛 mem run site t b) → a.answer ≡ Ok tt → b.answer ≡ Ok tt
+      → {xs ys : List Call} → Sparse key xs ys → {ps qs : List (After (Result Message Refusal))} (x : Ran 𝓛 mem run a.table xs ps) (y : Ran 𝓛 mem run b.table ys qs) → NotFull key xs ps → NotFull key ys qs
       → ent 𝓤 (sep 𝓤 (sep 𝓤 (begun 𝓛 mem run u) (ran 𝓛 mem run x)) (sep 𝓤 (begun 𝓛 mem run v) (ran 𝓛 mem run y))) (fact 𝓤 (SamePlayed slice slice key a.table b.table xs ys ps qs))
   slice_code_shards key site east s t a b u v d e {xs} {ys} sparse {ps} {qs} x y f g =
       both_say 𝓤 (sep 𝓤 (begun 𝓛 mem run u) (ran 𝓛 mem run x)) (sep 𝓤 (begun 𝓛 mem run v) (ran 𝓛 mem run y))
@@ -45,10 +45,10 @@ module _ {M : Type 1} {𝓤 : Ura M} (𝓛 : Logic 𝓤) (mem : Memory → SProp
 
   -- a fleet of them beside one, at a moment at which the clock of the key's table is the stream's
   pub slice_code_fleet : (which : ℕ → ℕ) (site : Site) → East site
-      → (s : Slice) (a : After SetUp) (u : Begun 𝓛 mem run site s a) → a.answer ≡ Done
-      → (t : ℕ → Slice) (b : ℕ → After SetUp) (v : (i : ℕ) → Begun 𝓛 mem run site (t i) (b i)) → ((i : ℕ) → (b i).answer ≡ Done)
+      → (s : Slice) (a : After (Result ⊤ Refusal)) (u : Begun 𝓛 mem run site s a) → a.answer ≡ Ok tt
+      → (t : ℕ → Slice) (b : ℕ → After (Result ⊤ Refusal)) (v : (i : ℕ) → Begun 𝓛 mem run site (t i) (b i)) → ((i : ℕ) → (b i).answer ≡ Ok tt)
       → (stream : List Call) (deal : ℕ → List Call) → ((i : ℕ) → Dealt which i 0 stream (deal i))
-      → (ps : List (After Decoded)) (x : Ran 𝓛 mem run a.table stream ps) (qs : ℕ → List (After Decoded)) (y : (i : ℕ) → Ran 𝓛 mem run (b i).table (deal i) (qs i))
+      → (ps : List (After (Result Message Refusal))) (x : Ran 𝓛 mem run a.table stream ps) (qs : ℕ → List (After (Result Message Refusal))) (y : (i : ℕ) → Ran 𝓛 mem run (b i).table (deal i) (qs i))
       → (key : ℕ) → latest 0 (deal (which key)) ≡ latest 0 stream → NotFull key stream ps → NotFull key (deal (which key)) (qs (which key))
       → ent 𝓤 (sep 𝓤 (sep 𝓤 (begun 𝓛 mem run u) (ran 𝓛 mem run x)) (sep 𝓤 (begun 𝓛 mem run (v (which key))) (ran 𝓛 mem run (y (which key)))))
       (fact 𝓤 (SamePlayed slice slice key a.table (b (which key)).table stream (deal (which key)) ps (qs (which key))))

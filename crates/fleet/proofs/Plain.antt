@@ -1,9 +1,9 @@
 -- The plain way to deal a stream out: each table is handed its own keys' messages that are not late, and before it is read 14 zero bytes at the latest time. Each then holds of every key that goes to it what a single
 -- table holds, and of the others nothing.
 -- Assumes nothing.
+use Rattle.std.specs.Prelude.{Result, Ok, Err, None}
 use Prim.Native.Nat.{ℕ}
 use mathlib.Core.Bool.{Bool, true, false, cond, not, ◌&&◌}
-use mathlib.Core.Option.{none}
 use mathlib.Core.Path.{◌≡◌, refl, ap, sym, ◌∙◌, subst}
 use mathlib.Core.List.{List, [], ◌∷◌, ◌++◌}
 use lib.Dec.{eqb}
@@ -11,11 +11,8 @@ use borrow.Author.Tests.{eqb-true, eqb-false, ne_eqb}
 use Rattle.fields.proofs.Bools.{and_left}
 use Rattle.parity.specs.Division.{remainder_from, reduce}
 use Rattle.parity.specs.Parity.{remainder}
-use Rattle.messages.specs.declared.Decoded.{Decoded}
-use Rattle.messages.specs.declared.Decoded.TheVariants as decode
 use Rattle.messages.specs.Message.{decoded, key_of, opened, kind_of}
 use Rattle.whereabouts.specs.declared.Site.{Site}
-use Rattle.rules.specs.declared.answers.SetUp.TheVariants.{Done}
 use Rattle.rules.specs.Form.{Form, East, Lawful}
 use Rattle.rules.specs.Rules.{set_up, received}
 use Rattle.rules.specs.View.{view}
@@ -25,6 +22,8 @@ use Rattle.fleet.specs.Sparse.{late, ticked, latest, Same}
 use Rattle.fleet.specs.Fleet.{is_for, call_for, Dealt, handed, least_deal, zero_bytes, Tick}
 use Rattle.fleet.proofs.Shards.{Others, unheard, clock_from}
 use Rattle.fleet.proofs.Fleet.{fleet, least_deal_lem}
+use Rattle.messages.specs.declared.Message.{Message}
+use Rattle.refusals.specs.declared.Refusal.{Refusal}
 
 -- ---- the tick
 
@@ -50,9 +49,9 @@ module _ {stream : List Call} {t : Call} (tick : Tick stream t) where
 
 -- ---- a key that goes elsewhere
 
-elsewhere : (which : ℕ → ℕ) (i key : ℕ) → (which key ≡ i → ⊥) → (d : Decoded) → is_for which i d ≡ true → is_of key d ≡ false
-elsewhere which i key n (decode.Refused r) e = refl
-elsewhere which i key n (decode.Message m) e = ne_eqb (key_of m) key (λ k. n (sym (ap which k) ∙ eqb-true (which (key_of m)) i e))
+elsewhere : (which : ℕ → ℕ) (i key : ℕ) → (which key ≡ i → ⊥) → (d : Result Message Refusal) → is_for which i d ≡ true → is_of key d ≡ false
+elsewhere which i key n (Err r) e = refl
+elsewhere which i key n (Ok m) e = ne_eqb (key_of m) key (λ k. n (sym (ap which k) ∙ eqb-true (which (key_of m)) i e))
 
 module _ (which : ℕ → ℕ) (i key : ℕ) (n : which key ≡ i → ⊥) (t : Call) (nobody's : own key t ≡ false) where
   not_own : (c : Call) → call_for which i c ≡ true → own key c ≡ false
@@ -71,7 +70,7 @@ module _ (which : ℕ → ℕ) (i key : ℕ) (n : which key ≡ i → ⊥) (t : 
 -- ---- the fleet
 
 module _ {S T : Type 0} (F : Form S) (G : Form T) (L : Lawful F) (M : Lawful G) (which : ℕ → ℕ) (site : Site) (east : East site)
-    (s : S) (done : (set_up F s site).answer ≡ Done) (tables : ℕ → T) (all_done : (i : ℕ) → (set_up G (tables i) site).answer ≡ Done) (stream : List Call) (t : Call)
+    (s : S) (done : (set_up F s site).answer ≡ Ok tt) (tables : ℕ → T) (all_done : (i : ℕ) → (set_up G (tables i) site).answer ≡ Ok tt) (stream : List Call) (t : Call)
     (tick : Tick stream t) where
   abbrev one : S
   one = (set_up F s site).table
@@ -86,7 +85,7 @@ module _ {S T : Type 0} (F : Form S) (G : Form T) (L : Lawful F) (M : Lawful G) 
   plain_clock i = clock_from G M site east (tables i) (all_done i) (deal i) ∙ (tick_deal tick which i).1 ∙ sym (clock_from F L site east s done stream)
 
   -- of a key that goes elsewhere nothing is held
-  pub plain_unheld : (i key : ℕ) → (which key ≡ i → ⊥) → view G (left (received G) (of i) (deal i)) key ≡ none
+  pub plain_unheld : (i key : ℕ) → (which key ≡ i → ⊥) → view G (left (received G) (of i) (deal i)) key ≡ None
   plain_unheld i key n = unheard G M key site east (tables i) (all_done i) (deal i) (others_handed which i key n _ (tick_nobody's tick key) 0 stream)
 
   module _ (key : ℕ) (f : NeverFull (received F) key one stream) (g : NeverFull (received G) key (of (which key)) (deal (which key))) where
@@ -96,9 +95,9 @@ module _ {S T : Type 0} (F : Form S) (G : Form T) (L : Lawful F) (M : Lawful G) 
         fleet F G L M which site east s done tables all_done stream deal (λ i. (tick_deal tick which i).0) key (tick_deal tick which (which key)).1 f g
 
     -- what is held of it in each table
-    pub plain_holds : (i : ℕ) → view G (left (received G) (of i) (deal i)) key ≡ cond (eqb (which key) i) (view F (left (received F) one stream) key) none
+    pub plain_holds : (i : ℕ) → view G (left (received G) (of i) (deal i)) key ≡ cond (eqb (which key) i) (view F (left (received F) one stream) key) None
     plain_holds i = by_test (eqb (which key) i) refl
       where
-        by_test : (b : Bool) → eqb (which key) i ≡ b → view G (left (received G) (of i) (deal i)) key ≡ cond b (view F (left (received F) one stream) key) none
+        by_test : (b : Bool) → eqb (which key) i ≡ b → view G (left (received G) (of i) (deal i)) key ≡ cond b (view F (left (received F) one stream) key) None
         by_test true e = subst (λ (j : ℕ). view G (left (received G) (of j) (deal j)) key ≡ view F (left (received F) one stream) key) (eqb-true (which key) i e) (sym plain_same.track)
         by_test false e = plain_unheld i key (eqb-false (which key) i e)

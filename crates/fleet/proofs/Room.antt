@@ -1,9 +1,9 @@
 -- A table with a place for each key that it hears never answers 6, in any form: where it does, each place holds a key of its own, and none of them is the newcomer's.
 -- Assumes nothing.
+use Rattle.std.specs.Prelude.{Result, Ok, Err, Some, None, ⊤}
 use Prim.Native.Nat.{ℕ, zero, suc, ◌≤◌, ◌<◌}
 use native.Mathlib.Omega.{arith}
 use mathlib.Core.Bool.{Bool, true, false, cond, not, ◌&&◌, ◌||◌, false≢true}
-use mathlib.Core.Option.{some, none}
 use mathlib.Core.Path.{◌≡◌, refl, ap, sym, ◌∙◌}
 use mathlib.Core.List.{List, [], ◌∷◌}
 use lib.Dec.{eqb, ltb}
@@ -13,15 +13,12 @@ use Rattle.fields.proofs.Bools.{by_test}
 use Rattle.positions.specs.Positions.{pole_to_pole}
 use Rattle.refusals.specs.declared.Refusal.TheVariants.{Full}
 use Rattle.messages.specs.declared.Message.{Message}
-use Rattle.messages.specs.declared.Decoded.{Decoded}
-use Rattle.messages.specs.declared.Decoded.TheVariants as decode
 use Rattle.messages.specs.Message.{decoded, key_of}
 use Rattle.whereabouts.specs.declared.Site.{Site}
 use Rattle.track.specs.Held.{later_at}
-use Rattle.replay.specs.Alone.{heard_in, Own, own_after, track_after}
+use Rattle.replay.specs.Alone.{heard_in, own_after, track_after}
+use Rattle.replay.specs.declared.Own.{Own}
 use Rattle.replay.proofs.Ways.{with_track}
-use Rattle.rules.specs.declared.answers.SetUp.{SetUp}
-use Rattle.rules.specs.declared.answers.SetUp.TheVariants.{Done}
 use Rattle.rules.specs.Form.{Cell, is_held, holds, Form, East, Lawful}
 use Rattle.rules.specs.Rules.{After, set_up, received}
 use Rattle.rules.specs.View.{track_in, view_at, view, Table, AllTaken}
@@ -32,6 +29,7 @@ use Rattle.isolation.specs.Runs.{Call, is_of, own, call, NeverFull}
 use Rattle.isolation.specs.Alone.{heard_by, own_of}
 use Rattle.isolation.proofs.Calls.{none_in, other_call}
 use Rattle.fleet.specs.Room.{member, is_among, Among}
+use Rattle.refusals.specs.declared.Refusal.{Refusal}
 
 -- ---- as many numbers as there are, each in a list, need a list as long
 
@@ -67,16 +65,16 @@ as_long (suc n) f xs h u =
 
 -- ---- where 6 is answered
 
-pub some_held : {C : Type 0} {c : C} → some c ≡ none → ⊥
+pub some_held : {C : Type 0} {c : C} → Some c ≡ None → ⊥
 some_held e = let z : ◌≡◌ {A = ℕ} 0 1 = cc in omega arith
 
 module _ {S : Type 0} (F : Form S) (s : S) (t : ℕ) where
   -- where there is no track of a key no place holds it
-  nowhere : (k : ℕ) → view_at F t s k ≡ none → (i : ℕ) → i < F.count s → holds t k (F.cell s i) ≡ false
+  nowhere : (k : ℕ) → view_at F t s k ≡ None → (i : ℕ) → i < F.count s → holds t k (F.cell s i) ≡ false
   unfolding view_at
   nowhere k e = none_passes (λ i. holds t k (F.cell s i)) (F.count s) (by_test _ _ e)
     where
-      by_test : (b : Bool) (c : Cell) → track_in (cond b (some c) none) ≡ none → b ≡ false
+      by_test : (b : Bool) (c : Cell) → track_in (cond b (Some c) None) ≡ None → b ≡ false
       by_test true c e = absurd (some_held e)
       by_test false c e = refl
 
@@ -98,16 +96,16 @@ module _ {S : Type 0} (F : Form S) (L : Lawful F) (s : S) where
   count_set_up : (site : Site) → F.count (set_up F s site).table ≡ F.count s
   unfolding set_up
   count_set_up site =
-      let P : After S SetUp → Type 0 = λ (r : After S SetUp). F.count r.table ≡ F.count s in
+      let P : After S (Result ⊤ Refusal) → Type 0 = λ (r : After S (Result ⊤ Refusal)). F.count r.table ≡ F.count s in
       by_test P (not (F.whole s)) _ _ (λ _. refl) (λ _. by_test P (site.known && not (pole_to_pole site.spot.latitude)) _ _ (λ _. refl) (λ _. L.emptied_count s site))
 
 module _ {S : Type 0} (F : Form S) (L : Lawful F) (keys : List ℕ) where
   -- a key that is none of these is not held
   abbrev Only : S → Type 0
-  Only s = (k : ℕ) → member k keys ≡ false → view F s k ≡ none
+  Only s = (k : ℕ) → member k keys ≡ false → view F s k ≡ None
 
   -- 6 is answered to one of them only if there are more of them than places
-  pub more_keys : (s : S) → Table F s → Only s → (message : List ℕ) (t : ℕ) → is_among keys (decoded message) ≡ true → (received F s message t).answer ≡ decode.Refused Full → F.count s < length keys
+  pub more_keys : (s : S) → Table F s → Only s → (message : List ℕ) (t : ℕ) → is_among keys (decoded message) ≡ true → (received F s message t).answer ≡ Err Full → F.count s < length keys
   more_keys s table only message t among a =
       let x = (six_exactly F L s message t).0 a in
       let in_time : F.clock s ≤ t = x.1.1.0 in
@@ -130,15 +128,15 @@ module _ {S : Type 0} (F : Form S) (L : Lawful F) (keys : List ℕ) where
 
   -- ---- a run
 
-  not_among : (k : ℕ) (d : Decoded) → is_among keys d ≡ true → member k keys ≡ false → is_of k d ≡ false
-  not_among k (decode.Refused r) a e = refl
-  not_among k (decode.Message m) a e = ne_eqb (key_of m) k (λ p. clash a (ap (λ (j : ℕ). member j keys) p ∙ e))
+  not_among : (k : ℕ) (d : Result Message Refusal) → is_among keys d ≡ true → member k keys ≡ false → is_of k d ≡ false
+  not_among k (Err r) a e = refl
+  not_among k (Ok m) a e = ne_eqb (key_of m) k (λ p. clash a (ap (λ (j : ℕ). member j keys) p ∙ e))
 
-  none_after : (site : Site) (o : Own) (k : ℕ) (c : Call) → own k c ≡ false → o.track ≡ none → (own_after site o (heard_by k c)).track ≡ none
+  none_after : (site : Site) (o : Own) (k : ℕ) (c : Call) → own k c ≡ false → o.track ≡ None → (own_after site o (heard_by k c)).track ≡ None
   unfolding own own_after heard_in
   none_after site o k c p e = by_test (ltb c.time o.clock)
     where
-      by_test : (b : Bool) → (cond b o (with_track c.time (track_after site o.track c.time (heard_by k c).message))).track ≡ none
+      by_test : (b : Bool) → (cond b o (with_track c.time (track_after site o.track c.time (heard_by k c).message))).track ≡ None
       by_test true = e
       by_test false = rw (e, none_in k (decoded c.message) p)
 
@@ -157,7 +155,7 @@ module _ {S : Type 0} (F : Form S) (L : Lawful F) (keys : List ℕ) where
   )
 
   -- from a set-up on: a place for each key is enough
-  pub room : (key : ℕ) (site : Site) → East site → (s : S) → (set_up F s site).answer ≡ Done → (cs : List Call) → Among keys cs → length keys ≤ F.count s
+  pub room : (key : ℕ) (site : Site) → East site → (s : S) → (set_up F s site).answer ≡ Ok tt → (cs : List Call) → Among keys cs → length keys ≤ F.count s
       → NeverFull (received F) key (set_up F s site).table cs
   room key site east s done cs among h =
       let x = set_up_table_lem F L s site east done in

@@ -1,10 +1,10 @@
 -- The listings of a fleet are the listing of one table: each key is held by one of the tables at most, and the rows of two are put together by adding the keys one after the other, the highest at the end.
 -- Assumes nothing.
+use Rattle.std.specs.Prelude.{Option, Some, None}
 use Prim.Native.Nat.{ℕ, zero, suc, ◌+◌, ◌<◌}
 use native.Mathlib.Omega.{arith}
 use mathlib.Core.Bool.{Bool, true, false, cond}
 use mathlib.Core.Logic.{◌⊎◌, inl, inr}
-use mathlib.Core.Option.{Option, some, none}
 use mathlib.Core.Path.{◌≡◌, refl, ap, ap₂, sym, ◌∙◌}
 use mathlib.Core.List.{List, [], ◌∷◌, ◌++◌, append-nil}
 use lib.Dec.{eqb, ltb}
@@ -54,9 +54,9 @@ together_length [] ys = omega arith
 together_length (x ∷ xs) ys = omega (arith, put_length x (together xs ys), together_length xs ys)
 
 -- a row below the last one is put in before it; one above all comes at the end
-put_before : (x : Row) (ys : List Row) (r : Option Row) → ((z : Row) → r ≡ some z → x.key < z.key) → put_in x (ys ++ as_list r) ≡ put_in x ys ++ as_list r
-put_before x [] none h = refl
-put_before x [] (some z) h = ap (λ (b : Bool). cond b (x ∷ z ∷ []) (z ∷ x ∷ [])) (lt-ltb x.key z.key (h z refl))
+put_before : (x : Row) (ys : List Row) (r : Option Row) → ((z : Row) → r ≡ Some z → x.key < z.key) → put_in x (ys ++ as_list r) ≡ put_in x ys ++ as_list r
+put_before x [] None h = refl
+put_before x [] (Some z) h = ap (λ (b : Bool). cond b (x ∷ z ∷ []) (z ∷ x ∷ [])) (lt-ltb x.key z.key (h z refl))
 put_before x (y ∷ ys) r h = by_test (ltb x.key y.key) (put_before x ys r h)
   where
     by_test : (b : Bool) → put_in x (ys ++ as_list r) ≡ put_in x ys ++ as_list r
@@ -69,14 +69,14 @@ put_last x [] b = refl
 put_last x (y ∷ ys) b =
     ap (λ (c : Bool). cond c (x ∷ y ∷ ys) (y ∷ put_in x ys)) (le-ltb x.key y.key (omega (arith, b.0))) ∙ ap (λ (l : List Row). y ∷ l) (put_last x ys b.1)
 
-module _ (k : ℕ) (r : Option Row) (its : (z : Row) → r ≡ some z → z.key ≡ k) where
+module _ (k : ℕ) (r : Option Row) (its : (z : Row) → r ≡ Some z → z.key ≡ k) where
   last_right : (xs ys : List Row) → Below k xs → together xs (ys ++ as_list r) ≡ together xs ys ++ as_list r
   last_right [] ys b = refl
   last_right (x ∷ xs) ys b = ap (put_in x) (last_right xs ys b.1) ∙ put_before x (together xs ys) r (λ z e. omega (arith, b.0, its z e))
 
   end_of_left : (ys : List Row) (q : Option Row) → r ≡ q → Below k ys → together (as_list q) ys ≡ ys ++ as_list q
-  end_of_left ys none e b = sym (append-nil ys)
-  end_of_left ys (some z) e b = put_last z ys (below_more k z.key (omega (arith, its z e)) ys b)
+  end_of_left ys None e b = sym (append-nil ys)
+  end_of_left ys (Some z) e b = put_last z ys (below_more k z.key (omega (arith, its z e)) ys b)
 
   last_left : (xs ys : List Row) → Below k xs → Below k ys → together (xs ++ as_list r) ys ≡ together xs ys ++ as_list r
   last_left [] ys b c = end_of_left ys r refl c
@@ -84,12 +84,12 @@ module _ (k : ℕ) (r : Option Row) (its : (z : Row) → r ≡ some z → z.key 
 
 -- ---- what is held, key by key
 
-pub key_of : (all : Bool) (k : ℕ) (t : Option Track) (z : Row) → row_for all k t ≡ some z → z.key ≡ k
+pub key_of : (all : Bool) (k : ℕ) (t : Option Track) (z : Row) → row_for all k t ≡ Some z → z.key ≡ k
 unfolding row_for row_of
-key_of all k none z e = absurd (some_held (sym e))
-key_of all k (some t) z e = by_test (shown all t.position) e
+key_of all k None z e = absurd (some_held (sym e))
+key_of all k (Some t) z e = by_test (shown all t.position) e
   where
-    by_test : (b : Bool) → cond b (some (row_of k t)) none ≡ some z → z.key ≡ k
+    by_test : (b : Bool) → cond b (Some (row_of k t)) None ≡ Some z → z.key ≡ k
     by_test true p = let q : row_of k t ≡ z = cc in sym (ap (λ (x : Row). x.key) q)
     by_test false p = absurd (some_held (sym p))
 
@@ -98,26 +98,26 @@ below_held all held zero = tt
 below_held all held (suc k) = below_end (suc k) (rows_held all held k) (row_for all k (held k)) (below_more k (suc k) (omega arith) (rows_held all held k) (below_held all held k)) (of_one (row_for all k (held k)) refl)
   where
     of_one : (r : Option Row) → row_for all k (held k) ≡ r → Below (suc k) (as_list r)
-    of_one none e = tt
-    of_one (some z) e = (omega (arith, key_of all k (held k) z e), tt)
+    of_one None e = tt
+    of_one (Some z) e = (omega (arith, key_of all k (held k) z e), tt)
 
 pub held_same : (all : Bool) (u w : ℕ → Option Track) → ((key : ℕ) → u key ≡ w key) → (k : ℕ) → rows_held all u k ≡ rows_held all w k
 held_same all u w e zero = refl
 held_same all u w e (suc k) = ap₂ (λ (l : List Row) (t : Option Track). l ++ as_list (row_for all k t)) (held_same all u w e k) (e k)
 
 abbrev either : Option Track → Option Track → Option Track
-either none w = w
-either (some t) w = some t
+either None w = w
+either (Some t) w = Some t
 
-either_none : (u : Option Track) → either u none ≡ u
-either_none none = refl
-either_none (some t) = refl
+either_none : (u : Option Track) → either u None ≡ u
+either_none None = refl
+either_none (Some t) = refl
 
-module _ (all : Bool) (u w : ℕ → Option Track) (apart : (key : ℕ) → (u key ≡ none) ⊎ (w key ≡ none)) where
+module _ (all : Bool) (u w : ℕ → Option Track) (apart : (key : ℕ) → (u key ≡ None) ⊎ (w key ≡ None)) where
   abbrev both : ℕ → Option Track
   both key = either (u key) (w key)
 
-  no_row : (k : ℕ) → as_list (row_for all k none) ≡ []
+  no_row : (k : ℕ) → as_list (row_for all k None) ≡ []
   unfolding row_for
   no_row k = refl
 
@@ -125,7 +125,7 @@ module _ (all : Bool) (u w : ℕ → Option Track) (apart : (key : ℕ) → (u k
   held_together zero = refl
   held_together (suc k) = by_side (apart k) (held_together k)
     where
-      by_side : (u k ≡ none) ⊎ (w k ≡ none) → together (rows_held all u k) (rows_held all w k) ≡ rows_held all both k
+      by_side : (u k ≡ None) ⊎ (w k ≡ None) → together (rows_held all u k) (rows_held all w k) ≡ rows_held all both k
           → together (rows_held all u k ++ as_list (row_for all k (u k))) (rows_held all w k ++ as_list (row_for all k (w k))) ≡ rows_held all both k ++ as_list (row_for all k (both k))
       by_side (inl e) more =
           ap (λ (l : List Row). together l (rows_held all w k ++ as_list (row_for all k (w k))))
@@ -140,41 +140,41 @@ module _ (all : Bool) (u w : ℕ → Option Track) (apart : (key : ℕ) → (u k
 
 -- ---- tables that hold a key each at most
 
-module _ (all : Bool) (which : ℕ → ℕ) (one : ℕ → Option Track) (held : ℕ → ℕ → Option Track) (holds : (i key : ℕ) → held i key ≡ cond (eqb (which key) i) (one key) none) where
+module _ (all : Bool) (which : ℕ → ℕ) (one : ℕ → Option Track) (held : ℕ → ℕ → Option Track) (holds : (i key : ℕ) → held i key ≡ cond (eqb (which key) i) (one key) None) where
   -- what the first n hold
   abbrev first : ℕ → ℕ → Option Track
-  first n key = cond (ltb (which key) n) (one key) none
+  first n key = cond (ltb (which key) n) (one key) None
 
   next_one : (n key : ℕ) → either (held n key) (first n key) ≡ first (suc n) key
   next_one n key = ap (λ (t : Option Track). either t (first n key)) (holds n key) ∙ by_tests (eqb (which key) n) (ltb (which key) n) refl refl
     where
-      by_tests : (b c : Bool) → eqb (which key) n ≡ b → ltb (which key) n ≡ c → either (cond b (one key) none) (cond c (one key) none) ≡ first (suc n) key
+      by_tests : (b c : Bool) → eqb (which key) n ≡ b → ltb (which key) n ≡ c → either (cond b (one key) None) (cond c (one key) None) ≡ first (suc n) key
       by_tests true true e l = absurd (let h : which key < n = ltb-true (which key) n l in omega (arith, eqb-true (which key) n e))
       by_tests true false e l = rw (lt-ltb (which key) (suc n) (omega (arith, eqb-true (which key) n e))) (either_none (one key))
       by_tests false true e l = rw (lt-ltb (which key) (suc n) (omega (arith, ltb-true (which key) n l))) refl
       by_tests false false e l = rw (le-ltb (which key) (suc n) (omega (arith, ltb-false (which key) n l, eqb-false (which key) n e))) refl
 
-  one_holds : (n key : ℕ) → (held n key ≡ none) ⊎ (first n key ≡ none)
+  one_holds : (n key : ℕ) → (held n key ≡ None) ⊎ (first n key ≡ None)
   one_holds n key = by_test (eqb (which key) n) refl
     where
-      by_test : (b : Bool) → eqb (which key) n ≡ b → (held n key ≡ none) ⊎ (first n key ≡ none)
-      by_test true e = inr (ap (λ (c : Bool). cond c (one key) none) (le-ltb (which key) n (omega (arith, eqb-true (which key) n e))))
-      by_test false e = inl (holds n key ∙ ap (λ (c : Bool). cond c (one key) none) e)
+      by_test : (b : Bool) → eqb (which key) n ≡ b → (held n key ≡ None) ⊎ (first n key ≡ None)
+      by_test true e = inr (ap (λ (c : Bool). cond c (one key) None) (le-ltb (which key) n (omega (arith, eqb-true (which key) n e))))
+      by_test false e = inl (holds n key ∙ ap (λ (c : Bool). cond c (one key) None) e)
 
-  nothing : (k : ℕ) → rows_held all (λ key. none) k ≡ []
+  nothing : (k : ℕ) → rows_held all (λ key. None) k ≡ []
   unfolding row_for
   nothing zero = refl
-  nothing (suc k) = append-nil (rows_held all (λ key. none) k) ∙ nothing k
+  nothing (suc k) = append-nil (rows_held all (λ key. None) k) ∙ nothing k
 
   all_rows : (k n : ℕ) → all_of n (λ i. rows_held all (held i) k) ≡ rows_held all (first n) k
-  all_rows k zero = sym (held_same all (first 0) (λ key. none) (λ key. ap (λ (c : Bool). cond c (one key) none) (le-ltb (which key) 0 (omega arith))) k ∙ nothing k)
+  all_rows k zero = sym (held_same all (first 0) (λ key. None) (λ key. ap (λ (c : Bool). cond c (one key) None) (le-ltb (which key) 0 (omega arith))) k ∙ nothing k)
   all_rows k (suc n) =
       ap (together (rows_held all (held n) k)) (all_rows k n)
       ∙ held_together all (held n) (first n) (one_holds n) k
       ∙ held_same all (λ key. either (held n key) (first n key)) (first (suc n)) (next_one n) k
 
   pub each_once : (n : ℕ) → ((key : ℕ) → which key < n) → (k : ℕ) → all_of n (λ i. rows_held all (held i) k) ≡ rows_held all one k
-  each_once n h k = all_rows k n ∙ held_same all (first n) one (λ key. ap (λ (c : Bool). cond c (one key) none) (lt-ltb (which key) n (h key))) k
+  each_once n h k = all_rows k n ∙ held_same all (first n) one (λ key. ap (λ (c : Bool). cond c (one key) None) (lt-ltb (which key) n (h key))) k
 
 pub counts_add : (n : ℕ) (rows : ℕ → List Row) → sum_of n (λ i. length (rows i)) ≡ length (all_of n rows)
 counts_add zero rows = refl

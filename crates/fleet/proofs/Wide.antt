@@ -1,9 +1,9 @@
 -- A fleet with room, held to a single table with room, needs no proviso: each has a place for every key that it hears, so neither ever answers 6.
 -- Assumes nothing.
+use Rattle.std.specs.Prelude.{Result, Ok, Err, None, ⊤}
 use Prim.Native.Nat.{ℕ, ◌≤◌}
 use native.Mathlib.Omega.{arith}
 use mathlib.Core.Bool.{Bool, true, false, cond, not, ◌&&◌, ◌||◌}
-use mathlib.Core.Option.{none}
 use mathlib.Core.Path.{◌≡◌, refl, ap, sym, ◌∙◌, subst}
 use mathlib.Core.List.{List, [], ◌∷◌, ◌++◌}
 use lib.Dec.{eqb}
@@ -13,12 +13,8 @@ use Rattle.fields.proofs.Bools.{by_test, and_left}
 use Rattle.positions.specs.Positions.{pole_to_pole}
 use Rattle.parity.specs.Division.{remainder_from, reduce}
 use Rattle.parity.specs.Parity.{remainder}
-use Rattle.messages.specs.declared.Decoded.{Decoded}
-use Rattle.messages.specs.declared.Decoded.TheVariants as decode
 use Rattle.messages.specs.Message.{decoded, key_of, opened, kind_of}
 use Rattle.whereabouts.specs.declared.Site.{Site}
-use Rattle.rules.specs.declared.answers.SetUp.{SetUp}
-use Rattle.rules.specs.declared.answers.SetUp.TheVariants.{Done}
 use Rattle.rules.specs.Form.{taken, Form, East, Lawful}
 use Rattle.rules.specs.Rules.{After, set_up, received}
 use Rattle.rules.specs.View.{view}
@@ -33,6 +29,8 @@ use Rattle.fleet.specs.Room.{member, is_among, Among, going_to}
 use Rattle.fleet.proofs.Together.{fleet_listing}
 use Rattle.fleet.proofs.Plain.{plain_same, plain_clock, plain_unheld}
 use Rattle.fleet.proofs.Room.{room}
+use Rattle.messages.specs.declared.Message.{Message}
+use Rattle.refusals.specs.declared.Refusal.{Refusal}
 
 -- ---- the form of any number of places
 
@@ -58,10 +56,10 @@ wide_lawful =
     }
 
 -- a site with which one set-up is done
-wide_done : {T : Type 0} (G : Form T) (t : T) (site : Site) (n : ℕ) → (set_up G t site).answer ≡ Done → (set_up wide (roomy n) site).answer ≡ Done
+wide_done : {T : Type 0} (G : Form T) (t : T) (site : Site) (n : ℕ) → (set_up G t site).answer ≡ Ok tt → (set_up wide (roomy n) site).answer ≡ Ok tt
 unfolding set_up
 wide_done {T} G t site n =
-    let P : After T SetUp → Type 0 = λ (r : After T SetUp). r.answer ≡ Done → (set_up wide (roomy n) site).answer ≡ Done in
+    let P : After T (Result ⊤ Refusal) → Type 0 = λ (r : After T (Result ⊤ Refusal)). r.answer ≡ Ok tt → (set_up wide (roomy n) site).answer ≡ Ok tt in
     by_test P (not (G.whole t)) _ _
     (λ _ a. absurd (not_done a))
     (λ _. by_test P (site.known && not (pole_to_pole site.spot.latitude)) _ _
@@ -81,9 +79,9 @@ going which i k e (x ∷ xs) h = by_tests (eqb x k) (eqb (which x) i) refl refl 
     by_tests false true p q h more = rw p (more h)
     by_tests false false p q h more = more h
 
-for_among : (which : ℕ → ℕ) (i : ℕ) (keys : List ℕ) (d : Decoded) → is_for which i d ≡ true → is_among keys d ≡ true → is_among (going_to which i keys) d ≡ true
-for_among which i keys (decode.Refused r) e h = refl
-for_among which i keys (decode.Message m) e h = going which i (key_of m) e keys h
+for_among : (which : ℕ → ℕ) (i : ℕ) (keys : List ℕ) (d : Result Message Refusal) → is_for which i d ≡ true → is_among keys d ≡ true → is_among (going_to which i keys) d ≡ true
+for_among which i keys (Err r) e h = refl
+for_among which i keys (Ok m) e h = going which i (key_of m) e keys h
 
 among_handed : (which : ℕ → ℕ) (i : ℕ) (keys : List ℕ) (t : Call) → is_among (going_to which i keys) (decoded t.message) ≡ true → (clock : ℕ) (cs : List Call) → Among keys cs
     → Among (going_to which i keys) (handed which i clock cs ++ t ∷ [])
@@ -104,7 +102,7 @@ among_deal which i keys stream t tick h = among_handed which i keys t (ap (λ (m
 
 -- ---- table i of a fleet, which has a place for every key that goes to it, beside a single table with a place for every key
 
-module _ {T : Type 0} (G : Form T) (M : Lawful G) (which : ℕ → ℕ) (i : ℕ) (site : Site) (east : East site) (table : T) (done : (set_up G table site).answer ≡ Done)
+module _ {T : Type 0} (G : Form T) (M : Lawful G) (which : ℕ → ℕ) (i : ℕ) (site : Site) (east : East site) (table : T) (done : (set_up G table site).answer ≡ Ok tt)
     (stream : List Call) (t : Call) (tick : Tick stream t) (keys : List ℕ) (among : Among keys stream) (places : length (going_to which i keys) ≤ G.count table) where
   abbrev one : Wide
   one = (set_up wide (roomy (length keys)) site).table
@@ -112,7 +110,7 @@ module _ {T : Type 0} (G : Form T) (M : Lawful G) (which : ℕ → ℕ) (i : ℕ
   abbrev of : T
   of = (set_up G table site).table
 
-  pub one_done : (set_up wide (roomy (length keys)) site).answer ≡ Done
+  pub one_done : (set_up wide (roomy (length keys)) site).answer ≡ Ok tt
   one_done = wide_done G table site (length keys) done
 
   one_room : (key : ℕ) → NeverFull (received wide) key one stream
@@ -132,10 +130,10 @@ module _ {T : Type 0} (G : Form T) (M : Lawful G) (which : ℕ → ℕ) (i : ℕ
       (subst (λ (j : ℕ). NeverFull (received G) key of (least_deal which j stream t)) (sym e) (of_room key)))
 
   -- every key
-  pub table_holds : (key : ℕ) → view G (left (received G) of (least_deal which i stream t)) key ≡ cond (eqb (which key) i) (view wide (left (received wide) one stream) key) none
+  pub table_holds : (key : ℕ) → view G (left (received G) of (least_deal which i stream t)) key ≡ cond (eqb (which key) i) (view wide (left (received wide) one stream) key) None
   table_holds key = by_cases (eqb (which key) i) refl
     where
-      by_cases : (b : Bool) → eqb (which key) i ≡ b → view G (left (received G) of (least_deal which i stream t)) key ≡ cond b (view wide (left (received wide) one stream) key) none
+      by_cases : (b : Bool) → eqb (which key) i ≡ b → view G (left (received G) of (least_deal which i stream t)) key ≡ cond b (view wide (left (received wide) one stream) key) None
       by_cases true e = sym (table_same key (eqb-true (which key) i e)).track
       by_cases false e =
           plain_unheld wide G wide_lawful M which site east (roomy (length keys)) one_done (λ j. table) (λ j. done) stream t tick i key (eqb-false (which key) i e)

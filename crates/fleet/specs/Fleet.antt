@@ -1,19 +1,18 @@
 -- RULES 18.1 to 18.3: a fleet of tables: keys go to tables by any function, and one stream is dealt out to them by the stream's clock, which is its latest time.
-use Rattle.std.specs.Prelude.{ℕ, ◌≤◌, Bool, false, cond, not, ◌&&◌, ◌≡◌, List, [], ◌∷◌, ◌++◌, eqb}
-use Rattle.messages.specs.declared.Decoded.{Decoded}
-use Rattle.messages.specs.declared.Decoded.TheVariants as decode
+use Rattle.std.specs.Prelude.{ℕ, ◌≤◌, Bool, false, cond, not, ◌&&◌, ◌≡◌, List, [], ◌∷◌, ◌++◌, eqb, Result, Ok, Err}
 use Rattle.messages.specs.Message.{decoded, key_of}
 use Rattle.whereabouts.specs.declared.Site.{Site}
-use Rattle.rules.specs.declared.answers.SetUp.TheVariants.{Done}
 use Rattle.rules.specs.Form.{Form, East}
 use Rattle.rules.specs.Rules.{set_up}
 use Rattle.isolation.specs.Runs.{Call, Rule, NeverFull}
 use Rattle.fleet.specs.Sparse.{late, ticked, latest, Same}
+use Rattle.messages.specs.declared.Message.{Message}
+use Rattle.refusals.specs.declared.Refusal.{Refusal}
 
 -- whether a message is for a table: one of a key that goes there. What is not acceptable is for none
-abbrev pub is_for : (ℕ → ℕ) → ℕ → Decoded → Bool
-is_for which i (decode.Message m) = eqb (which (key_of m)) i
-is_for which i (decode.Refused r) = false
+abbrev pub is_for : (ℕ → ℕ) → ℕ → Result Message Refusal → Bool
+is_for which i (Ok m) = eqb (which (key_of m)) i
+is_for which i (Err r) = false
 
 abbrev pub call_for : (ℕ → ℕ) → ℕ → Call → Bool
 call_for which i c = is_for which i (decoded c.message)
@@ -30,7 +29,7 @@ pub data Dealt (which : ℕ → ℕ) (i : ℕ) : ℕ → List Call → List Call
 abbrev pub Fleet : {S T : Type 0} → Form S → Form T → Rule S → Rule T → Type 0
 Fleet {S} {T} F G rule rule' =
     (which : ℕ → ℕ) (site : Site) → East site
-    → (s : S) → (set_up F s site).answer ≡ Done → (tables : ℕ → T) → ((i : ℕ) → (set_up G (tables i) site).answer ≡ Done)
+    → (s : S) → (set_up F s site).answer ≡ Ok tt → (tables : ℕ → T) → ((i : ℕ) → (set_up G (tables i) site).answer ≡ Ok tt)
     → (stream : List Call) (deal : ℕ → List Call) → ((i : ℕ) → Dealt which i 0 stream (deal i)) → (key : ℕ) → latest 0 (deal (which key)) ≡ latest 0 stream
     → NeverFull rule key (set_up F s site).table stream → NeverFull rule' key (set_up G (tables (which key)) site).table (deal (which key))
     → Same F G rule rule' key (set_up F s site).table (set_up G (tables (which key)) site).table stream (deal (which key))

@@ -1,14 +1,14 @@
 -- RULES 18.2 and 18.4: tables side by side: whatever one table would answer and hold for an aircraft, a table that is handed its messages alone, and a tick before it is read, answers and holds too, unless either answered 6 to it.
-use Rattle.std.specs.Prelude.{ℕ, ◌≤◌, Bool, false, cond, not, ◌&&◌, ◌≡◌, List, [], ◌∷◌, ltb}
-use Rattle.messages.specs.declared.Decoded.{Decoded}
+use Rattle.std.specs.Prelude.{ℕ, ◌≤◌, Bool, false, cond, not, ◌&&◌, ◌≡◌, List, [], ◌∷◌, ltb, Result, Ok}
 use Rattle.whereabouts.specs.declared.Site.{Site}
-use Rattle.rules.specs.declared.answers.SetUp.TheVariants.{Done}
 use Rattle.rules.specs.Form.{Form, East}
 use Rattle.rules.specs.Rules.{After, set_up, looked_up}
 use Rattle.rules.specs.View.{view}
 use Rattle.isolation.specs.Runs.{Call, own, Rule, call, NeverFull}
 use Rattle.isolation.specs.Logs.{left}
 use Rattle.isolation.specs.Played.{left_by}
+use Rattle.messages.specs.declared.Message.{Message}
+use Rattle.refusals.specs.declared.Refusal.{Refusal}
 
 -- ---- the times of a run, from a clock on
 
@@ -39,7 +39,7 @@ pub record Sparse (key : ℕ) (xs ys : List Call) : Type 0 where
   pub clock : latest 0 xs ≡ latest 0 ys
 
 -- what is answered to its own calls that are not late, by the run's own clock. One that is late is answered 2, and does nothing
-abbrev pub told : {S : Type 0} → Rule S → ℕ → ℕ → S → List Call → List Decoded
+abbrev pub told : {S : Type 0} → Rule S → ℕ → ℕ → S → List Call → List (Result Message Refusal)
 told rule key clock s [] = []
 told rule key clock s (c ∷ cs) =
     let r = call rule s c in
@@ -59,14 +59,14 @@ pub record Same {S T : Type 0} (F : Form S) (G : Form T) (rule : Rule S) (rule' 
   pub asked : looked_up F (left rule s xs) key ≡ looked_up G (left rule' t ys) key
 
 -- .. and of two runs as they were played: they told the same, and so is what is then answered to a question for it
-pub record SamePlayed {S T : Type 0} (F : Form S) (G : Form T) (key : ℕ) (s : S) (t : T) (xs ys : List Call) (ps : List (After S Decoded)) (qs : List (After T Decoded)) : Type 0 where
+pub record SamePlayed {S T : Type 0} (F : Form S) (G : Form T) (key : ℕ) (s : S) (t : T) (xs ys : List Call) (ps : List (After S (Result Message Refusal))) (qs : List (After T (Result Message Refusal))) : Type 0 where
   pub answers : told_by key 0 xs ps ≡ told_by key 0 ys qs
   pub asked : looked_up F (left_by s ps) key ≡ looked_up G (left_by t qs) key
 
 -- the statement, of two tables in any forms and of any sizes, whatever they held before
 abbrev pub Shards : {S T : Type 0} → Form S → Form T → Rule S → Rule T → Type 0
 Shards {S} {T} F G rule rule' =
-    (key : ℕ) (site : Site) → East site → (s : S) (t : T) → (set_up F s site).answer ≡ Done → (set_up G t site).answer ≡ Done
+    (key : ℕ) (site : Site) → East site → (s : S) (t : T) → (set_up F s site).answer ≡ Ok tt → (set_up G t site).answer ≡ Ok tt
     → (xs ys : List Call) → Sparse key xs ys
     → NeverFull rule key (set_up F s site).table xs → NeverFull rule' key (set_up G t site).table ys
     → Same F G rule rule' key (set_up F s site).table (set_up G t site).table xs ys

@@ -1,12 +1,10 @@
 -- RULES 18.6: the listings of several tables as one: the rows of all in the order of their keys, and the number of them. It is held to what one table would list, in any form.
-use Rattle.std.specs.Prelude.{ℕ, zero, suc, ◌+◌, ◌<◌, Bool, cond, ◌≡◌, List, [], ◌∷◌, ◌++◌, ltb, length}
-use Rattle.std.proofs.Math.Option.{Option}
+use Rattle.std.specs.Prelude.{ℕ, zero, suc, ◌+◌, ◌<◌, Bool, cond, ◌≡◌, List, [], ◌∷◌, ◌++◌, ltb, length, Ok, Option}
 use Rattle.keys.specs.Keys.{end_of_keys}
 use Rattle.whereabouts.specs.declared.Site.{Site}
 use Rattle.track.specs.declared.Track.{Track}
 use Rattle.text.specs.declared.Row.{Row}
 use Rattle.text.specs.Lines.{header_text}
-use Rattle.rules.specs.declared.answers.SetUp.TheVariants.{Done}
 use Rattle.rules.specs.Form.{Form, East}
 use Rattle.rules.specs.Rules.{set_up, received}
 use Rattle.rules.specs.View.{view}
@@ -65,7 +63,7 @@ pub record OneListing {S T : Type 0} (F : Form S) (G : Form T) (all : Bool) (n :
 abbrev pub FleetListing : {S T : Type 0} → Form S → Form T → Type 0
 FleetListing {S} {T} F G =
     (which : ℕ → ℕ) (n : ℕ) → ((key : ℕ) → which key < n) → (site : Site) → East site
-    → (s : S) → (set_up F s site).answer ≡ Done → (tables : ℕ → T) → ((i : ℕ) → (set_up G (tables i) site).answer ≡ Done)
+    → (s : S) → (set_up F s site).answer ≡ Ok tt → (tables : ℕ → T) → ((i : ℕ) → (set_up G (tables i) site).answer ≡ Ok tt)
     → (stream : List Call) (t : Call) → Tick stream t → ((key : ℕ) → NeverFull (received F) key (set_up F s site).table stream)
     → ((key : ℕ) → NeverFull (received G) key (set_up G (tables (which key)) site).table (least_deal which (which key) stream t))
     → (all : Bool) → OneListing F G all n (left (received F) (set_up F s site).table stream) (λ i. left (received G) (set_up G (tables i) site).table (least_deal which i stream t))

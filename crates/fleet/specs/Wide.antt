@@ -1,9 +1,8 @@
 -- RULES 18.5: a single table with a place for every key: a form of any number of places, which nobody has to lend. It is what a fleet is held to.
-use Rattle.std.specs.Prelude.{ℕ, ◌≤◌, ◌<◌, Bool, true, false, cond, ◌≡◌, List, eqb, length}
+use Rattle.std.specs.Prelude.{ℕ, ◌≤◌, ◌<◌, Bool, true, false, cond, ◌≡◌, List, eqb, length, Ok}
 use Rattle.whereabouts.specs.declared.Site.{Site}
 use Rattle.whereabouts.specs.Located.{no_site}
 use Rattle.track.specs.Track.{new_track}
-use Rattle.rules.specs.declared.answers.SetUp.TheVariants.{Done}
 use Rattle.rules.specs.Form.{Cell, taken, Form, East}
 use Rattle.rules.specs.Rules.{set_up, received}
 use Rattle.isolation.specs.Runs.{Call}
@@ -44,13 +43,13 @@ wide =
 -- what each key is told, and what is held of it in its own table
 abbrev pub RoomySame : {T : Type 0} → Form T → Type 0
 RoomySame {T} G =
-    (which : ℕ → ℕ) (site : Site) → East site → (tables : ℕ → T) → ((i : ℕ) → (set_up G (tables i) site).answer ≡ Done) → (stream : List Call) (t : Call) → Tick stream t
+    (which : ℕ → ℕ) (site : Site) → East site → (tables : ℕ → T) → ((i : ℕ) → (set_up G (tables i) site).answer ≡ Ok tt) → (stream : List Call) (t : Call) → Tick stream t
     → (keys : List ℕ) → Among keys stream → ((i : ℕ) → length (going_to which i keys) ≤ G.count (tables i)) → (key : ℕ)
     → Same wide G (received wide) (received G) key (set_up wide (roomy (length keys)) site).table (set_up G (tables (which key)) site).table stream (least_deal which (which key) stream t)
 
 -- what all of them list
 abbrev pub RoomyListing : {T : Type 0} → Form T → Type 0
 RoomyListing {T} G =
-    (which : ℕ → ℕ) (site : Site) → East site → (tables : ℕ → T) → ((i : ℕ) → (set_up G (tables i) site).answer ≡ Done) → (stream : List Call) (t : Call) → Tick stream t
+    (which : ℕ → ℕ) (site : Site) → East site → (tables : ℕ → T) → ((i : ℕ) → (set_up G (tables i) site).answer ≡ Ok tt) → (stream : List Call) (t : Call) → Tick stream t
     → (keys : List ℕ) → Among keys stream → ((i : ℕ) → length (going_to which i keys) ≤ G.count (tables i)) → (n : ℕ) → ((key : ℕ) → which key < n) → (all : Bool)
     → OneListing wide G all n (left (received wide) (set_up wide (roomy (length keys)) site).table stream) (λ i. left (received G) (set_up G (tables i) site).table (least_deal which i stream t))

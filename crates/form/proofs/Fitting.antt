@@ -10,52 +10,23 @@ use lib.Dec.{eqb, ltb}
 use lib.ListN.{length, drop, get_or, length-take, length-drop, drop_of_length-le}
 use lib.Seq.{drop-cons}
 use Rattle.form.specs.Form.{pieces, same, clock_word, tracks_word, bad_word, fits, all_fit, is_kind, is_coarse, is_address, is_figure, header_form, line_form, lines_form, body_form, text_form, in_form}
+use Rattle.form.specs.declared.words.Sort as code
+use Rattle.form.specs.declared.words.Sort.TheVariants as sort
 use Rattle.form.specs.Scan.{part, pieces_from}
 use Rattle.form.specs.Code.{Ends, sort_of, sorts_of}
 use Rattle.form.proofs.Pieces.{some_piece}
 use Rattle.form.proofs.Loops.{past, from_here, same_length}
 
--- ---- the letters of the sorts
-
-module _ (k : ℕ) (w : List ℕ) where
-  pub sort_kind : k ≡ 75 → is_kind w ≡ fits (sort_of k) w
-  unfolding fits sort_of
-  sort_kind e = rw (eq-eqb k 75 e)
-
-  pub sort_coarse : (k ≡ 75 → ⊥) → k ≡ 67 → is_coarse w ≡ fits (sort_of k) w
-  unfolding fits sort_of
-  sort_coarse a e = rw (ne_eqb k 75 a, eq-eqb k 67 e)
-
-  pub sort_address : (k ≡ 75 → ⊥) → (k ≡ 67 → ⊥) → k ≡ 65 → is_address w ≡ fits (sort_of k) w
-  unfolding fits sort_of
-  sort_address a b e = rw (ne_eqb k 75 a, ne_eqb k 67 b, eq-eqb k 65 e)
-
-  pub sort_figure : (k ≡ 75 → ⊥) → (k ≡ 67 → ⊥) → (k ≡ 65 → ⊥) → k ≡ 70 → is_figure w ≡ fits (sort_of k) w
-  unfolding fits sort_of
-  sort_figure a b c e = rw (ne_eqb k 75 a, ne_eqb k 67 b, ne_eqb k 65 c, eq-eqb k 70 e)
-
-  pub sort_clock : (k ≡ 75 → ⊥) → (k ≡ 67 → ⊥) → (k ≡ 65 → ⊥) → (k ≡ 70 → ⊥) → k ≡ 99 → same w clock_word ≡ fits (sort_of k) w
-  unfolding fits sort_of
-  sort_clock a b c d e = rw (ne_eqb k 75 a, ne_eqb k 67 b, ne_eqb k 65 c, ne_eqb k 70 d, eq-eqb k 99 e)
-
-  pub sort_tracks : (k ≡ 75 → ⊥) → (k ≡ 67 → ⊥) → (k ≡ 65 → ⊥) → (k ≡ 70 → ⊥) → (k ≡ 99 → ⊥) → k ≡ 116 → same w tracks_word ≡ fits (sort_of k) w
-  unfolding fits sort_of
-  sort_tracks a b c d f e = rw (ne_eqb k 75 a, ne_eqb k 67 b, ne_eqb k 65 c, ne_eqb k 70 d, ne_eqb k 99 f, eq-eqb k 116 e)
-
-  pub sort_bad : (k ≡ 75 → ⊥) → (k ≡ 67 → ⊥) → (k ≡ 65 → ⊥) → (k ≡ 70 → ⊥) → (k ≡ 99 → ⊥) → (k ≡ 116 → ⊥) → same w bad_word ≡ fits (sort_of k) w
-  unfolding fits sort_of
-  sort_bad a b c d f g = rw (ne_eqb k 75 a, ne_eqb k 67 b, ne_eqb k 65 c, ne_eqb k 70 d, ne_eqb k 99 f, ne_eqb k 116 g)
-
 -- ---- words
 
-module _ (line sorts : List ℕ) where
+module _ (line : List ℕ) (sorts : List code.Sort) where
   -- what is left to test
   abbrev pub left : ℕ → ℕ → Bool
   left i at = all_fit (sorts_of (drop i sorts)) (pieces_from 32 line at)
 
-  sorts_cons : (i : ℕ) → i < length sorts → sorts_of (drop i sorts) ≡ sort_of (get_or sorts i 0) ∷ sorts_of (drop (suc i) sorts)
+  sorts_cons : (i : ℕ) → i < length sorts → sorts_of (drop i sorts) ≡ sort_of (get_or sorts i sort.Kind) ∷ sorts_of (drop (suc i) sorts)
   unfolding sorts_of
-  sorts_cons i h = ap sorts_of (drop-cons sorts i 0 h)
+  sorts_cons i h = ap sorts_of (drop-cons sorts i sort.Kind h)
 
   pub left_first : all_fit (sorts_of sorts) (pieces 32 line) ≡ left 0 0
   left_first = ap (all_fit (sorts_of sorts)) (sym (from_here 32 line 0 0 (omega arith)))
@@ -64,14 +35,14 @@ module _ (line sorts : List ℕ) where
   unfolding all_fit
   left_short i at h l = ap₂ all_fit (sorts_cons i h) (past 32 line 0 at l)
 
-  head : (i at e : ℕ) → i < length sorts → Ends 32 line at e → left i at ≡ (fits (sort_of (get_or sorts i 0)) (part at e line) && left (suc i) (e + 1))
+  head : (i at e : ℕ) → i < length sorts → Ends 32 line at e → left i at ≡ (fits (sort_of (get_or sorts i sort.Kind)) (part at e line) && left (suc i) (e + 1))
   unfolding all_fit
   head i at e h p = ap₂ all_fit (sorts_cons i h) p.cut
 
-  pub left_stops : (i at e : ℕ) → i < length sorts → Ends 32 line at e → fits (sort_of (get_or sorts i 0)) (part at e line) ≡ false → left i at ≡ false
+  pub left_stops : (i at e : ℕ) → i < length sorts → Ends 32 line at e → fits (sort_of (get_or sorts i sort.Kind)) (part at e line) ≡ false → left i at ≡ false
   left_stops i at e h p f = head i at e h p ∙ ap (λ (t : Bool). t && left (suc i) (e + 1)) f
 
-  pub left_on : (i at e : ℕ) → i < length sorts → Ends 32 line at e → fits (sort_of (get_or sorts i 0)) (part at e line) ≡ true → left i at ≡ left (i + 1) (e + 1)
+  pub left_on : (i at e : ℕ) → i < length sorts → Ends 32 line at e → fits (sort_of (get_or sorts i sort.Kind)) (part at e line) ≡ true → left i at ≡ left (i + 1) (e + 1)
   left_on i at e h p f = head i at e h p ∙ ap (λ (t : Bool). t && left (suc i) (e + 1)) f ∙ ap (λ (k : ℕ). left k (e + 1)) (let q : suc i ≡ i + 1 = omega arith in q)
 
   none_left : (ps : List (List ℕ)) (w : List ℕ) (ws : List (List ℕ)) → ps ≡ w ∷ ws → all_fit [] ps ≡ false
@@ -87,17 +58,17 @@ module _ (line sorts : List ℕ) where
 
   pub left_ends : (i at : ℕ) → length sorts ≤ i → left i at ≡ ltb (length line) at
   unfolding sorts_of
-  left_ends i at h = ap (λ (x : List ℕ). all_fit (sorts_of x) (pieces_from 32 line at)) (drop_of_length-le sorts {i = i} h) ∙ ends_by i at (ltb (length line) at) refl
+  left_ends i at h = ap (λ (x : List code.Sort). all_fit (sorts_of x) (pieces_from 32 line at)) (drop_of_length-le sorts {i = i} h) ∙ ends_by i at (ltb (length line) at) refl
 
 -- ---- lines
 
-pub header_fits : (l : List ℕ) → all_fit (sorts_of (99 ∷ 70 ∷ 116 ∷ 70 ∷ 98 ∷ 70 ∷ [])) (pieces 32 l) ≡ header_form l
-unfolding sorts_of sort_of header_form
+pub header_fits : (l : List ℕ) → all_fit (sorts_of (sort.Clock ∷ sort.Figure ∷ sort.Tracks ∷ sort.Figure ∷ sort.BadBlocks ∷ sort.Figure ∷ [])) (pieces 32 l) ≡ header_form l
+unfolding sorts_of header_form
 header_fits l = refl
 
-pub line_fits : (l : List ℕ) {a b : Bool} → a ≡ all_fit (sorts_of (75 ∷ 65 ∷ 70 ∷ 70 ∷ 70 ∷ 70 ∷ 70 ∷ [])) (pieces 32 l)
-    → b ≡ all_fit (sorts_of (67 ∷ 65 ∷ 70 ∷ 70 ∷ 70 ∷ 70 ∷ 70 ∷ 70 ∷ 70 ∷ [])) (pieces 32 l) → a || b ≡ line_form l
-unfolding sorts_of sort_of line_form
+pub line_fits : (l : List ℕ) {a b : Bool} → a ≡ all_fit (sorts_of (sort.Kind ∷ sort.Address ∷ sort.Figure ∷ sort.Figure ∷ sort.Figure ∷ sort.Figure ∷ sort.Figure ∷ [])) (pieces 32 l)
+    → b ≡ all_fit (sorts_of (sort.Coarse ∷ sort.Address ∷ sort.Figure ∷ sort.Figure ∷ sort.Figure ∷ sort.Figure ∷ sort.Figure ∷ sort.Figure ∷ sort.Figure ∷ [])) (pieces 32 l) → a || b ≡ line_form l
+unfolding sorts_of line_form
 line_fits l p q = ap₂ ◌||◌ p q
 
 module _ (s : List ℕ) where

@@ -1,6 +1,7 @@
 -- A line names its figures: of two rows of one key with the same text the latitudes and the longitudes are equal, and every word that the form takes as a figure is one's. Digits are read back as the number that they
 -- say, and the words of a line are what stands between its spaces.
 -- Assumes nothing.
+use Rattle.std.specs.Prelude.{Option, Some, None}
 use Prim.Native.Nat.{ℕ, zero, suc, ◌+◌, ◌-◌, ◌*◌, ◌/◌, ◌%◌, ◌^◌, ◌<◌, ◌≤◌}
 use native.Mathlib.Omega.{arith}
 use mathlib.Core.Path.{◌≡◌, refl, sym, ap, ap₂, subst, ◌∙◌}
@@ -15,8 +16,6 @@ use Rattle.fields.proofs.Bools.{each, either, and_left, and_right}
 use Rattle.text.specs.Numbers.{decimal_in, decimal, minus, signed}
 use Rattle.text.proofs.Digits.{decimal_small}
 use Rattle.text.specs.Lines.{row_text}
-use Rattle.text.specs.declared.Figure.{Figure}
-use Rattle.text.specs.declared.Figure.TheVariants.{Unknown, Known}
 use Rattle.text.specs.declared.Row.{Row}
 use Rattle.form.specs.Form.{pieces, same, is_digit, all, is_positive, is_negative, is_figure}
 use Rattle.form.specs.Own.{Sized, word}
@@ -84,11 +83,11 @@ dash_known : (z : ℤ) → nat_abs z < 10 ^ 20 → minus ≡ signed z → ⊥
 dash_known (pos n) h e = no_minus n [] (sym (from_zero n) ∙ sym e)
 dash_known (negsuc n) h e = some_digit n h (rest_of (e ∙ below_zero n))
 
-word_one : (f g : Figure) → Sized f → Sized g → word f ≡ word g → f ≡ g
-word_one Unknown Unknown p q e = refl
-word_one Unknown (Known z) p q e = absurd (dash_known z q e)
-word_one (Known z) Unknown p q e = absurd (dash_known z p (sym e))
-word_one (Known y) (Known z) p q e = ap Known (signed_one y z p q e)
+word_one : (f g : Option ℤ) → Sized f → Sized g → word f ≡ word g → f ≡ g
+word_one None None p q e = refl
+word_one None (Some z) p q e = absurd (dash_known z q e)
+word_one (Some z) None p q e = absurd (dash_known z p (sym e))
+word_one (Some y) (Some z) p q e = ap Some (signed_one y z p q e)
 
 -- ---- lines
 
@@ -185,11 +184,11 @@ positive_digits (b ∷ w) p =
     digits_of b w (leb-true (suc (length w)) 20 (and_right (leb 1 (suc (length w))) (leb (suc (length w)) 20) r.0)) r.1 q.1
 
 abbrev Named : List ℕ → Type 0
-Named w = (f : Figure) × Sized f × (word f ≡ w)
+Named w = (f : Option ℤ) × Sized f × (word f ≡ w)
 
 below : (v : List ℕ) (n : ℕ) → 1 ≤ n → n < 10 ^ 20 → decimal n ≡ v → Named (45 ∷ v)
 below v zero l h e = absurd (let z : ⊥ = omega arith in z)
-below v (suc n) l h e = (Known (negsuc n), h, below_zero n ∙ ap (λ (x : List ℕ). 45 ∷ x) e)
+below v (suc n) l h e = (Some (negsuc n), h, below_zero n ∙ ap (λ (x : List ℕ). 45 ∷ x) e)
 
 negative_named : (w : List ℕ) → is_negative w ≡ true → Named w
 unfolding is_negative
@@ -204,15 +203,15 @@ pub figure_named : (w : List ℕ) → is_figure w ≡ true → Named w
 unfolding is_figure
 figure_named w p = by (either (same w (45 ∷ []) || same w (48 ∷ []) || is_positive w) (is_negative w) p)
   where
-    zero_word : word (Known (pos 0)) ≡ 48 ∷ []
+    zero_word : word (Some (pos 0)) ≡ 48 ∷ []
     zero_word = from_zero 0 ∙ decimal_small 0 (omega arith)
 
     word_by : (same w (45 ∷ []) ≡ true) ⊎ (same w (48 ∷ []) ≡ true) → Named w
-    word_by (inl q) = (Unknown, tt, sym (same_equal w (45 ∷ []) q))
-    word_by (inr q) = (Known (pos 0), omega arith, zero_word ∙ sym (same_equal w (48 ∷ []) q))
+    word_by (inl q) = (None, tt, sym (same_equal w (45 ∷ []) q))
+    word_by (inr q) = (Some (pos 0), omega arith, zero_word ∙ sym (same_equal w (48 ∷ []) q))
 
     above : Digits w → Named w
-    above d = (Known (pos d.0), d.2, from_zero d.0 ∙ d.3)
+    above d = (Some (pos d.0), d.2, from_zero d.0 ∙ d.3)
 
     by_digits : (same w (45 ∷ []) || same w (48 ∷ []) ≡ true) ⊎ (is_positive w ≡ true) → Named w
     by_digits (inl q) = word_by (either (same w (45 ∷ [])) (same w (48 ∷ [])) q)

@@ -1,5 +1,6 @@
 -- Our own lines are in the form, and so is a listing that is made of them.
 -- Assumes nothing.
+use Rattle.std.specs.Prelude.{Option, Some, None, ℤ}
 use Prim.Native.Nat.{ℕ, zero, suc, ◌-◌, ◌/◌, ◌^◌, ◌<◌}
 use mathlib.Core.Path.{◌≡◌, refl, sym, ap, ◌∙◌}
 use mathlib.Core.Bool.{Bool, true, false, cond, ◌&&◌, ◌||◌, false≢true}
@@ -12,8 +13,6 @@ use Rattle.keys.specs.declared.Kind.{Kind}
 use Rattle.keys.specs.declared.Kind.TheVariants.{I, O, T, M, N, C}
 use Rattle.text.specs.Numbers.{decimal, hex}
 use Rattle.text.specs.Lines.{space, newline, field, figure, clock_label, tracks_label, bad_label, header_text, sender_text, key_text, row_text}
-use Rattle.text.specs.declared.Figure.{Figure}
-use Rattle.text.specs.declared.Figure.TheVariants.{Unknown, Known}
 use Rattle.text.specs.declared.Row.{Row}
 use Rattle.form.specs.Form.{pieces, same, is_figure, is_kind, is_coarse, fits, all_fit, clock_word, tracks_word, bad_word, header_sorts, column_sorts, line_sorts, coarse_sorts, header_form, line_form, lines_form, body_form, text_form, in_form}
 use Rattle.form.specs.Own.{Sized, Fitting, word}
@@ -125,19 +124,19 @@ key_form key ws p = form_by (flag_in key) (station_in key) (key / 2 ^ 24 - 1) (a
 
 -- ---- the columns
 
-figure_word : (f : Figure) → figure f ≡ 32 ∷ word f
+figure_word : (f : Option ℤ) → figure f ≡ 32 ∷ word f
 unfolding figure
-figure_word Unknown = refl
-figure_word (Known z) = refl
+figure_word None = refl
+figure_word (Some z) = refl
 
-word_figure : (f : Figure) → Sized f → is_figure (word f) ≡ true
-word_figure Unknown h = dash_figure
-word_figure (Known z) h = signed_figure z h
+word_figure : (f : Option ℤ) → Sized f → is_figure (word f) ≡ true
+word_figure None h = dash_figure
+word_figure (Some z) h = signed_figure z h
 
-word_over : (f : Figure) → over 32 (word f) ≡ true
+word_over : (f : Option ℤ) → over 32 (word f) ≡ true
 unfolding over
-word_over Unknown = refl
-word_over (Known z) = signed_over z
+word_over None = refl
+word_over (Some z) = signed_over z
 
 abbrev pub column_words : Row → List (List ℕ)
 column_words r = decimal r.heard ∷ word r.latitude ∷ word r.longitude ∷ word r.altitude ∷ word r.step ∷ []

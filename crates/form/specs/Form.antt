@@ -1,5 +1,7 @@
 -- RULES 14.2 and 14.3: the form of a listing, over the bytes of a text, whoever made it. A newline after each line, single spaces, the header's words, then kind, six upper-case hex digits and the columns, each "-" or a decimal of at most
 -- 20 digits without leading zeros, minus only before a nonzero one.
+use Rattle.std.specs.Cmp.Lexicographic.{pointwise}
+use Rattle.std.specs.List.{list_all}
 use Rattle.std.specs.Prelude.{ℕ, Bool, true, false, cond, not, ◌&&◌, ◌||◌, List, [], ◌∷◌, eqb, leb, length, drop, get_or}
 
 -- ---- a text cut at a separator
@@ -17,10 +19,7 @@ pieces sep (b ∷ s) = cond (eqb b sep) ([] ∷ pieces sep s) (longer b (pieces 
 -- ---- words
 
 unfoldable pub same : List ℕ → List ℕ → Bool
-same [] [] = true
-same [] (b ∷ t) = false
-same (a ∷ s) [] = false
-same (a ∷ s) (b ∷ t) = eqb a b && same s t
+same s t = pointwise eqb s t
 
 -- 0-9
 abbrev pub is_digit : ℕ → Bool
@@ -32,8 +31,7 @@ is_hex_digit b = is_digit b || (leb 65 b && leb b 70)
 
 -- each byte passes a test
 unfoldable pub all : (ℕ → Bool) → List ℕ → Bool
-all test [] = true
-all test (b ∷ w) = test b && all test w
+all test w = list_all test w
 
 -- 1 to 20 digits, the first not 0
 unfoldable pub is_positive : List ℕ → Bool

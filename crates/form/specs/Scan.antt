@@ -1,4 +1,4 @@
--- RULES 14.2: how the code walks a text: by the places where its pieces start, and sorts of words as letters.
+-- RULES 14.2: how the code walks a text: by the places where its pieces start.
 use Rattle.std.specs.Prelude.{ℕ, ◌+◌, ◌-◌, ◌≤◌, ◌<◌, ◌≡◌, cond, List, [], ◌∷◌, ◌++◌, ◌⊎◌, leb, length, take, drop}
 use Rattle.text.specs.Lines.{newline}
 use Rattle.form.specs.Form.{pieces, lines_in}

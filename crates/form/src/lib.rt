@@ -8,23 +8,14 @@ ghost use Rattle.form.specs.Form.{same as same_text, in_form};
 ghost use Rattle.form.specs.Scan.{lines_from, end_of, NextLine};
 ghost use Rattle.form.specs.Code.{Ends};
 
+use words::Sort::{BadBlocks, Clock, Figure, Tracks};
 use words::{line_fits, words_fit};
 
-// Whether two texts are equal, byte for byte.
+// Whether two texts are equal, byte for byte. It stays beside `==` for its contract, which `compare` and `merge` cite.
 pub fn same(a: &[u8], b: &[u8]) -> bool
     ensures { result ≡ same_text a.now b.now }
 {
-    if a.len() != b.len() {
-        return false;
-    }
-    let mut i: usize = 0;
-    while i < a.len() {
-        if a[i] != b[i] {
-            return false;
-        }
-        i += 1;
-    }
-    true
+    a == b
 }
 
 // Where the piece from a place on ends: at the separator, or at the text's end.
@@ -32,14 +23,12 @@ pub(crate) fn piece_end(s: &[u8], from: usize, sep: u8) -> usize
     requires { from ≤ length s.now }
     ensures { Ends sep s.now from result }
 {
-    let mut i = from;
-    while i < s.len() {
+    for i in from..s.len() {
         if s[i] == sep {
             return i;
         }
-        i += 1;
     }
-    i
+    s.len()
 }
 
 // The place after the line that starts at a place; 0 where there is none.
@@ -51,10 +40,7 @@ pub fn line_end(s: &[u8], at: usize) -> usize
         return 0;
     }
     let e = piece_end(s, at, b'\n');
-    if e < s.len() {
-        return e + 1;
-    }
-    0
+    if e < s.len() { e + 1 } else { 0 }
 }
 
 // Whether a text is a header's line and then lines of tracks, each with its newline.
@@ -62,7 +48,8 @@ pub fn in_form(s: &[u8]) -> bool
     ensures { result ≡ in_form s.now }
 {
     let h = piece_end(s, 0, b'\n');
-    if !words_fit(&s[0..h], b"cFtFbF") {
+    let header = [Clock, Figure, Tracks, Figure, BadBlocks, Figure];
+    if !words_fit(&s[0..h], &header) {
         return false;
     }
     let mut at = h + 1;

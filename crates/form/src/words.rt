@@ -1,28 +1,46 @@
 // The words of a line, and what each has to be.
 ghost use Rattle.std.specs.Prelude.{◌≡◌};
-ghost use Rattle.form.specs.Form.{pieces, all, is_positive, is_negative, is_figure, is_kind, is_coarse, is_address, fits, all_fit, line_form};
-ghost use Rattle.form.specs.Code.{digit_of, sort_of, sorts_of};
+ghost use Rattle.std.specs.List.{list_all};
+ghost use Rattle.form.specs.Form.{pieces, is_digit, is_hex_digit, is_positive, is_negative, is_figure, is_kind, is_coarse, is_address, fits, all_fit, line_form};
+ghost use Rattle.form.specs.Code.{sort_of, sorts_of};
 
 use crate::{piece_end, same};
 
-fn is_digit(b: u8, hex: bool) -> bool
-    ensures { result ≡ digit_of hex b }
-{
-    if hex {
-        return ((48 <= b) & (b <= 57)) | ((65 <= b) & (b <= 70));
-    }
-    (48 <= b) & (b <= 57)
+// What a word of a line can be.
+#[derive(Clone, Copy)]
+pub(crate) enum Sort {
+    // I, O, T, M or N
+    Kind,
+    // C, whose keys have two columns more
+    Coarse,
+    Address,
+    Figure,
+    // the header's words
+    Clock,
+    Tracks,
+    BadBlocks,
 }
 
-fn all_digits(w: &[u8], hex: bool) -> bool
-    ensures { result ≡ all (digit_of hex) w.now }
+use Sort::{Address, Coarse, Figure, Kind};
+
+fn all_digits(w: &[u8]) -> bool
+    ensures { result ≡ list_all is_digit w.now }
 {
-    let mut i: usize = 0;
-    while i < w.len() {
-        if !is_digit(w[i], hex) {
+    for &b in w {
+        if !b.is_ascii_digit() {
             return false;
         }
-        i += 1;
+    }
+    true
+}
+
+fn all_hex_digits(w: &[u8]) -> bool
+    ensures { result ≡ list_all is_hex_digit w.now }
+{
+    for &b in w {
+        if !(b.is_ascii_digit() | ((65 <= b) & (b <= 70))) {
+            return false;
+        }
     }
     true
 }
@@ -34,7 +52,7 @@ fn is_positive(w: &[u8]) -> bool
     if n < 1 {
         return false;
     }
-    (n <= 20) & all_digits(w, false) & (w[0] != 48)
+    (n <= 20) & all_digits(w) & (w[0] != 48)
 }
 
 fn is_negative(w: &[u8]) -> bool
@@ -67,36 +85,25 @@ fn is_coarse(w: &[u8]) -> bool
 fn is_address(w: &[u8]) -> bool
     ensures { result ≡ is_address w.now }
 {
-    (w.len() == 6) & all_digits(w, true)
+    (w.len() == 6) & all_hex_digits(w)
 }
 
-// Whether a word is of a sort: K kind, C the kind C, A address, F figure, c, t and b the header's words.
-fn word_fits(sort: u8, w: &[u8]) -> bool
+fn word_fits(sort: Sort, w: &[u8]) -> bool
     ensures { result ≡ fits (sort_of sort) w.now }
 {
-    if sort == b'K' {
-        return is_kind(w);
+    match sort {
+        Sort::Kind => is_kind(w),
+        Sort::Coarse => is_coarse(w),
+        Sort::Address => is_address(w),
+        Sort::Figure => is_figure(w),
+        Sort::Clock => same(w, b"clock"),
+        Sort::Tracks => same(w, b"tracks"),
+        Sort::BadBlocks => same(w, b"bad-blocks"),
     }
-    if sort == b'C' {
-        return is_coarse(w);
-    }
-    if sort == b'A' {
-        return is_address(w);
-    }
-    if sort == b'F' {
-        return is_figure(w);
-    }
-    if sort == b'c' {
-        return same(w, b"clock");
-    }
-    if sort == b't' {
-        return same(w, b"tracks");
-    }
-    same(w, b"bad-blocks")
 }
 
 // As many words as sorts, with a space between each two, and each of its sort.
-pub(crate) fn words_fit(line: &[u8], sorts: &[u8]) -> bool
+pub(crate) fn words_fit(line: &[u8], sorts: &[Sort]) -> bool
     ensures { result ≡ all_fit (sorts_of sorts.now) (pieces 32 line.now) }
 {
     let mut at: usize = 0;
@@ -119,5 +126,9 @@ pub(crate) fn words_fit(line: &[u8], sorts: &[u8]) -> bool
 pub(crate) fn line_fits(line: &[u8]) -> bool
     ensures { result ≡ line_form line.now }
 {
-    words_fit(line, b"KAFFFFF") | words_fit(line, b"CAFFFFFFF")
+    let others = [Kind, Address, Figure, Figure, Figure, Figure, Figure];
+    let coarse = [
+        Coarse, Address, Figure, Figure, Figure, Figure, Figure, Figure, Figure,
+    ];
+    words_fit(line, &others) | words_fit(line, &coarse)
 }

@@ -1,5 +1,6 @@
 -- What the contracts promise in the rules' terms: whatever meets one says 8 where an ME or a TYPE is wider than its bits, and else what the published tables give. The definitions of specs/Said carry each case over.
 -- Assumes nothing.
+use Rattle.std.specs.Prelude.{Ok}
 use Prim.Native.Nat.{ℕ}
 use mathlib.Core.Path.{◌≡◌, refl, ap, ◌∙◌}
 use mathlib.Core.Bool.{Bool, cond, ◌||◌}
@@ -36,21 +37,21 @@ pub supplements_say : (kind : Kind) (status : ℕ) (bit8 : Bool)
     → supplements_said (supplements_of kind status bit8) ≡ cond (wider 56 status) (number 8) (gives (bits_in kind status bit8))
 supplements_say kind status bit8 = through supplements_said (λ s. s) (wider 56 status) refl refl
 
-module _ (x : ℕ → Integrity) (y : ℕ → Level) (e : (n : ℕ) → integrity_said (x n) ≡ gives (y n)) where
-  lowest_says : (l m : List ℕ) → integrity_said (lowest x l (lowest x m Unknown)) ≡ gives (lowest y l (lowest y m unknown))
+module _ (x : ℕ → Integrity) (y : ℕ → Level) (e : (n : ℕ) → integrity_said (Ok (x n)) ≡ gives (y n)) where
+  lowest_says : (l m : List ℕ) → integrity_said (Ok (lowest x l (lowest x m Unknown))) ≡ gives (lowest y l (lowest y m unknown))
   lowest_says [] [] = refl
   lowest_says [] (n ∷ ns) = e _
   lowest_says (n ∷ ns) m = e _
 
-  table_says : (rows : List Row) (type : ℕ) (s : Bits) → integrity_said (in_table x rows type s Unknown) ≡ gives (in_table y rows type s unknown)
+  table_says : (rows : List Row) (type : ℕ) (s : Bits) → integrity_said (Ok (in_table x rows type s Unknown)) ≡ gives (in_table y rows type s unknown)
   unfolding in_table
   table_says rows type s = lowest_says (with_these type s rows) (of_type type rows)
 
-by_says : (v type : ℕ) (s : Bits) → integrity_said (integrity_by Unknown Nuc Nic v type s) ≡ gives (integrity_by unknown nuc nic v type s)
+by_says : (v type : ℕ) (s : Bits) → integrity_said (Ok (integrity_by Unknown Nuc Nic v type s)) ≡ gives (integrity_by unknown nuc nic v type s)
 by_says v type s =
-    through integrity_said gives (eqb v 0) (table_says Nuc nuc (λ n. refl) nuc_rows type s)
-    (through integrity_said gives (eqb v 1) (table_says Nic nic (λ n. refl) nic_rows1 type s)
-    (through integrity_said gives (eqb v 2) (table_says Nic nic (λ n. refl) nic_rows2 type s)
+    through (λ i. integrity_said (Ok i)) gives (eqb v 0) (table_says Nuc nuc (λ n. refl) nuc_rows type s)
+    (through (λ i. integrity_said (Ok i)) gives (eqb v 1) (table_says Nic nic (λ n. refl) nic_rows1 type s)
+    (through (λ i. integrity_said (Ok i)) gives (eqb v 2) (table_says Nic nic (λ n. refl) nic_rows2 type s)
     refl))
 
 pub integrity_says : (kind : Kind) (status type : ℕ) (bit8 : Bool) → integrity_said (integrity_of kind status type bit8)
@@ -58,7 +59,7 @@ pub integrity_says : (kind : Kind) (status type : ℕ) (bit8 : Bool) → integri
 unfolding integrity_of
 integrity_says kind status type bit8 =
     through integrity_said (λ s. s) (wider 5 type || wider 56 status) refl
-    (through integrity_said gives (is_coarse kind) refl (by_says (version_in kind status) type (bits_in kind status bit8)))
+    (through (λ i. integrity_said (Ok i)) gives (is_coarse kind) refl (by_says (version_in kind status) type (bits_in kind status bit8)))
 
 -- ---- and so does whatever meets a contract
 

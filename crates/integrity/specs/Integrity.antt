@@ -1,6 +1,7 @@
 -- RULES 16.5 and 16.6: the integrity of the latest position message: by its TYPE, with the version and the supplements that are held now.
-use Rattle.std.specs.Prelude.{ℕ, Bool, cond, ◌||◌, eqb}
+use Rattle.std.specs.Prelude.{ℕ, Bool, cond, ◌||◌, eqb, Result, Ok, Err}
 use Rattle.refusals.specs.declared.Refusal.TheVariants.{Field}
+use Rattle.refusals.specs.declared.Refusal.{Refusal}
 use Rattle.fields.specs.Packing.{wider}
 use Rattle.keys.specs.declared.Kind.{Kind}
 use Rattle.keys.specs.Keys.{is_coarse}
@@ -25,7 +26,7 @@ integrity_in unknown nuc nic kind status type bit8 =
     (integrity_by unknown nuc nic (version_in kind status) type (bits_in kind status bit8))
 
 -- a TYPE wider than its 5 bits is refused, and an ME wider than its 56
-unfoldable pub integrity_of : Kind → ℕ → ℕ → Bool → Integrity
+unfoldable pub integrity_of : Kind → ℕ → ℕ → Bool → Result Integrity Refusal
 integrity_of kind status type bit8 =
-    cond (wider 5 type || wider 56 status) (integrity.Refused Field)
-    (integrity_in integrity.Unknown integrity.Nuc integrity.Nic kind status type bit8)
+    cond (wider 5 type || wider 56 status) (Err Field)
+    (Ok (integrity_in integrity.Unknown integrity.Nuc integrity.Nic kind status type bit8))

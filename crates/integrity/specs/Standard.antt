@@ -1,5 +1,5 @@
 -- RULES 16.2 to 16.4: the version of the standard that an aircraft's messages are of, and its supplements: by its kind, the ME of the status that was last heard, and bit 8 of ME of the latest position message, which is 0 of one from the surface.
-use Rattle.std.specs.Prelude.{ℕ, Bool, true, false, cond, ◌&&◌, eqb}
+use Rattle.std.specs.Prelude.{ℕ, Bool, true, false, cond, ◌&&◌, eqb, Result, Ok, Err}
 use Rattle.refusals.specs.declared.Refusal.TheVariants.{Field}
 use Rattle.fields.specs.Packing.{wider}
 use Rattle.keys.specs.declared.Kind.{Kind}
@@ -10,10 +10,7 @@ use Rattle.layouts.specs.Bodies.{layout_of}
 use Rattle.layouts.specs.Status.{status_of}
 use Rattle.readings.specs.Status.{has_a, has_c, bit_c}
 use Rattle.integrity.specs.declared.standard.Bits.{Bits}
-use Rattle.integrity.specs.declared.standard.Supplements.{Supplements}
-use Rattle.integrity.specs.declared.standard.Supplements.TheVariants as supplements
-use Rattle.integrity.specs.declared.standard.Version.{Version}
-use Rattle.integrity.specs.declared.standard.Version.TheVariants as version
+use Rattle.refusals.specs.declared.Refusal.{Refusal}
 
 -- an ME of another layout is no status, and counts as none heard
 abbrev pub is_status : Layout → Bool
@@ -52,8 +49,8 @@ unfoldable pub bits_in : Kind → ℕ → Bool → Bits
 bits_in kind status bit8 = cond (is_traffic kind) no_bits (status_bits status bit8)
 
 -- an ME wider than its 56 bits is refused
-abbrev pub version_of : Kind → ℕ → Version
-version_of kind status = cond (wider 56 status) (version.Refused Field) (version.Number (version_in kind status))
+abbrev pub version_of : Kind → ℕ → Result ℕ Refusal
+version_of kind status = cond (wider 56 status) (Err Field) (Ok (version_in kind status))
 
-abbrev pub supplements_of : Kind → ℕ → Bool → Supplements
-supplements_of kind status bit8 = cond (wider 56 status) (supplements.Refused Field) (supplements.Bits (bits_in kind status bit8))
+abbrev pub supplements_of : Kind → ℕ → Bool → Result Bits Refusal
+supplements_of kind status bit8 = cond (wider 56 status) (Err Field) (Ok (bits_in kind status bit8))

@@ -9,7 +9,7 @@ ghost use Rattle.integrity.specs.Integrity.{integrity_by, integrity_of};
 
 use keys::Kind;
 use refusals::Refusal;
-pub use standard::{Bits, Supplements, Version, supplements_of, version_of};
+pub use standard::{Bits, supplements_of, version_of};
 
 #[derive(Clone, Copy)]
 pub enum Integrity {
@@ -17,9 +17,9 @@ pub enum Integrity {
     Unknown,
     Nuc(u8),
     Nic(u8),
-    Refused(Refusal),
 }
 
+#[tactic(auto, using(crate::proofs::Rows::by_version))]
 fn integrity_by(version: u8, typecode: u8, s: Bits) -> Integrity
     requires { typecode < 32 }
     ensures { result ≡ integrity_by Integrity.Unknown Integrity.Nuc Integrity.Nic version typecode s }
@@ -40,18 +40,19 @@ fn integrity_by(version: u8, typecode: u8, s: Bits) -> Integrity
 }
 
 // The integrity of an aircraft's latest position message, by its TYPE and, of an airborne one, bit 8 of ME, and by the status ME that was last heard; 0 for what was not heard.
-pub fn integrity_of(kind: Kind, status: u64, typecode: u8, bit8: bool) -> Integrity
+#[tactic(auto, unfolding(crate::specs::Integrity::integrity_of))]
+pub fn integrity_of(kind: Kind, status: u64, typecode: u8, bit8: bool) -> Result<Integrity, Refusal>
     ensures { result ≡ integrity_of kind status typecode bit8 }
 {
     if (32 <= typecode) | (0x100_0000_0000_0000 <= status) {
-        return Integrity::Refused(Refusal::Field);
+        return Err(Refusal::Field);
     }
     if keys::is_coarse(kind) {
-        return Integrity::Unknown;
+        return Ok(Integrity::Unknown);
     }
-    integrity_by(
+    Ok(integrity_by(
         standard::version_in(kind, status),
         typecode,
         standard::bits_in(kind, status, bit8),
-    )
+    ))
 }

@@ -4,13 +4,13 @@ ghost use Rattle.integrity.specs.Code.{nucs, nics, nic1, nic2};
 
 use crate::standard::Bits;
 
-// Entry k is that of TYPE k.
-const NUC: [u8; 32] = [
+// Entry k is that of TYPE k. A `static` is read where it lies: a `const` would be written to the stack at each use.
+static NUC: [u8; 32] = [
     0, 0, 0, 0, 0, 9, 8, 7, 6, 9, 8, 7, 6, 5, 4, 3, 2, 1, 0, 0, 9, 8, 0, 0, 0, 0, 0, 0, 0, 0, 0, 0,
 ];
 
 // Likewise, where no supplement is 1: there versions 1 and 2 are alike.
-const NIC: [u8; 32] = [
+static NIC: [u8; 32] = [
     0, 0, 0, 0, 0, 11, 10, 8, 0, 11, 10, 8, 7, 6, 5, 4, 2, 1, 0, 0, 11, 10, 0, 0, 0, 0, 0, 0, 0, 0,
     0, 0,
 ];
@@ -30,6 +30,7 @@ fn nic(typecode: u8) -> u8
 }
 
 // By supplement A.
+#[tactic(auto, unfolding(crate::specs::Code::nic1))]
 pub(crate) fn nic_1(typecode: u8, s: Bits) -> u8
     requires { typecode < 32 }
     ensures { result ≡ nic1 typecode s }
@@ -44,6 +45,7 @@ pub(crate) fn nic_1(typecode: u8, s: Bits) -> u8
 }
 
 // By A and C on the surface, by A and B in the air; a pair that has no row changes nothing.
+#[tactic(auto, unfolding(crate::specs::Code::nic2))]
 pub(crate) fn nic_2(typecode: u8, s: Bits) -> u8
     requires { typecode < 32 }
     ensures { result ≡ nic2 typecode s }

@@ -6,13 +6,6 @@ use keys::Kind;
 use layouts::Layout;
 use refusals::Refusal;
 
-#[derive(Clone, Copy)]
-pub enum Version {
-    // 0 to 7
-    Number(u8),
-    Refused(Refusal),
-}
-
 // The supplements; one that the version does not have is 0.
 #[derive(Clone, Copy)]
 pub struct Bits {
@@ -21,27 +14,13 @@ pub struct Bits {
     pub c: bool,
 }
 
-#[derive(Clone, Copy)]
-pub enum Supplements {
-    Bits(Bits),
-    Refused(Refusal),
-}
-
 fn is_status(layout: Layout) -> bool
     ensures { result ≡ is_status layout }
 {
-    match layout {
-        Layout::Status => true,
-        Layout::Identification => false,
-        Layout::Surface => false,
-        Layout::Airborne => false,
-        Layout::Ground => false,
-        Layout::Air => false,
-        Layout::Coarse => false,
-        Layout::NotTaken => false,
-    }
+    matches!(layout, Layout::Status)
 }
 
+#[tactic(auto, unfolding(crate::specs::Standard::status_version))]
 fn status_version(status: u64) -> u8
     ensures { result ≡ status_version status }
 {
@@ -52,6 +31,7 @@ fn status_version(status: u64) -> u8
     }
 }
 
+#[tactic(auto, unfolding(crate::specs::Standard::version_in))]
 pub(crate) fn version_in(kind: Kind, status: u64) -> u8
     ensures { result ≡ version_in kind status }
 {
@@ -63,6 +43,7 @@ pub(crate) fn version_in(kind: Kind, status: u64) -> u8
 }
 
 // A of versions 1 and 2; B, bit 8 of a position, and C, bit 20 of a status of subtype 1, of version 2 alone.
+#[tactic(auto, unfolding(crate::specs::Standard::status_bits))]
 fn status_bits(status: u64, bit8: bool) -> Bits
     ensures { result ≡ status_bits status bit8 }
 {
@@ -75,6 +56,7 @@ fn status_bits(status: u64, bit8: bool) -> Bits
     }
 }
 
+#[tactic(auto, unfolding(crate::specs::Standard::bits_in))]
 pub(crate) fn bits_in(kind: Kind, status: u64, bit8: bool) -> Bits
     ensures { result ≡ bits_in kind status bit8 }
 {
@@ -89,21 +71,21 @@ pub(crate) fn bits_in(kind: Kind, status: u64, bit8: bool) -> Bits
 }
 
 // The version, by the kind and the status ME that was last heard, 0 if none was.
-pub fn version_of(kind: Kind, status: u64) -> Version
+pub fn version_of(kind: Kind, status: u64) -> Result<u8, Refusal>
     ensures { result ≡ version_of kind status }
 {
     if 0x100_0000_0000_0000 <= status {
-        return Version::Refused(Refusal::Field);
+        return Err(Refusal::Field);
     }
-    Version::Number(version_in(kind, status))
+    Ok(version_in(kind, status))
 }
 
 // The supplements, by these and bit 8 of ME of the latest airborne position.
-pub fn supplements_of(kind: Kind, status: u64, bit8: bool) -> Supplements
+pub fn supplements_of(kind: Kind, status: u64, bit8: bool) -> Result<Bits, Refusal>
     ensures { result ≡ supplements_of kind status bit8 }
 {
     if 0x100_0000_0000_0000 <= status {
-        return Supplements::Refused(Refusal::Field);
+        return Err(Refusal::Field);
     }
-    Supplements::Bits(bits_in(kind, status, bit8))
+    Ok(bits_in(kind, status, bit8))
 }

@@ -2,7 +2,7 @@
 // A question is a byte with a kind in its low three bits, 1 to 6, and above them of C the flag and the station; one with TYPE, one that is 1 where bit 8 is set, and a status ME of eight bytes.
 #![tactic(auto)]
 
-use integrity::{Integrity, Supplements, Version};
+use integrity::{Bits, Integrity};
 use keys::Kind;
 use refusals::Refusal;
 use std::io::{self, Read};
@@ -11,30 +11,26 @@ fn say_refused(out: &impl Print, r: Refusal) -> io::Result<()> {
     print!(out; "refused {}", refusals::number(r))
 }
 
-fn bit(b: bool) -> u8 {
-    if b { 1 } else { 0 }
-}
-
-fn say_version(out: &impl Print, v: Version) -> io::Result<()> {
+fn say_version(out: &impl Print, v: Result<u8, Refusal>) -> io::Result<()> {
     match v {
-        Version::Number(n) => out.print(n),
-        Version::Refused(r) => say_refused(out, r),
+        Ok(n) => out.print(n),
+        Err(r) => say_refused(out, r),
     }
 }
 
-fn say_supplements(out: &impl Print, s: Supplements) -> io::Result<()> {
+fn say_supplements(out: &impl Print, s: Result<Bits, Refusal>) -> io::Result<()> {
     match s {
-        Supplements::Bits(b) => print!(out; "{} {} {}", bit(b.a), bit(b.b), bit(b.c)),
-        Supplements::Refused(r) => say_refused(out, r),
+        Ok(b) => print!(out; "{} {} {}", u8::from(b.a), u8::from(b.b), u8::from(b.c)),
+        Err(r) => say_refused(out, r),
     }
 }
 
-fn say_integrity(out: &impl Print, i: Integrity) -> io::Result<()> {
+fn say_integrity(out: &impl Print, i: Result<Integrity, Refusal>) -> io::Result<()> {
     match i {
-        Integrity::Unknown => out.print("unknown"),
-        Integrity::Nuc(n) => print!(out; "NUC {n}"),
-        Integrity::Nic(n) => print!(out; "NIC {n}"),
-        Integrity::Refused(r) => say_refused(out, r),
+        Ok(Integrity::Unknown) => out.print("unknown"),
+        Ok(Integrity::Nuc(n)) => print!(out; "NUC {n}"),
+        Ok(Integrity::Nic(n)) => print!(out; "NIC {n}"),
+        Err(r) => say_refused(out, r),
     }
 }
 
@@ -42,7 +38,7 @@ fn kind_of(number: u8) -> Kind {
     if number % 8 == 6 {
         return Kind::C(number / 128, number / 8 % 16);
     }
-    keys::kind_at((number % 8) as u32)
+    keys::kind_at(u32::from(number % 8))
 }
 
 fn answer(out: &impl Print, number: u8, typecode: u8, bit8: bool, status: u64) -> io::Result<()> {

@@ -1,5 +1,6 @@
 -- Both forms of the table: demand 3 of each, and of a run in the one beside a run in the other; and that both answer every call alike, from one set-up on. Each is the law of any two forms, at the bytes and at the slice.
 -- Assumes nothing.
+use Rattle.std.specs.Prelude.{Result, Ok, ⊤}
 use Prim.Native.Nat.{ℕ, ◌^◌, ◌≤◌, ◌<◌}
 use mathlib.Core.Bool.{Bool, true, false, cond}
 use mathlib.Core.Path.{◌≡◌, refl, sym, ap, ◌∙◌, subst}
@@ -9,8 +10,6 @@ use lib.ListN.{length, length-replicate}
 use borrow.Author.Tests.{leb-true}
 use Rattle.fields.proofs.Bools.{each}
 use Rattle.whereabouts.specs.declared.Site.{Site}
-use Rattle.rules.specs.declared.answers.SetUp.{SetUp}
-use Rattle.rules.specs.declared.answers.SetUp.TheVariants.{Done}
 use Rattle.rules.specs.Form.{East}
 use Rattle.rules.specs.Rules as rules
 use Rattle.rules.specs.Agreement.{Agree, Alike, AlikeSet, Call, AlikeRuns}
@@ -29,6 +28,7 @@ use Rattle.slice_table.proofs.Lawful.{slice_lawful}
 use Rattle.isolation.specs.Runs.{Isolation}
 use Rattle.isolation.specs.Twin.{twin_of, begun}
 use Rattle.isolation.proofs.Isolated.{isolation}
+use Rattle.refusals.specs.declared.Refusal.{Refusal}
 
 -- ---- demand 3
 
@@ -67,7 +67,7 @@ begun_is site s = begun_by site s site.known refl
 pub set_up_agrees : (s : List ℕ) (head : Head) (ps : List Place) (site : Site) → East site → whole_places (length s) ≡ places_fit (length ps) → places_in s ≡ length ps
     → AlikeSet bytes slice (begun site s) (tracks.set_up ps head site)
 set_up_agrees s head ps site east size count =
-    subst (λ (b : table.After SetUp). AlikeSet bytes slice b (tracks.set_up ps head site)) (begun_is site s)
+    subst (λ (b : table.After (Result ⊤ Refusal)). AlikeSet bytes slice b (tracks.set_up ps head site)) (begun_is site s)
     (any.set_up_agrees bytes slice bytes_lawful slice_lawful s (slice_of head ps) site east size count)
 
 -- ---- a table in bytes of as many places, and all calls after the set-ups of both
@@ -86,5 +86,5 @@ module _ (head : Head) (ps : List Place) (f : places_fit (length ps) ≡ true) w
   twin_count : places_in (twin_of ps) ≡ length ps
   twin_count = count_of (length ps) (twin_of ps) long
 
-  pub set_up_runs : (site : Site) → East site → (tracks.set_up ps head site).answer ≡ Done → (cs : List Call) → AlikeRuns bytes slice (begun site (twin_of ps)).table (tracks.set_up ps head site).table cs
+  pub set_up_runs : (site : Site) → East site → (tracks.set_up ps head site).answer ≡ Ok tt → (cs : List Call) → AlikeRuns bytes slice (begun site (twin_of ps)).table (tracks.set_up ps head site).table cs
   set_up_runs site east d cs = any.runs_agree bytes slice bytes_lawful slice_lawful _ _ ((set_up_agrees (twin_of ps) head ps site east twin_size twin_count).left d) cs

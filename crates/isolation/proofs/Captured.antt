@@ -1,5 +1,6 @@
 -- A capture's log: the records of its good blocks, end to end, are those of calls that leave what the capture fed leaves. So a line of a listing can be worked out again from its capture. Record by record, then block by block.
 -- Assumes nothing.
+use Rattle.std.specs.Prelude.{Result, Ok}
 use Prim.Native.Nat.{ℕ, zero, suc, ◌+◌, ◌-◌, ◌*◌, ◌/◌, ◌%◌, ◌^◌, ◌≤◌, ◌<◌}
 use native.Mathlib.Omega.{arith}
 use mathlib.Core.Bool.{Bool, true, false, cond}
@@ -19,7 +20,6 @@ use Rattle.capture.proofs.Rules.{good_keeps}
 use Rattle.capture.proofs.Records.{good_at, message_at}
 use Rattle.whereabouts.specs.declared.Site.{Site}
 use Rattle.replay.specs.Replay.{is_log, record_at, is_wide, replayed}
-use Rattle.rules.specs.declared.answers.SetUp.TheVariants.{Done}
 use Rattle.rules.specs.Form.{East}
 use Rattle.rules.specs.Rules as rules
 use Rattle.rules.proofs.Laws.{set_up_table_lem}
@@ -27,13 +27,13 @@ use Rattle.memory.specs.Offsets.{whole_places}
 use Rattle.table.specs.Bytes.{bytes}
 use Rattle.table.specs.Table.{After, received, looked_up}
 use Rattle.table.proofs.Lawful.{bytes_lawful}
-use Rattle.feed.specs.declared.Fed.{Fed}
 use Rattle.feed.specs.Feed.{records_into, block_into, blocks_in, block_at, blocks_into, fed}
 use Rattle.feed.proofs.Ways.{skipped, taken, feed_on}
 use Rattle.isolation.specs.Runs.{Call, NeverFull}
 use Rattle.isolation.specs.Logs.{log_of, left, block_log, blocks_log, capture_log}
 use Rattle.isolation.proofs.Logs.{log_append, left_append, same_log, fewer, one_more, call_at, calls_in, calls_log}
 use Rattle.isolation.proofs.Replayed.{log_length, replays}
+use Rattle.refusals.specs.declared.Refusal.{Refusal}
 
 -- ---- a good block
 
@@ -113,7 +113,7 @@ blocks_left c h (suc k) =
 -- ---- a capture
 
 -- a replay of its log is what the table holds after the capture was fed to it from a set-up. The calls are those that the log is of
-pub capture_replayed : (c : List ℕ) → Bytes c → (kind : Kind) (address : ℕ) (site : Site) → address < 2 ^ 24 → is_wide kind ≡ false → East site → (s : List ℕ) → (rules.set_up bytes s site).answer ≡ Done
+pub capture_replayed : (c : List ℕ) → Bytes c → (kind : Kind) (address : ℕ) (site : Site) → address < 2 ^ 24 → is_wide kind ≡ false → East site → (s : List ℕ) → (rules.set_up bytes s site).answer ≡ Ok tt
     → is_log (length (capture_log c)) ≡ true → (cs : List Call) → log_of cs ≡ capture_log c → NeverFull received (key_for kind address) (rules.set_up bytes s site).table cs
     → replayed (capture_log c) kind address site ≡ looked_up (fed (rules.set_up bytes s site).table c).table (key_for kind address)
 capture_replayed c h kind address site few narrow east s done whole cs logged never =
@@ -123,7 +123,7 @@ capture_replayed c h kind address site few narrow east s done whole cs logged ne
     let most : length cs ≤ 2900 = omega (arith, log_length cs, ap length logged, records) in
     let size : whole_places (length t) ≡ true = (set_up_table_lem bytes bytes_lawful s site east done).table.size in
     let fed-leaves : left received t cs ≡ (fed t c).table =
-    same_log received t cs x.0 (logged ∙ sym x.1.0) ∙ sym (x.1.1 t) ∙ ap (λ (x : After Fed). x.table) (feed_on t c size refl refl) in
+    same_log received t cs x.0 (logged ∙ sym x.1.0) ∙ sym (x.1.1 t) ∙ ap (λ (x : After (Result ℕ Refusal)). x.table) (feed_on t c size refl refl) in
     ap (λ (l : List ℕ). replayed l kind address site) (sym logged)
     ∙ replays bytes bytes_lawful kind address site few narrow east s done cs most never
     ∙ ap (λ (x : List ℕ). looked_up x (key_for kind address)) fed-leaves

@@ -1,8 +1,8 @@
 -- The statement is not empty, its proviso is needed, and three wrong rules break it: two runs of two calls each, computed in the bytes and in the slice.
 -- Assumes nothing.
+use Rattle.std.specs.Prelude.{Result, Ok, Err, Option, Some, None}
 use Prim.Native.Nat.{ℕ, zero, suc, ◌<◌, ◌^◌}
 use mathlib.Core.Bool.{Bool, true, false, ◌&&◌, true≢false}
-use mathlib.Core.Option.{Option, some, none}
 use mathlib.Core.Path.{◌≡◌, refl, ap, sym, ◌∙◌}
 use mathlib.Core.List.{List, [], ◌∷◌}
 use native.Mathlib.Omega.{arith}
@@ -15,8 +15,6 @@ use Rattle.fields.proofs.Bools.{and_left, and_right}
 use Rattle.parity.specs.Division.{remainder_from, reduce}
 use Rattle.parity.specs.Parity.{remainder}
 use Rattle.memory.specs.Offsets.{table_size, whole_places}
-use Rattle.messages.specs.declared.Decoded.{Decoded}
-use Rattle.messages.specs.declared.Decoded.TheVariants as decode
 use Rattle.messages.specs.Message.{opened, kind_of}
 use Rattle.whereabouts.specs.Located.{no_site, read_singly, is_partner, airborne_position, surface_position}
 use Rattle.track.specs.declared.Track.{Track}
@@ -25,7 +23,6 @@ use Rattle.track.specs.Meaning.{meant_groups, meant_position, meant_saved, meant
 use Rattle.memory.specs.Bytes.{number_at, low_bytes, put}
 use Rattle.place.specs.Place.{saved_from, groups_in, lowered, position_in, written_in, track_of, above_pole, marks_of, saved_number, saved_bytes, message_bytes, spot_bytes, body_of}
 use Rattle.memory.specs.Ranges as ranges
-use Rattle.rules.specs.declared.answers.SetUp.TheVariants.{Done}
 use Rattle.rules.specs.Form.{is_held, holds, Form}
 use Rattle.rules.specs.Rules.{set_up, place_of, free_place, delivered, received}
 use Rattle.rules.specs.View.{view_at}
@@ -36,6 +33,8 @@ use Rattle.table.specs.Bytes.{bytes}
 use Rattle.slice_table.specs.Slice.{Slice, slice_of, slice}
 use Rattle.isolation.specs.Runs.{Call, own, Alike, Alike.end, Alike.its, Alike.others, Rule, call, NeverFull, Seen, seen, Isolation}
 use Rattle.isolation.specs.Wrong.{number_in, overwriting, refreshing, kindless}
+use Rattle.messages.specs.declared.Message.{Message}
+use Rattle.refusals.specs.declared.Refusal.{Refusal}
 
 -- ---- ten messages: three of I ABCDEF, the second of TYPE 0 and the third a status, of I 123456, two of O ABCDEF, the second a status, of T ABCDEF, two coarse ones of ABCDEF,
 -- from the stations 3 and 5, and one whose parity is wrong
@@ -134,15 +133,15 @@ refused = at noise refl refl 2000 (omega arith)
 -- ---- when the aircraft was last heard at the end of a run, one up, and the ME of its status; 0 if its track is absent
 
 abbrev heard_in : Option Track → ℕ
-heard_in none = 0
-heard_in (some t) = suc t.heard
+heard_in None = 0
+heard_in (Some t) = suc t.heard
 
 abbrev status_in : Option Track → ℕ
-status_in none = 0
-status_in (some t) = t.groups.status
+status_in None = 0
+status_in (Some t) = t.groups.status
 
 abbrev last_of : List Seen → Option Track
-last_of [] = none
+last_of [] = None
 last_of (x ∷ []) = x.track
 last_of (x ∷ y ∷ r) = last_of (y ∷ r)
 
@@ -169,7 +168,7 @@ noise_not_own = own_calls_lem.6
 alike : (c : Call) → own key c ≡ false → c.time ≡ 2000 → Alike key (first ∷ c ∷ []) (first ∷ refused ∷ [])
 alike c o t = its first own_first (others c refused o noise_not_own (cc) end)
 
-pub not_six : {d : Decoded} {n : ℕ} → number_in d ≡ n → (n ≡ 6 → ⊥) → d ≡ decode.Refused Full → ⊥
+pub not_six : {d : Result Message Refusal} {n : ℕ} → number_in d ≡ n → (n ≡ 6 → ⊥) → d ≡ Err Full → ⊥
 not_six z ne e = ne (sym z ∙ ap number_in e)
 
 -- ---- a form, of which `empty n` is a table of n places
@@ -198,8 +197,8 @@ module _ {S : Type 0} (F : Form S) (empty : ℕ → S) where
 
   -- what is computed of it
   pub record Computed : Type 0 where
-    pub done_1 : (set_up F (empty 1) no_site).answer ≡ Done
-    pub done_2 : (set_up F (empty 2) no_site).answer ≡ Done
+    pub done_1 : (set_up F (empty 1) no_site).answer ≡ Ok tt
+    pub done_2 : (set_up F (empty 2) no_site).answer ≡ Ok tt
     pub held_in_both : (number_to_first (received F) 2 ≡ 0) × (end_of (received F) 2 (first ∷ stranger ∷ []) ≡ 1001) × (end_of (received F) 2 (first ∷ refused ∷ []) ≡ 1001)
     pub one_place : (end_of (received F) 1 (stranger_first ∷ second ∷ []) ≡ 0) × (end_of (received F) 1 (refused_first ∷ second ∷ []) ≡ 2001)
         × (number_after 1 stranger_first second ≡ 6)
@@ -215,7 +214,7 @@ module _ {S : Type 0} (F : Form S) (empty : ℕ → S) where
     pub by_refreshing : (number_to_first (refreshing F) 2 ≡ 0) × (end_of (refreshing F) 2 (first ∷ stranger ∷ []) ≡ 2001) × (end_of (refreshing F) 2 (first ∷ refused ∷ []) ≡ 1001)
     pub by_kindless : (number_to_first (kindless F) 2 ≡ 0) × (end_of (kindless F) 2 (first ∷ other_kind ∷ []) ≡ 2001) × (end_of (kindless F) 2 (first ∷ refused ∷ []) ≡ 1001)
 
-  module _ (rule : Rule S) (n : ℕ) (is-done : (set_up F (empty n) no_site).answer ≡ Done) (accepted : number_to_first rule n ≡ 0) where
+  module _ (rule : Rule S) (n : ℕ) (is-done : (set_up F (empty n) no_site).answer ≡ Ok tt) (accepted : number_to_first rule n ≡ 0) where
     never_full : (c : Call) → own key c ≡ false → NeverFull rule key (ready n) (first ∷ c ∷ [])
     never_full c o = ((λ _ e. absurd (not_six accepted (λ z. omega arith) e)), ((λ p _. absurd (true≢false (sym p ∙ o))), tt))
 
@@ -308,7 +307,7 @@ module _ {S : Type 0} (F : Form S) (empty : ℕ → S) where
     )
 
     -- why 'table full' is excepted: of two newcomers to one place the second is refused
-    pub proviso_needed : ((s : S) (xs ys : List Call) → (set_up F s no_site).answer ≡ Done → Alike key xs ys
+    pub proviso_needed : ((s : S) (xs ys : List Call) → (set_up F s no_site).answer ≡ Ok tt → Alike key xs ys
         → seen F (received F) key (set_up F s no_site).table xs ≡ seen F (received F) key (set_up F s no_site).table ys) → ⊥
     proviso_needed h =
         let z : ◌≡◌ {A = ℕ} 0 2001 =

@@ -1,18 +1,17 @@
 -- Demand 3 of any form: what an aircraft sees of a run is what it would see alone, so two alike runs show it the same. Call by call, by the two laws.
 -- Assumes nothing.
+use Rattle.std.specs.Prelude.{Result, Err, Option, Some, None}
 use Prim.Native.Nat.{ℕ}
 use mathlib.Core.Bool.{Bool, true, false, cond}
-use mathlib.Core.Option.{Option, some, none}
 use mathlib.Core.Path.{◌≡◌, refl, ap, ap₂, sym, ◌∙◌}
 use mathlib.Core.List.{List, [], ◌∷◌}
 use lib.Dec.{ltb}
 use Rattle.refusals.specs.declared.Refusal.TheVariants.{Full}
 use Rattle.messages.specs.declared.Message.{Message}
-use Rattle.messages.specs.declared.Decoded.{Decoded}
-use Rattle.messages.specs.declared.Decoded.TheVariants as decode
 use Rattle.messages.specs.Message.{decoded}
 use Rattle.whereabouts.specs.declared.Site.{Site}
-use Rattle.replay.specs.Alone.{Heard, heard_in, Own, own_after}
+use Rattle.replay.specs.Alone.{Heard, heard_in, own_after}
+use Rattle.replay.specs.declared.Own.{Own}
 use Rattle.replay.proofs.Ways.{with_track}
 use Rattle.rules.specs.Form.{Form, Lawful}
 use Rattle.rules.specs.Rules.{After, set_up, received}
@@ -21,24 +20,25 @@ use Rattle.rules.proofs.Laws.{table_after_lem, site_after, set_up_table_lem}
 use Rattle.isolation.specs.Runs.{Call, own, Alike, Alike.end, Alike.its, Alike.others, call, NeverFull, Seen, saw, seen, Isolation}
 use Rattle.isolation.specs.Alone.{heard_by, heard_of, own_of, answer_to, saw_alone, seen_alone}
 use Rattle.isolation.proofs.Calls.{none_in, other_call, own_call}
+use Rattle.refusals.specs.declared.Refusal.{Refusal}
 
 -- ---- one call
 
-abbrev shown : Option Decoded → Own → Seen
+abbrev shown : Option (Result Message Refusal) → Own → Seen
 shown answer o = record { answer = answer; track = o.track }
 
-module _ {S : Type 0} (F : Form S) (L : Lawful F) (key : ℕ) (s : S) (c : Call) (table : Table F s) (never : own key c ≡ true → (call (received F) s c).answer ≡ decode.Refused Full → ⊥) where
-  abbrev r : After S Decoded
+module _ {S : Type 0} (F : Form S) (L : Lawful F) (key : ℕ) (s : S) (c : Call) (table : Table F s) (never : own key c ≡ true → (call (received F) s c).answer ≡ Err Full → ⊥) where
+  abbrev r : After S (Result Message Refusal)
   r = call (received F) s c
 
   abbrev pub Alone : Type 0
   Alone = (own_of F r.table key ≡ own_after (F.site s) (own_of F s key) (heard_by key c)) × (saw F key c r ≡ saw_alone (F.site s) (own_of F s key) (heard_by key c))
 
-  not_heard : own key c ≡ false → none ≡ answer_to (ltb (heard_by key c).time (F.clock s)) (view F s key) (heard_by key c).time (heard_by key c).message
+  not_heard : own key c ≡ false → None ≡ answer_to (ltb (heard_by key c).time (F.clock s)) (view F s key) (heard_by key c).time (heard_by key c).message
   unfolding own heard_in
   not_heard o = sym (ap (answer_to (ltb c.time (F.clock s)) (view F s key) c.time) (none_in key (decoded c.message) o))
 
-  heard : own key c ≡ true → some r.answer ≡ answer_to (ltb (heard_by key c).time (F.clock s)) (view F s key) (heard_by key c).time (heard_by key c).message
+  heard : own key c ≡ true → Some r.answer ≡ answer_to (ltb (heard_by key c).time (F.clock s)) (view F s key) (heard_by key c).time (heard_by key c).message
   unfolding heard_in
   heard o = (own_call F L key s c table o (never o)).1
 
@@ -46,8 +46,8 @@ module _ {S : Type 0} (F : Form S) (L : Lawful F) (key : ℕ) (s : S) (c : Call)
   one_call = by_owner (own key c) refl
     where
       both : (o : Bool) → own key c ≡ o → own_of F r.table key ≡ own_after (F.site s) (own_of F s key) (heard_by key c)
-          → cond o (some r.answer) none ≡ answer_to (ltb (heard_by key c).time (F.clock s)) (view F s key) (heard_by key c).time (heard_by key c).message → Alone
-      both o e p q = (p, ap₂ shown (ap (λ (b : Bool). cond b (some r.answer) none) e ∙ q) p)
+          → cond o (Some r.answer) None ≡ answer_to (ltb (heard_by key c).time (F.clock s)) (view F s key) (heard_by key c).time (heard_by key c).message → Alone
+      both o e p q = (p, ap₂ shown (ap (λ (b : Bool). cond b (Some r.answer) None) e ∙ q) p)
 
       by_owner : (b : Bool) → own key c ≡ b → Alone
       by_owner true e = both true e (own_call F L key s c table e (never e)).0 (heard e)

@@ -1,5 +1,6 @@
 -- The plain method and the table agree: what a run leaves of an aircraft is what it would see alone, call by call, and the records of a log are heard in the same order.
 -- Assumes nothing.
+use Rattle.std.specs.Prelude.{Result, Ok, ⊤}
 use Prim.Native.Nat.{ℕ, zero, suc, ◌+◌, ◌*◌, ◌/◌, ◌%◌, ◌^◌, ◌≤◌}
 use native.Mathlib.Omega.{arith}
 use mathlib.Core.Bool.{true, false, not, ◌||◌}
@@ -14,12 +15,10 @@ use Rattle.fields.proofs.Bools.{by_test, both}
 use Rattle.fields.proofs.Bytes.{length_bytes, number_bytes}
 use Rattle.keys.specs.Keys.{key_for}
 use Rattle.whereabouts.specs.declared.Site.{Site}
-use Rattle.track.specs.Held.{looked_as}
-use Rattle.replay.specs.Alone.{heard_in, Own, own_after}
+use Rattle.replay.specs.Alone.{heard_in, own_after}
+use Rattle.replay.specs.declared.Own.{Own}
 use Rattle.replay.specs.Replay.{is_log, heard_at, unheard, own_at, sited, bad_site}
 use Rattle.replay.proofs.Ways.{with_track, all_heard}
-use Rattle.rules.specs.declared.answers.SetUp.{SetUp}
-use Rattle.rules.specs.declared.answers.SetUp.TheVariants.{Done}
 use Rattle.rules.specs.Form.{Form, Lawful}
 use Rattle.rules.specs.Rules.{After, set_up, received}
 use Rattle.rules.specs.View.{Table}
@@ -28,6 +27,7 @@ use Rattle.isolation.specs.Runs.{Call, call, NeverFull}
 use Rattle.isolation.specs.Alone.{heard_by, heard_of, own_of, left_alone}
 use Rattle.isolation.specs.Logs.{record_of, log_of, left, Replays}
 use Rattle.isolation.proofs.Isolated.{one_call}
+use Rattle.refusals.specs.declared.Refusal.{Refusal}
 
 -- ---- a run leaves what the aircraft would see alone
 
@@ -80,10 +80,10 @@ module _ (site : Site) (key : ℕ) where
 -- ---- the answer
 
 -- a site with which a set-up is done is not a bad one
-pub done_site : {S : Type 0} (F : Form S) (s : S) (o : Site) → (set_up F s o).answer ≡ Done → bad_site o ≡ false
+pub done_site : {S : Type 0} (F : Form S) (s : S) (o : Site) → (set_up F s o).answer ≡ Ok tt → bad_site o ≡ false
 unfolding set_up
 done_site {S} F s o =
-    let P : After S SetUp → Type 0 = λ (x : After S SetUp). x.answer ≡ Done → bad_site o ≡ false in
+    let P : After S (Result ⊤ Refusal) → Type 0 = λ (x : After S (Result ⊤ Refusal)). x.answer ≡ Ok tt → bad_site o ≡ false in
     by_test P (not (F.whole s)) _ _
     (λ _ a. absurd (not_done a))
     (λ _. by_test P (bad_site o) _ _
@@ -108,4 +108,4 @@ replays {S} F L kind address site few narrow east s done cs most never =
     ∙ ap (own_at (sited site) key unheard (log_of cs)) records in
     sym
     (all_heard (log_of cs) kind address site (sym (log_whole cs most)) refl (sym narrow) (sym (done_site F s site done)) in_range_lem
-    (looked_up_lem F end key (table_left F L key cs (set_up F s site).table fresh.table).size ∙ ap (λ (o : Own). looked_as o.track) alone))
+    (looked_up_lem F end key (table_left F L key cs (set_up F s site).table fresh.table).size ∙ ap (λ (o : Own). Ok o.track) alone))

@@ -1,5 +1,5 @@
 -- RULES 13.3: a run and the log of what it received; and the log in a capture: the records of its good blocks, set end to end.
-use Rattle.std.specs.Prelude.{ℕ, zero, suc, ◌*◌, ◌≤◌, ◌<◌, false, cond, ◌≡◌, List, [], ◌∷◌, ◌++◌, length, take, drop}
+use Rattle.std.specs.Prelude.{ℕ, zero, suc, ◌*◌, ◌≤◌, ◌<◌, false, cond, ◌≡◌, List, [], ◌∷◌, ◌++◌, length, take, drop, Ok}
 use Rattle.refusals.specs.Numbers.{most_records}
 use Rattle.fields.specs.Bytes.{bytes_of}
 use Rattle.keys.specs.Keys.{addresses, key_for}
@@ -7,7 +7,6 @@ use Rattle.keys.specs.declared.Kind.{Kind}
 use Rattle.capture.specs.Block.{count_of, good}
 use Rattle.whereabouts.specs.declared.Site.{Site}
 use Rattle.replay.specs.Replay.{is_wide, replayed}
-use Rattle.rules.specs.declared.answers.SetUp.TheVariants.{Done}
 use Rattle.rules.specs.Form.{Form, East}
 use Rattle.rules.specs.Rules.{set_up, received, looked_up}
 use Rattle.feed.specs.Feed.{blocks_in, block_at}
@@ -33,7 +32,7 @@ left rule s (c ∷ cs) = left rule (call rule s c).table cs
 -- Of any form, whatever the table held before; of an address of 24 bits, a kind whose flag and station fit their bits and at most 2,900 records, since others earn 8 or 14
 abbrev pub Replays : {S : Type 0} → Form S → Type 0
 Replays {S} F =
-    (kind : Kind) (address : ℕ) (site : Site) → address < addresses → is_wide kind ≡ false → East site → (s : S) → (set_up F s site).answer ≡ Done
+    (kind : Kind) (address : ℕ) (site : Site) → address < addresses → is_wide kind ≡ false → East site → (s : S) → (set_up F s site).answer ≡ Ok tt
     → (cs : List Call) → length cs ≤ most_records → NeverFull (received F) (key_for kind address) (set_up F s site).table cs
     → replayed (log_of cs) kind address site ≡ looked_up F (left (received F) (set_up F s site).table cs) (key_for kind address)
 

@@ -1,7 +1,6 @@
 -- RULES 1.5: demand 3 if messages come with stamps, of equal stamps. It is the statement of Runs, read so: what a call has for a time is its stamp, a table goes with the state that its caller keeps
 -- beside it, and a set-up with a fresh one.
-use Rattle.std.specs.Prelude.{ℕ}
-use Rattle.messages.specs.declared.Decoded.{Decoded}
+use Rattle.std.specs.Prelude.{ℕ, Result}
 use Rattle.whereabouts.specs.declared.Site.{Site}
 use Rattle.track.specs.declared.Track.{Track}
 use Rattle.rules.specs.Form.{Form}
@@ -10,6 +9,8 @@ use Rattle.stamps.specs.declared.Stamps.{Stamps}
 use Rattle.stamps.specs.declared.Stamped.{Stamped}
 use Rattle.stamps.specs.Stamps.{fresh, stamped}
 use Rattle.isolation.specs.Runs.{Rule, Isolation}
+use Rattle.messages.specs.declared.Message.{Message}
+use Rattle.refusals.specs.declared.Refusal.{Refusal}
 
 -- a table, and the state beside it
 pub record Kept (S : Type 0) : Type 0 where
@@ -34,7 +35,7 @@ kept {S} F =
     }
 
 -- what a call with a stamp leaves of both
-abbrev pub keeping : {S : Type 0} → After S Stamped → After (Kept S) Decoded
+abbrev pub keeping : {S : Type 0} → After S Stamped → After (Kept S) (Result Message Refusal)
 keeping r = after r.answer.answer (beside r.table r.answer.state)
 
 abbrev pub by_stamp : {S : Type 0} → Form S → Rule (Kept S)

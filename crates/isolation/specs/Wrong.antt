@@ -1,18 +1,18 @@
 -- RULES 1.4: three wrong rules for a call, in any form. Each lets a stranger's message touch an aircraft's track.
-use Rattle.std.specs.Prelude.{ℕ, zero, suc, ◌-◌, cond, eqb}
+use Rattle.std.specs.Prelude.{ℕ, zero, suc, ◌-◌, cond, eqb, Result, Ok, Err}
 use Rattle.refusals.specs.Numbers.{number_of}
-use Rattle.messages.specs.declared.Decoded.{Decoded}
-use Rattle.messages.specs.declared.Decoded.TheVariants as decode
 use Rattle.messages.specs.Message.{decoded, key_of}
 use Rattle.track.specs.Track.{new_track, group_track, stepped}
 use Rattle.rules.specs.Form.{Cell, Form}
 use Rattle.rules.specs.Rules.{After, after, placed, delivered, received}
 use Rattle.isolation.specs.Runs.{Rule}
+use Rattle.messages.specs.declared.Message.{Message}
+use Rattle.refusals.specs.declared.Refusal.{Refusal}
 
 -- the number of an answer, 0 for a message
-abbrev pub number_in : Decoded → ℕ
-number_in (decode.Message m) = 0
-number_in (decode.Refused r) = number_of r
+abbrev pub number_in : Result Message Refusal → ℕ
+number_in (Ok m) = 0
+number_in (Err r) = number_of r
 
 -- where the library answers a number, do something else
 abbrev pub instead_of : {S : Type 0} → Form S → ℕ → Rule S → Rule S
@@ -23,9 +23,9 @@ instead_of F n other s message time =
 
 -- ---- a newcomer to a full table is written over the last place
 
-abbrev pub over_last : {S : Type 0} → Form S → S → Decoded → ℕ → After S Decoded
-over_last F s (decode.Refused r) time = after (decode.Refused r) s
-over_last F s (decode.Message m) time = placed F s (F.count s - 1) (key_of m) (stepped new_track (decode.Message m) (F.site s) time)
+abbrev pub over_last : {S : Type 0} → Form S → S → Result Message Refusal → ℕ → After S (Result Message Refusal)
+over_last F s (Err r) time = after (Err r) s
+over_last F s (Ok m) time = placed F s (F.count s - 1) (key_of m) (stepped new_track (Ok m) (F.site s) time)
 
 abbrev pub overwriting : {S : Type 0} → Form S → Rule S
 overwriting F = instead_of F 6 (λ s message time. over_last F s (decoded message) time)
@@ -45,9 +45,9 @@ refreshing F = instead_of F 0 (λ s message time. after (decoded message) (refre
 
 -- ---- a key without its kind: every other is taken for I
 
-abbrev pub as_i : Decoded → Decoded
-as_i (decode.Refused r) = decode.Refused r
-as_i (decode.Message m) = decode.Message (record { format = 17; control = 0; address = m.address; body = m.body })
+abbrev pub as_i : Result Message Refusal → Result Message Refusal
+as_i (Err r) = Err r
+as_i (Ok m) = Ok (record { format = 17; control = 0; address = m.address; body = m.body })
 
 abbrev pub kindless : {S : Type 0} → Form S → Rule S
 kindless F s message time =

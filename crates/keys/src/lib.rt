@@ -5,7 +5,7 @@ ghost use Rattle.std.specs.Prelude.{◌≡◌};
 ghost use Rattle.keys.specs.Keys.{letter_of, kind_at, is_kind, key_for, kind_in, letter_in, is_traffic, is_coarse, traffic_in, coarse_in, flag_in, station_in, address_in, is_key};
 
 // The kinds in the order of their keys.
-#[derive(Clone, Copy)]
+#[derive(Clone, Copy, Debug, PartialEq, Eq)]
 pub enum Kind {
     I,
     O,
@@ -42,28 +42,14 @@ fn letter_of(kind: Kind) -> u8
 pub fn is_traffic(kind: Kind) -> bool
     ensures { result ≡ is_traffic kind }
 {
-    match kind {
-        Kind::I => false,
-        Kind::O => false,
-        Kind::T => true,
-        Kind::M => true,
-        Kind::N => true,
-        Kind::C(_, _) => true,
-    }
+    matches!(kind, Kind::T | Kind::M | Kind::N | Kind::C(_, _))
 }
 
 // Whether a kind's messages are the coarse ones.
 pub fn is_coarse(kind: Kind) -> bool
     ensures { result ≡ is_coarse kind }
 {
-    match kind {
-        Kind::I => false,
-        Kind::O => false,
-        Kind::T => false,
-        Kind::M => false,
-        Kind::N => false,
-        Kind::C(_, _) => true,
-    }
+    matches!(kind, Kind::C(_, _))
 }
 
 // The key of a kind and an address, which counts by its low 24 bits, as a flag by its lowest and a station by its low 4.
@@ -78,7 +64,7 @@ pub fn key_for(kind: Kind, address: u32) -> u32
         Kind::M => 0x400_0000 + low,
         Kind::N => 0x500_0000 + low,
         Kind::C(flag, station) => {
-            COARSE + 32 * low + 16 * (flag % 2) as u32 + (station % 16) as u32
+            COARSE + 32 * low + 16 * u32::from(flag % 2) + u32::from(station % 16)
         }
     }
 }
@@ -87,26 +73,20 @@ pub fn key_for(kind: Kind, address: u32) -> u32
 pub fn kind_at(number: u32) -> Kind
     ensures { result ≡ kind_at number }
 {
-    if number < 2 {
-        return Kind::I;
+    match number {
+        0 | 1 => Kind::I,
+        2 => Kind::O,
+        3 => Kind::T,
+        4 => Kind::M,
+        _ => Kind::N,
     }
-    if number < 3 {
-        return Kind::O;
-    }
-    if number < 4 {
-        return Kind::T;
-    }
-    if number < 5 {
-        return Kind::M;
-    }
-    Kind::N
 }
 
 // Whether some kind has the number.
 pub fn is_kind(number: u32) -> bool
     ensures { result ≡ is_kind number }
 {
-    (1 <= number) & (number <= 5)
+    matches!(number, 1..=5)
 }
 
 // Whether a key is one of C.
@@ -168,8 +148,5 @@ pub fn address_in(key: u32) -> u32
 pub fn is_key(key: u32) -> bool
     ensures { result ≡ is_key key }
 {
-    if (0x100_0000 <= key) & (key < FINE_END) {
-        return true;
-    }
-    (COARSE <= key) & (key < END)
+    (0x100_0000..FINE_END).contains(&key) || (COARSE..END).contains(&key)
 }

@@ -1,5 +1,6 @@
 -- ME both ways: what is written is read back, and what is read is written back. A TYPE that has one layout has no other.
 -- Assumes nothing.
+use Rattle.std.specs.Prelude.{Result, Ok, Err}
 use Prim.Native.Nat.{ℕ, ◌^◌, ◌<◌, ◌≤◌}
 use mathlib.Core.Path.{◌≡◌, refl, sym, ap, subst, ◌∙◌}
 use mathlib.Core.Bool.{Bool, true, false, cond, ◌&&◌, ◌||◌}
@@ -24,9 +25,6 @@ use Rattle.layouts.specs.declared.bodies.Body.{Body}
 use Rattle.layouts.specs.declared.bodies.Body.TheVariants as body
 use Rattle.layouts.specs.declared.bodies.Layout.{Layout}
 use Rattle.layouts.specs.declared.bodies.Layout.TheVariants as layout
-use Rattle.layouts.specs.declared.bodies.Taken.{Taken}
-use Rattle.layouts.specs.declared.bodies.Taken.TheVariants as read
-use Rattle.layouts.specs.declared.bodies.Written.TheVariants as write
 use Rattle.layouts.proofs.Layouts.{unpacked, back, identification, surface, airborne, ground, air, status, coarse}
 
 -- ---- a body that fits
@@ -100,26 +98,26 @@ nineteen n a b e = eqb-true n 19 (and_left (eqb n 19) a (and_left (eqb n 19 && a
 
 -- ---- what is written is read back
 
-pub read_back : (b : Body) → body_fits b ≡ true → taken_by (body_coarse b) (body_me b) ≡ read.Body b
+pub read_back : (b : Body) → body_fits b ≡ true → taken_by (body_coarse b) (body_me b) ≡ Ok b
 read_back (body.Identification b) e =
     let n : ℕ = body_me (body.Identification b) in
     let f = fitting (body.Identification b) e in
     ap (λ (l : List ℕ). taken_as (layout_at (get_or l 0 0) (me 6 8 n)) n) (unpacked identification b f)
-    ∙ simp (agreeing (body.Identification b) e) (ap (λ x. read.Body (body.Identification x)) (back identification b f))
+    ∙ simp (agreeing (body.Identification b) e) (ap (λ x. Ok (body.Identification x)) (back identification b f))
 read_back (body.Surface b) e =
     let n : ℕ = body_me (body.Surface b) in
     let f = fitting (body.Surface b) e in
     let q = agreeing (body.Surface b) e in
     let h : 5 ≤ b.typecode = from_low 5 8 b.typecode q in
     ap (λ (l : List ℕ). taken_as (layout_at (get_or l 0 0) (me 6 8 n)) n) (unpacked surface b f)
-    ∙ simp (above 1 4 b.typecode h, q) (ap (λ x. read.Body (body.Surface x)) (back surface b f))
+    ∙ simp (above 1 4 b.typecode h, q) (ap (λ x. Ok (body.Surface x)) (back surface b f))
 read_back (body.Airborne b) e =
     let n : ℕ = body_me (body.Airborne b) in
     let f = fitting (body.Airborne b) e in
     let q = agreeing (body.Airborne b) e in
     let h = no_other b.typecode (eqb b.typecode 0) refl q in
     ap (λ (l : List ℕ). taken_as (layout_at (get_or l 0 0) (me 6 8 n)) n) (unpacked airborne b f)
-    ∙ simp (h.0, h.1, q) (ap (λ x. read.Body (body.Airborne x)) (back airborne b f))
+    ∙ simp (h.0, h.1, q) (ap (λ x. Ok (body.Airborne x)) (back airborne b f))
 read_back (body.Ground b) e =
     let n : ℕ = body_me (body.Ground b) in
     let f = fitting (body.Ground b) e in
@@ -127,7 +125,7 @@ read_back (body.Ground b) e =
     let h : b.typecode ≡ 19 = nineteen b.typecode (leb 1 b.subtype) (leb b.subtype 2) q in
     ap (λ (l : List ℕ). taken_as (layout_at (get_or l 0 0) (get_or l 1 0)) n) (unpacked ground b f)
     ∙ ap (λ (t : ℕ). taken_as (layout_at t b.subtype) n) h
-    ∙ simp (ap (λ (t : ℕ). is_ground t b.subtype) (sym h) ∙ q) (ap (λ x. read.Body (body.Ground x)) (back ground b f))
+    ∙ simp (ap (λ (t : ℕ). is_ground t b.subtype) (sym h) ∙ q) (ap (λ x. Ok (body.Ground x)) (back ground b f))
 read_back (body.Air b) e =
     let n : ℕ = body_me (body.Air b) in
     let f = fitting (body.Air b) e in
@@ -136,7 +134,7 @@ read_back (body.Air b) e =
     let r : leb 3 b.subtype && leb b.subtype 4 ≡ true = ap (λ (t : ℕ). is_air t b.subtype) (sym h) ∙ q in
     ap (λ (l : List ℕ). taken_as (layout_at (get_or l 0 0) (get_or l 1 0)) n) (unpacked air b f)
     ∙ ap (λ (t : ℕ). taken_as (layout_at t b.subtype) n) h
-    ∙ simp (above 1 2 b.subtype (from_low 3 4 b.subtype r), r) (ap (λ x. read.Body (body.Air x)) (back air b f))
+    ∙ simp (above 1 2 b.subtype (from_low 3 4 b.subtype r), r) (ap (λ x. Ok (body.Air x)) (back air b f))
 read_back (body.Status b) e =
     let n : ℕ = body_me (body.Status b) in
     let f = fitting (body.Status b) e in
@@ -144,15 +142,15 @@ read_back (body.Status b) e =
     let h : b.typecode ≡ 31 = thirty_one b.typecode (leb b.subtype 1) q in
     ap (λ (l : List ℕ). taken_as (layout_at (get_or l 0 0) (get_or l 1 0)) n) (unpacked status b f)
     ∙ ap (λ (t : ℕ). taken_as (layout_at t b.subtype) n) h
-    ∙ simp (ap (λ (t : ℕ). is_status t b.subtype) (sym h) ∙ q) (ap (λ x. read.Body (body.Status x)) (back status b f))
-read_back (body.Coarse b) e = ap (λ x. read.Body (body.Coarse x)) (back coarse b (fitting (body.Coarse b) e))
+    ∙ simp (ap (λ (t : ℕ). is_status t b.subtype) (sym h) ∙ q) (ap (λ x. Ok (body.Status x)) (back status b f))
+read_back (body.Coarse b) e = ap (λ x. Ok (body.Coarse x)) (back coarse b (fitting (body.Coarse b) e))
 
 -- ---- the layout and the fields, by the bits
 
 -- of what the bits n were read as, in a layout
-abbrev Cut : Layout → ℕ → Taken → Type 0
-Cut l n (read.Body b) = (body_layout b ≡ l) × (body_fields b ≡ unpack (layout_widths l) n)
-Cut l n (read.Refused r) = Unit
+abbrev Cut : Layout → ℕ → Result Body Refusal → Type 0
+Cut l n (Ok b) = (body_layout b ≡ l) × (body_fields b ≡ unpack (layout_widths l) n)
+Cut l n (Err r) = Unit
 
 cut_as : (l : Layout) (n : ℕ) → Cut l n (taken_as l n)
 cut_as layout.Identification n = (refl, refl)
@@ -165,15 +163,15 @@ cut_as layout.Coarse n = (refl, refl)
 cut_as layout.NotTaken n = tt
 
 -- a body has the layout of its bits, and its fields are the bits by the layout's widths
-pub fields_read : (coarse : Bool) (n : ℕ) (b : Body) → taken_by coarse n ≡ read.Body b → (body_layout b ≡ layout_by coarse n) × (body_fields b ≡ unpack (layout_widths (layout_by coarse n)) n)
+pub fields_read : (coarse : Bool) (n : ℕ) (b : Body) → taken_by coarse n ≡ Ok b → (body_layout b ≡ layout_by coarse n) × (body_fields b ≡ unpack (layout_widths (layout_by coarse n)) n)
 fields_read coarse n b e = subst (Cut (layout_by coarse n) n) e (cut_as (layout_by coarse n) n)
 
 -- ---- whether it is coarse, TYPE, the flag and the station, by the bits
 
 -- of what bits were read as
-abbrev Marked : Bool → ℕ → ℕ → ℕ → Taken → Type 0
-Marked coarse type flag station (read.Body b) = (body_coarse b ≡ coarse) × (body_type b ≡ type) × (flag_of b ≡ flag) × (station_of b ≡ station)
-Marked coarse type flag station (read.Refused r) = Unit
+abbrev Marked : Bool → ℕ → ℕ → ℕ → Result Body Refusal → Type 0
+Marked coarse type flag station (Ok b) = (body_coarse b ≡ coarse) × (body_type b ≡ type) × (flag_of b ≡ flag) × (station_of b ≡ station)
+Marked coarse type flag station (Err r) = Unit
 
 marked_as : (coarse : Bool) (n : ℕ) → Marked coarse (type_by coarse n) (flag_in coarse n) (station_in coarse n) (taken_by coarse n)
 marked_as true n = (refl, refl, refl, refl)
@@ -189,8 +187,8 @@ marked_as false n =
     tt
 
 -- a layout's own fields are what the bits say of every layout
-module _ (coarse : Bool) (n : ℕ) (b : Body) (e : taken_by coarse n ≡ read.Body b) where
-  marked : Marked coarse (type_by coarse n) (flag_in coarse n) (station_in coarse n) (read.Body b)
+module _ (coarse : Bool) (n : ℕ) (b : Body) (e : taken_by coarse n ≡ Ok b) where
+  marked : Marked coarse (type_by coarse n) (flag_in coarse n) (station_in coarse n) (Ok b)
   marked = subst (Marked coarse (type_by coarse n) (flag_in coarse n) (station_in coarse n)) e (marked_as coarse n)
 
   -- no TYPE makes a coarse body
@@ -209,9 +207,9 @@ module _ (coarse : Bool) (n : ℕ) (b : Body) (e : taken_by coarse n ≡ read.Bo
 -- ---- what is read is written back
 
 -- of what the bits n were read as: it fits, and its bits are n
-abbrev Good : ℕ → Taken → Type 0
-Good n (read.Body b) = (body_fits b ≡ true) × (body_me b ≡ n)
-Good n (read.Refused r) = Unit
+abbrev Good : ℕ → Result Body Refusal → Type 0
+Good n (Ok b) = (body_fits b ≡ true) × (body_me b ≡ n)
+Good n (Err r) = Unit
 
 module _ (n : ℕ) (h : n < 2 ^ 56) where
   whole : (ws : List ℕ) → total ws ≡ 56 → pack ws (unpack ws n) ≡ n
@@ -229,28 +227,28 @@ module _ (n : ℕ) (h : n < 2 ^ 56) where
       (λ q. (both (unpack_fits status_widths n) q, whole status_widths refl))
       tt
 
-pub read_good : (coarse : Bool) (n : ℕ) (b : Body) → n < 2 ^ 56 → taken_by coarse n ≡ read.Body b → (body_fits b ≡ true) × (body_me b ≡ n)
-read_good coarse n b h e = subst (λ (x : Taken). Good n x) e (good n h coarse)
+pub read_good : (coarse : Bool) (n : ℕ) (b : Body) → n < 2 ^ 56 → taken_by coarse n ≡ Ok b → (body_fits b ≡ true) × (body_me b ≡ n)
+read_good coarse n b h e = subst (λ (x : Result Body Refusal). Good n x) e (good n h coarse)
 
 -- ---- and so of the two public functions
 
 -- what a choice between bits and the refusal says of its test
-pub if_written : (t : Bool) (m n : ℕ) → cond t (write.Me m) (write.Refused Field) ≡ write.Me n → (t ≡ true) × (m ≡ n)
+pub if_written : (t : Bool) (m n : ℕ) → cond t (Ok m) (Err Field) ≡ Ok n → (t ≡ true) × (m ≡ n)
 if_written true m n e = (refl, cc)
 if_written false m n e = let z : ◌≡◌ {A = ℕ} 0 1 = cc in let f : ⊥ = omega arith in absurd f
 
-pub if_refused : (t : Bool) (m : ℕ) (r : Refusal) → cond t (write.Me m) (write.Refused Field) ≡ write.Refused r → (t ≡ false) × (r ≡ Field)
+pub if_refused : (t : Bool) (m : ℕ) (r : Refusal) → cond t (Ok m) (Err Field) ≡ Err r → (t ≡ false) × (r ≡ Field)
 if_refused true m r e = let z : ◌≡◌ {A = ℕ} 0 1 = cc in let f : ⊥ = omega arith in absurd f
 if_refused false m r e = (refl, cc)
 
-pub written_read : (n : ℕ) (b : Body) → written b ≡ write.Me n → taken_by (body_coarse b) n ≡ read.Body b
+pub written_read : (n : ℕ) (b : Body) → written b ≡ Ok n → taken_by (body_coarse b) n ≡ Ok b
 written_read n b e =
     let g = if_written (body_fits b) (body_me b) n e in
     ap (taken_by (body_coarse b)) (sym g.1) ∙ read_back b g.0
 
-pub read_written : (coarse : Bool) (n : ℕ) (b : Body) → n < 2 ^ 56 → taken_by coarse n ≡ read.Body b → written b ≡ write.Me n
-read_written coarse n b h e = let g = read_good coarse n b h e in rw g.0 (ap write.Me g.1)
+pub read_written : (coarse : Bool) (n : ℕ) (b : Body) → n < 2 ^ 56 → taken_by coarse n ≡ Ok b → written b ≡ Ok n
+read_written coarse n b h e = let g = read_good coarse n b h e in rw g.0 (ap Ok g.1)
 
 -- so no bit is dropped: MEs that say the same are the same
-pub every_bit : (coarse coarse' : Bool) (m n : ℕ) (b : Body) → m < 2 ^ 56 → n < 2 ^ 56 → taken_by coarse m ≡ read.Body b → taken_by coarse' n ≡ read.Body b → m ≡ n
+pub every_bit : (coarse coarse' : Bool) (m n : ℕ) (b : Body) → m < 2 ^ 56 → n < 2 ^ 56 → taken_by coarse m ≡ Ok b → taken_by coarse' n ≡ Ok b → m ≡ n
 every_bit coarse coarse' m n b hm hn em en = sym (read_good coarse m b hm em).1 ∙ (read_good coarse' n b hn en).1

@@ -1,6 +1,7 @@
 -- What the contracts of `body_by` and `me_of` promise in the rules' terms: whatever meets the one says 5, or the layout and the values of all fields, and whatever meets the other 8, or the 56 bits.
 -- By the layouts, and by the test.
 -- Assumes nothing.
+use Rattle.std.specs.Prelude.{Ok, Err}
 use Prim.Native.Nat.{ℕ}
 use mathlib.Core.Path.{◌≡◌, refl, ap, ◌∙◌}
 use mathlib.Core.Bool.{Bool, true, false, cond, not}
@@ -14,7 +15,6 @@ use Rattle.layouts.specs.Bodies.{layout_by, is_taken, layout_widths, taken_as, b
 use Rattle.layouts.specs.Said.{values, taken_said, written_said, me_table, body_table}
 use Rattle.layouts.specs.declared.bodies.Layout.{Layout}
 use Rattle.layouts.specs.declared.bodies.Layout.TheVariants as layout
-use Rattle.layouts.specs.declared.bodies.Written.TheVariants as write
 use Rattle.layouts.proofs.bodies.body_by.Kinds as body-by-kinds
 use Rattle.layouts.proofs.bodies.body_by.Reads as body-by
 use Rattle.layouts.proofs.bodies.me_of.Kinds as me-of-kinds
@@ -35,7 +35,7 @@ pub body_by_promised : (κs : Lfts 0) (args : Dens κs body-by-kinds.ps) (x : (r
     (left : AtExit (ended_of 0 body-by-kinds.ps body-by-kinds.r) κs) → body-by.Post κs args x left → taken_said x ≡ me_table args.0 args.1.0
 body_by_promised κs args x left p = ap taken_said p ∙ layout_says (layout_by args.0 args.1.0) args.1.0
 
-bits_said : (t : Bool) (n : ℕ) → written_said (cond t (write.Me n) (write.Refused Field)) ≡ cond (not t) (number 8) (gives n)
+bits_said : (t : Bool) (n : ℕ) → written_said (cond t (Ok n) (Err Field)) ≡ cond (not t) (number 8) (gives n)
 bits_said true n = refl
 bits_said false n = refl
 

@@ -1,19 +1,16 @@
 -- RULES 2.4, 2.11 and 2.12: ME as a whole: its layout, by TYPE and subtype or that of a coarse message, or the refusal.
-use Rattle.std.specs.Prelude.{ℕ, List, [], Bool, true, false, cond, ◌&&◌}
+use Rattle.std.specs.Prelude.{ℕ, List, [], Bool, true, false, cond, ◌&&◌, Result, Ok, Err}
 use Rattle.refusals.specs.declared.Refusal.TheVariants.{TypeCode, Field}
 use Rattle.fields.specs.Packing.{pack, fits, me}
 use Rattle.layouts.specs.declared.bodies.Body.{Body}
 use Rattle.layouts.specs.declared.bodies.Body.TheVariants as body
 use Rattle.layouts.specs.declared.bodies.Layout.{Layout}
 use Rattle.layouts.specs.declared.bodies.Layout.TheVariants as layout
-use Rattle.layouts.specs.declared.bodies.Taken.{Taken}
-use Rattle.layouts.specs.declared.bodies.Taken.TheVariants as read
-use Rattle.layouts.specs.declared.bodies.Written.{Written}
-use Rattle.layouts.specs.declared.bodies.Written.TheVariants as write
 use Rattle.layouts.specs.Coarse.{coarse_of, coarse_fields, coarse_widths}
 use Rattle.layouts.specs.Layouts.{is_identification, is_surface, is_airborne, identification_of, surface_of, airborne_of, identification_fields, surface_fields, airborne_fields, identification_widths, surface_widths, airborne_widths}
 use Rattle.layouts.specs.Status.{is_status, status_of, status_fields, status_widths}
 use Rattle.layouts.specs.Velocity.{is_ground, is_air, ground_of, air_of, ground_fields, air_fields, velocity_widths}
+use Rattle.refusals.specs.declared.Refusal.{Refusal}
 
 -- RULES 2.4 and 17.2: by TYPE and subtype; any other is not taken
 abbrev pub layout_at : ℕ → ℕ → Layout
@@ -52,17 +49,17 @@ is_taken layout.Coarse = true
 is_taken layout.NotTaken = false
 
 -- what the bits say in a layout
-abbrev pub taken_as : Layout → ℕ → Taken
-taken_as layout.Identification n = read.Body (body.Identification (identification_of n))
-taken_as layout.Surface n = read.Body (body.Surface (surface_of n))
-taken_as layout.Airborne n = read.Body (body.Airborne (airborne_of n))
-taken_as layout.Ground n = read.Body (body.Ground (ground_of n))
-taken_as layout.Air n = read.Body (body.Air (air_of n))
-taken_as layout.Status n = read.Body (body.Status (status_of n))
-taken_as layout.Coarse n = read.Body (body.Coarse (coarse_of n))
-taken_as layout.NotTaken n = read.Refused TypeCode
+abbrev pub taken_as : Layout → ℕ → Result Body Refusal
+taken_as layout.Identification n = Ok (body.Identification (identification_of n))
+taken_as layout.Surface n = Ok (body.Surface (surface_of n))
+taken_as layout.Airborne n = Ok (body.Airborne (airborne_of n))
+taken_as layout.Ground n = Ok (body.Ground (ground_of n))
+taken_as layout.Air n = Ok (body.Air (air_of n))
+taken_as layout.Status n = Ok (body.Status (status_of n))
+taken_as layout.Coarse n = Ok (body.Coarse (coarse_of n))
+taken_as layout.NotTaken n = Err TypeCode
 
-abbrev pub taken_by : Bool → ℕ → Taken
+abbrev pub taken_by : Bool → ℕ → Result Body Refusal
 taken_by coarse n = taken_as (layout_by coarse n) n
 
 -- RULES 2.12 and 17.4: the flag that tells the address of a traffic service's message, as source 002 has it: a bit of its own of a coarse message, on the surface, in the air and of a velocity. Identification and status have none, which counts as 0
@@ -172,5 +169,5 @@ abbrev pub body_fits : Body → Bool
 body_fits b = fits (body_widths b) (body_fields b) && type_agrees b
 
 -- the 56 bits; fields wider than their bits, or with a TYPE or subtype of another layout, are refused
-abbrev pub written : Body → Written
-written b = cond (body_fits b) (write.Me (body_me b)) (write.Refused Field)
+abbrev pub written : Body → Result ℕ Refusal
+written b = cond (body_fits b) (Ok (body_me b)) (Err Field)

@@ -27,7 +27,8 @@ position_widths = 1 ∷ 12 ∷ 12 ∷ []
 abbrev pub coarse_widths : List ℕ
 coarse_widths = 1 ∷ 2 ∷ 4 ∷ 12 ∷ 1 ∷ 5 ∷ 6 ∷ position_widths
 
+abbrev pub position_fields : Coarse → List ℕ
+position_fields b = b.f ∷ b.latitude.0 ∷ b.longitude.0 ∷ []
+
 abbrev pub coarse_fields : Coarse → List ℕ
-coarse_fields b =
-    b.flag ∷ b.surveillance ∷ b.station ∷ b.altitude ∷ b.status ∷
-    b.angle ∷ b.speed ∷ b.f ∷ b.latitude.0 ∷ b.longitude.0 ∷ []
+coarse_fields b = b.flag ∷ b.surveillance ∷ b.station ∷ b.altitude ∷ b.status ∷ b.angle ∷ b.speed ∷ position_fields b

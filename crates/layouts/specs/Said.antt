@@ -1,16 +1,13 @@
 -- RULES 19.3: what the answers say in the rules' terms: a number, or values. Those of ME are its layout with the values of all fields in the order of their bits; Ground and Air have fields of the same widths,
 -- and only the layout tells them apart.
-use Rattle.std.specs.Prelude.{ℕ, List, Bool, cond, not}
+use Rattle.std.specs.Prelude.{ℕ, List, Bool, cond, not, Result, Ok, Err}
 use Rattle.refusals.specs.Numbers.{number_of}
 use Rattle.refusals.specs.Said.{Said, number, gives}
 use Rattle.fields.specs.Packing.{unpack}
 use Rattle.layouts.specs.Bodies.{layout_by, is_taken, layout_widths, body_layout, body_fields, body_me, body_fits}
 use Rattle.layouts.specs.declared.bodies.Body.{Body}
 use Rattle.layouts.specs.declared.bodies.Layout.{Layout}
-use Rattle.layouts.specs.declared.bodies.Taken.{Taken}
-use Rattle.layouts.specs.declared.bodies.Taken.TheVariants as read
-use Rattle.layouts.specs.declared.bodies.Written.{Written}
-use Rattle.layouts.specs.declared.bodies.Written.TheVariants as write
+use Rattle.refusals.specs.declared.Refusal.{Refusal}
 
 pub record Values : Type 0 where
   pub layout : Layout
@@ -20,14 +17,14 @@ abbrev pub values : Layout → List ℕ → Values
 values l v = record { layout = l; fields = v }
 
 -- what ME says
-abbrev pub taken_said : Taken → Said Values
-taken_said (read.Body b) = gives (values (body_layout b) (body_fields b))
-taken_said (read.Refused r) = number (number_of r)
+abbrev pub taken_said : Result Body Refusal → Said Values
+taken_said (Ok b) = gives (values (body_layout b) (body_fields b))
+taken_said (Err r) = number (number_of r)
 
 -- the 56 bits of a body
-abbrev pub written_said : Written → Said ℕ
-written_said (write.Me n) = gives n
-written_said (write.Refused r) = number (number_of r)
+abbrev pub written_said : Result ℕ Refusal → Said ℕ
+written_said (Ok n) = gives n
+written_said (Err r) = number (number_of r)
 
 -- ---- what is due
 

@@ -38,7 +38,9 @@ end_widths = 3 ∷ 1 ∷ 4 ∷ 2 ∷ 2 ∷ 1 ∷ 1 ∷ 2 ∷ []
 abbrev pub status_widths : List ℕ
 status_widths = 5 ∷ 3 ∷ 11 ∷ 1 ∷ 4 ∷ 16 ∷ end_widths
 
+abbrev pub end_fields : Status → List ℕ
+end_fields b =
+    b.version ∷ b.supplementa ∷ b.nacp ∷ b.bits49 ∷ b.sil ∷ b.bit53 ∷ b.bit54 ∷ b.bits55 ∷ []
+
 abbrev pub status_fields : Status → List ℕ
-status_fields b =
-    b.typecode ∷ b.subtype ∷ b.class ∷ b.bit20 ∷ b.width ∷ b.mode ∷ b.version ∷ b.supplementa ∷
-    b.nacp ∷ b.bits49 ∷ b.sil ∷ b.bit53 ∷ b.bit54 ∷ b.bits55 ∷ []
+status_fields b = b.typecode ∷ b.subtype ∷ b.class ∷ b.bit20 ∷ b.width ∷ b.mode ∷ end_fields b

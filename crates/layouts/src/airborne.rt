@@ -29,7 +29,7 @@ pub fn airborne_of(me: u64) -> Airborne
         t: (me / 0x8_0000_0000 % 2) as u8,
         f: (me / 0x4_0000_0000 % 2) as u8,
         latitude: LatitudeCount((me / 0x2_0000 % 0x2_0000) as u32),
-        longitude: LongitudeCount((me / 1 % 0x2_0000) as u32),
+        longitude: LongitudeCount((me % 0x2_0000) as u32),
     }
 }
 
@@ -50,8 +50,7 @@ pub(crate) fn airborne_me(b: Airborne) -> u64
 pub fn airborne_fits(b: Airborne) -> bool
     ensures { result ≡ (fits airborne_widths (airborne_fields b) && is_airborne b.typecode) }
 {
-    let t = b.typecode;
-    (t < 32)
+    (b.typecode < 32)
         & (b.surveillance < 4)
         & (b.bit8 < 2)
         & (b.altitude < 4096)
@@ -59,5 +58,5 @@ pub fn airborne_fits(b: Airborne) -> bool
         & (b.f < 2)
         & (b.latitude.0 < 0x2_0000)
         & (b.longitude.0 < 0x2_0000)
-        & ((t == 0) | (((9 <= t) & (t <= 18)) | ((20 <= t) & (t <= 22))))
+        & matches!(b.typecode, 0 | 9..=18 | 20..=22)
 }

@@ -13,6 +13,7 @@ use crate::surface::{Surface, surface_fits, surface_me, surface_of};
 use crate::velocity::{Air, Ground, air_fits, air_me, air_of, ground_fits, ground_me, ground_of};
 use refusals::Refusal;
 
+// No trait gives the layouts their functions: `airborne_of_once`, `airborne_fits_once` and the like are theorems of these functions by name.
 #[derive(Clone, Copy)]
 pub enum Body {
     Identification(Identification),
@@ -28,20 +29,8 @@ pub enum Body {
     Coarse(Coarse),
 }
 
-#[derive(Clone, Copy)]
-pub enum Taken {
-    Body(Body),
-    Refused(Refusal),
-}
-
-#[derive(Clone, Copy)]
-pub enum Written {
-    // 56 bits
-    Me(u64),
-    Refused(Refusal),
-}
-
 // Which layout ME has: the two of TYPE 19 and the one of TYPE 31 by their subtypes, and a coarse message's by no TYPE.
+// `NotTaken` is a case and this no Option: tables with a row for each case match on it, and an Option would nest each match.
 #[derive(Clone, Copy)]
 pub enum Layout {
     Identification,
@@ -59,19 +48,20 @@ pub fn layout_of(me: u64) -> Layout
 {
     let t = me / 0x8_0000_0000_0000 % 32;
     let s = me / 0x1_0000_0000_0000 % 8;
-    if (1 <= t) & (t <= 4) {
+    // One `match` would be a jump by a table, which takes longer than these tests on a feed's mix of TYPEs.
+    if matches!(t, 1..=4) {
         return Layout::Identification;
     }
-    if (5 <= t) & (t <= 8) {
+    if matches!(t, 5..=8) {
         return Layout::Surface;
     }
-    if (t == 0) | (((9 <= t) & (t <= 18)) | ((20 <= t) & (t <= 22))) {
+    if matches!(t, 0 | 9..=18 | 20..=22) {
         return Layout::Airborne;
     }
-    if (t == 19) & (1 <= s) & (s <= 2) {
+    if (t == 19) & matches!(s, 1..=2) {
         return Layout::Ground;
     }
-    if (t == 19) & (3 <= s) & (s <= 4) {
+    if (t == 19) & matches!(s, 3..=4) {
         return Layout::Air;
     }
     if (t == 31) & (s <= 1) {
@@ -94,16 +84,7 @@ pub fn layout_by(coarse: bool, me: u64) -> Layout
 pub fn is_layout(layout: Layout) -> bool
     ensures { result ≡ is_taken layout }
 {
-    match layout {
-        Layout::Identification => true,
-        Layout::Surface => true,
-        Layout::Airborne => true,
-        Layout::Ground => true,
-        Layout::Air => true,
-        Layout::Status => true,
-        Layout::Coarse => true,
-        Layout::NotTaken => false,
-    }
+    !matches!(layout, Layout::NotTaken)
 }
 
 // Whether ME has a layout, so that it does not earn 5. Every message is asked this: by its TYPE alone it costs less than by its layout.
@@ -138,24 +119,19 @@ pub fn type_by(coarse: bool, me: u64) -> u8
 pub fn is_position(typecode: u8) -> bool
     ensures { result ≡ is_position typecode }
 {
-    let t = typecode;
-    ((5 <= t) & (t <= 8)) | (((9 <= t) & (t <= 18)) | ((20 <= t) & (t <= 22)))
+    matches!(typecode, 5..=18 | 20..=22)
 }
 
 // The flag that tells the address of a traffic service's message, by ME's bit 1, 21, 8 or 9.
 pub fn flag_in(coarse: bool, me: u64) -> u8
     ensures { result ≡ flag_in coarse me }
 {
-    let layout = layout_by(coarse, me);
-    match layout {
-        Layout::Identification => 0,
+    match layout_by(coarse, me) {
         Layout::Surface => (me / 0x8_0000_0000 % 2) as u8,
         Layout::Airborne => (me / 0x1_0000_0000_0000 % 2) as u8,
-        Layout::Ground => (me / 0x8000_0000_0000 % 2) as u8,
-        Layout::Air => (me / 0x8000_0000_0000 % 2) as u8,
-        Layout::Status => 0,
+        Layout::Ground | Layout::Air => (me / 0x8000_0000_0000 % 2) as u8,
         Layout::Coarse => (me / 0x80_0000_0000_0000 % 2) as u8,
-        Layout::NotTaken => 0,
+        Layout::Identification | Layout::Status | Layout::NotTaken => 0,
     }
 }
 
@@ -170,19 +146,18 @@ pub fn station_in(coarse: bool, me: u64) -> u8
 }
 
 // What the 56 bits of ME say. What a number has above them is not read.
-pub fn body_by(coarse: bool, me: u64) -> Taken
+pub fn body_by(coarse: bool, me: u64) -> Result<Body, Refusal>
     ensures { result ≡ taken_by coarse me }
 {
-    let layout = layout_by(coarse, me);
-    match layout {
-        Layout::Identification => Taken::Body(Body::Identification(identification_of(me))),
-        Layout::Surface => Taken::Body(Body::Surface(surface_of(me))),
-        Layout::Airborne => Taken::Body(Body::Airborne(airborne_of(me))),
-        Layout::Ground => Taken::Body(Body::Ground(ground_of(me))),
-        Layout::Air => Taken::Body(Body::Air(air_of(me))),
-        Layout::Status => Taken::Body(Body::Status(status_of(me))),
-        Layout::Coarse => Taken::Body(Body::Coarse(coarse_of(me))),
-        Layout::NotTaken => Taken::Refused(Refusal::TypeCode),
+    match layout_by(coarse, me) {
+        Layout::Identification => Ok(Body::Identification(identification_of(me))),
+        Layout::Surface => Ok(Body::Surface(surface_of(me))),
+        Layout::Airborne => Ok(Body::Airborne(airborne_of(me))),
+        Layout::Ground => Ok(Body::Ground(ground_of(me))),
+        Layout::Air => Ok(Body::Air(air_of(me))),
+        Layout::Status => Ok(Body::Status(status_of(me))),
+        Layout::Coarse => Ok(Body::Coarse(coarse_of(me))),
+        Layout::NotTaken => Err(Refusal::TypeCode),
     }
 }
 
@@ -190,15 +165,7 @@ pub fn body_by(coarse: bool, me: u64) -> Taken
 pub fn is_coarse(b: Body) -> bool
     ensures { result ≡ body_coarse b }
 {
-    match b {
-        Body::Identification(_) => false,
-        Body::Surface(_) => false,
-        Body::Airborne(_) => false,
-        Body::Ground(_) => false,
-        Body::Air(_) => false,
-        Body::Status(_) => false,
-        Body::Coarse(_) => true,
-    }
+    matches!(b, Body::Coarse(_))
 }
 
 // TYPE.
@@ -221,13 +188,12 @@ pub fn flag_of(b: Body) -> u8
     ensures { result ≡ flag_of b }
 {
     match b {
-        Body::Identification(_) => 0,
         Body::Surface(x) => x.t,
         Body::Airborne(x) => x.bit8,
         Body::Ground(x) => x.bit9,
         Body::Air(x) => x.bit9,
-        Body::Status(_) => 0,
         Body::Coarse(x) => x.flag,
+        Body::Identification(_) | Body::Status(_) => 0,
     }
 }
 
@@ -235,15 +201,10 @@ pub fn flag_of(b: Body) -> u8
 pub fn station_of(b: Body) -> u8
     ensures { result ≡ station_of b }
 {
-    match b {
-        Body::Identification(_) => 0,
-        Body::Surface(_) => 0,
-        Body::Airborne(_) => 0,
-        Body::Ground(_) => 0,
-        Body::Air(_) => 0,
-        Body::Status(_) => 0,
-        Body::Coarse(x) => x.station,
-    }
+    let Body::Coarse(x) = b else {
+        return 0;
+    };
+    x.station
 }
 
 // Whether each field fits its bits and the TYPE and subtype are those of the layout.
@@ -278,12 +239,11 @@ fn body_me(b: Body) -> u64
 }
 
 // The 56 bits that say it.
-pub fn me_of(b: Body) -> Written
+pub fn me_of(b: Body) -> Result<u64, Refusal>
     ensures { result ≡ written b }
 {
-    if body_fits(b) {
-        Written::Me(body_me(b))
-    } else {
-        Written::Refused(Refusal::Field)
+    if !body_fits(b) {
+        return Err(Refusal::Field);
     }
+    Ok(body_me(b))
 }

@@ -1,7 +1,7 @@
 // A coarse traffic message, DF 18 with CF 3: a position, an altitude and a velocity in one ME without a TYPE.
-ghost use Rattle.std.specs.Prelude.{◌≡◌, ◌<◌, ◌^◌, [], ◌∷◌};
+ghost use Rattle.std.specs.Prelude.{◌≡◌, ◌<◌, ◌^◌};
 ghost use Rattle.fields.specs.Packing.{pack, fits};
-ghost use Rattle.layouts.specs.Coarse.{coarse_of, coarse_fields, position_widths, coarse_widths};
+ghost use Rattle.layouts.specs.Coarse.{coarse_of, coarse_fields, position_fields, position_widths, coarse_widths};
 
 use counts::{LatitudeCount, LongitudeCount};
 
@@ -37,21 +37,20 @@ pub fn coarse_of(me: u64) -> Coarse
         speed: (me / 0x200_0000 % 64) as u8,
         f: (me / 0x100_0000 % 2) as u8,
         latitude: LatitudeCount((me / 4096 % 4096) as u32),
-        longitude: LongitudeCount((me / 1 % 4096) as u32),
+        longitude: LongitudeCount((me % 4096) as u32),
     }
 }
 
 // The bits from F on.
-fn position_me(f: u8, latitude: u32, longitude: u32) -> u64
-    ensures { (result ≡ pack position_widths (f ∷ latitude ∷ longitude ∷ [])) × (result < 2 ^ 45) }
+fn position_me(b: Coarse) -> u64
+    ensures { (result ≡ pack position_widths (position_fields b)) × (result < 2 ^ 45) }
 {
-    (f as u64) * 0x100_0000 + (latitude as u64) * 4096 + (longitude as u64)
+    (b.f as u64) * 0x100_0000 + (b.latitude.0 as u64) * 4096 + (b.longitude.0 as u64)
 }
 
 pub(crate) fn coarse_me(b: Coarse) -> u64
     ensures { result ≡ pack coarse_widths (coarse_fields b) }
 {
-    let position = position_me(b.f, b.latitude.0, b.longitude.0);
     (b.flag as u64) * 0x80_0000_0000_0000
         + (b.surveillance as u64) * 0x20_0000_0000_0000
         + (b.station as u64) * 0x2_0000_0000_0000
@@ -59,7 +58,7 @@ pub(crate) fn coarse_me(b: Coarse) -> u64
         + (b.status as u64) * 0x10_0000_0000
         + (b.angle as u64) * 0x8000_0000
         + (b.speed as u64) * 0x200_0000
-        + position
+        + position_me(b)
 }
 
 // Whether each field fits its bits.

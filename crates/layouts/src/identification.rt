@@ -17,7 +17,7 @@ pub fn identification_of(me: u64) -> Identification
     Identification {
         typecode: (me / 0x8_0000_0000_0000 % 32) as u8,
         category: (me / 0x1_0000_0000_0000 % 8) as u8,
-        characters: me / 1 % 0x1_0000_0000_0000,
+        characters: me % 0x1_0000_0000_0000,
     }
 }
 

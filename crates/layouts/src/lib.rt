@@ -11,8 +11,8 @@ mod velocity;
 
 pub use airborne::{Airborne, airborne_fits, airborne_of};
 pub use bodies::{
-    Body, Layout, Taken, Written, body_by, flag_in, flag_of, is_coarse, is_layout, is_position,
-    is_taken, layout_by, layout_of, me_of, station_in, station_of, type_by, type_of,
+    Body, Layout, body_by, flag_in, flag_of, is_coarse, is_layout, is_position, is_taken,
+    layout_by, layout_of, me_of, station_in, station_of, type_by, type_of,
 };
 pub use coarse::{Coarse, coarse_fits, coarse_of};
 pub use identification::{Identification, identification_fits, identification_of};

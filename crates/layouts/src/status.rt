@@ -1,7 +1,7 @@
 // Operational status: TYPE 31, subtype 0 in the air and 1 on the surface.
-ghost use Rattle.std.specs.Prelude.{◌≡◌, ◌<◌, ◌^◌, ◌&&◌, [], ◌∷◌};
+ghost use Rattle.std.specs.Prelude.{◌≡◌, ◌<◌, ◌^◌, ◌&&◌};
 ghost use Rattle.fields.specs.Packing.{pack, fits};
-ghost use Rattle.layouts.specs.Status.{status_of, end_widths, status_fields, status_widths, is_status};
+ghost use Rattle.layouts.specs.Status.{status_of, end_fields, end_widths, status_fields, status_widths, is_status};
 
 #[derive(Clone, Copy)]
 pub struct Status {
@@ -43,53 +43,34 @@ pub fn status_of(me: u64) -> Status
         sil: (me / 16 % 4) as u8,
         bit53: (me / 8 % 2) as u8,
         bit54: (me / 4 % 2) as u8,
-        bits55: (me / 1 % 4) as u8,
+        bits55: (me % 4) as u8,
     }
 }
 
 // The bits from the version on.
-fn end_me(
-    version: u8,
-    supplementa: u8,
-    nacp: u8,
-    bits49: u8,
-    sil: u8,
-    bit53: u8,
-    bit54: u8,
-    bits55: u8,
-) -> u64
-    ensures { (result ≡ pack end_widths (version ∷ supplementa ∷ nacp ∷ bits49 ∷ sil ∷ bit53 ∷ bit54 ∷ bits55 ∷ [])) × (result < 2 ^ 32) }
+fn end_me(b: Status) -> u64
+    ensures { (result ≡ pack end_widths (end_fields b)) × (result < 2 ^ 32) }
 {
-    (version as u64) * 0x2000
-        + (supplementa as u64) * 0x1000
-        + (nacp as u64) * 256
-        + (bits49 as u64) * 64
-        + (sil as u64) * 16
-        + (bit53 as u64) * 8
-        + (bit54 as u64) * 4
-        + (bits55 as u64)
+    (b.version as u64) * 0x2000
+        + (b.supplementa as u64) * 0x1000
+        + (b.nacp as u64) * 256
+        + (b.bits49 as u64) * 64
+        + (b.sil as u64) * 16
+        + (b.bit53 as u64) * 8
+        + (b.bit54 as u64) * 4
+        + (b.bits55 as u64)
 }
 
 pub(crate) fn status_me(b: Status) -> u64
     ensures { result ≡ pack status_widths (status_fields b) }
 {
-    let end = end_me(
-        b.version,
-        b.supplementa,
-        b.nacp,
-        b.bits49,
-        b.sil,
-        b.bit53,
-        b.bit54,
-        b.bits55,
-    );
     (b.typecode as u64) * 0x8_0000_0000_0000
         + (b.subtype as u64) * 0x1_0000_0000_0000
         + (b.class as u64) * 0x20_0000_0000
         + (b.bit20 as u64) * 0x10_0000_0000
         + (b.width as u64) * 0x1_0000_0000
         + (b.mode as u64) * 0x1_0000
-        + end
+        + end_me(b)
 }
 
 // Whether each field fits its bits, and TYPE and subtype are of this layout.

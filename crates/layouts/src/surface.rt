@@ -30,7 +30,7 @@ pub fn surface_of(me: u64) -> Surface
         t: (me / 0x8_0000_0000 % 2) as u8,
         f: (me / 0x4_0000_0000 % 2) as u8,
         latitude: LatitudeCount((me / 0x2_0000 % 0x2_0000) as u32),
-        longitude: LongitudeCount((me / 1 % 0x2_0000) as u32),
+        longitude: LongitudeCount((me % 0x2_0000) as u32),
     }
 }
 

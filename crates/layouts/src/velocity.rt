@@ -58,7 +58,7 @@ fn vertical_of(me: u64) -> Vertical
         rate: (me / 1024 % 512) as u16,
         reserved: (me / 256 % 4) as u8,
         below: (me / 128 % 2) as u8,
-        difference: (me / 1 % 128) as u8,
+        difference: (me % 128) as u8,
     }
 }
 

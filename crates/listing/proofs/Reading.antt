@@ -1,5 +1,6 @@
 -- One turn of the reading loop: the block just read, a whole one or a part at the end, is the capture's next.
 -- Assumes nothing.
+use Rattle.std.specs.Prelude.{Result, Ok, Err, ⊤}
 use Prim.Native.Nat.{ℕ, ◌+◌, ◌^◌, ◌<◌, ◌≤◌}
 use mathlib.Core.Path.{◌≡◌, refl, ap, ◌∙◌}
 use mathlib.Core.Bool.{true}
@@ -9,10 +10,8 @@ use lib.ListN.{length, length-append}
 use Rattle.refusals.specs.declared.Refusal.{Refusal}
 use Rattle.memory.specs.Offsets.{table_size, whole_places}
 use Rattle.table_bytes.specs.Layout.{emptied}
-use Rattle.rules.specs.declared.answers.SetUp.{SetUp}
 use Rattle.rules.specs.Rules as rules
 use Rattle.table.specs.Table.{After, after, set_up}
-use Rattle.feed.specs.declared.Fed.TheVariants.{Bad, Refused}
 use Rattle.feed.specs.Feed.{fed, fed_block}
 use Rattle.feed.proofs.Answers.{block_refused}
 use Rattle.feed.proofs.Stream.{block_then, bad_grows}
@@ -24,9 +23,9 @@ whole_256 : (s : List ℕ) → length s ≡ table_size 256 → whole_places (len
 unfolding whole_places
 whole_256 s e = rw e
 
-pub set_up_empties : (s : List ℕ) {x : SetUp} {l : List ℕ} → length s ≡ table_size 256 → after x l ≡ set_up s → l ≡ emptied s
+pub set_up_empties : (s : List ℕ) {x : Result ⊤ Refusal} {l : List ℕ} → length s ≡ table_size 256 → after x l ≡ set_up s → l ≡ emptied s
 unfolding rules.set_up
-set_up_empties s e h = ap (λ (y : After SetUp). y.table) h ∙ rw (whole_256 s e)
+set_up_empties s e h = ap (λ (y : After (Result ⊤ Refusal)). y.table) h ∙ rw (whole_256 s e)
 
 -- before the first turn
 pub none_read : (s : List ℕ) → length s ≡ table_size 256 → WholeFed s 0 s
@@ -42,10 +41,10 @@ so_far w = record { capture = w.capture; leaves = w.leaves }
 
 module _ {s l k : List ℕ} {n : ℕ} (b : List ℕ) (w : WholeFed s n l) where
   -- a refusal changes nothing
-  pub refused_read : (r : Refusal) → after (Refused r) k ≡ fed_block l b n → SomeFed s n k
-  refused_read r q = record { capture = w.capture; leaves = ap (after (Bad n)) (block_refused l b n r q).2 ∙ w.leaves }
+  pub refused_read : (r : Refusal) → after (Err r) k ≡ fed_block l b n → SomeFed s n k
+  refused_read r q = record { capture = w.capture; leaves = ap (after (Ok n)) (block_refused l b n r q).2 ∙ w.leaves }
 
-  module _ {m : ℕ} (h : n + 1 < 2 ^ 64) (q : after (Bad m) k ≡ fed_block l b n) where
+  module _ {m : ℕ} (h : n + 1 < 2 ^ 64) (q : after (Ok m) k ≡ fed_block l b n) where
     pub last_read : 1 ≤ length b → length b ≤ 512 → SomeFed s m k
     last_read some most = record { capture = w.capture ++ b; leaves = block_then b some most w.capture w.blocks w.size s w.leaves h q }
 

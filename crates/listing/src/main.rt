@@ -8,9 +8,7 @@ ghost use Rattle.memory.specs.Offsets.{table_size};
 ghost use Rattle.table_bytes.specs.Layout.{emptied};
 ghost use Rattle.listing.specs.Code.{SomeFed};
 
-use feed::Fed;
 use std::io::{self, Read};
-use whole::Listed;
 use words::Asked;
 
 const PLACES: usize = 256;
@@ -26,7 +24,7 @@ fn read_all<R: Read>(reader: &mut R, table: &mut [u8], block: &mut [u8]) -> io::
     requires { (length table.old ≡ table_size 256) × (length block.old ≡ 512) }
     ensures { IfOk result (λ bad. SomeFed (emptied table.old) bad table.new) }
 {
-    table::set_up(table);
+    let _ = table::set_up(table);
     let mut bad: u64 = 0;
     let mut turns: u64 = 0xffff_ffff_ffff_ffff;
     while turns > 0 {
@@ -34,7 +32,7 @@ fn read_all<R: Read>(reader: &mut R, table: &mut [u8], block: &mut [u8]) -> io::
         if n == 0 {
             return Ok(bad);
         }
-        let Fed::Bad(next) = feed::feed_block(table, &block[..n], bad) else {
+        let Ok(next) = feed::feed_block(table, &block[..n], bad) else {
             return Ok(bad);
         };
         bad = next;
@@ -64,7 +62,7 @@ fn print_first(rt: &impl Print, text: &[u8], n: usize) -> bool {
 fn print_listing(rt: &impl Print, table: &[u8], bad: u64, all: bool) -> bool {
     let mut order = [0u64; PLACES];
     let mut out = [0u8; TEXT];
-    let Listed::Bytes(n) = whole::listing(table, bad, all, &mut order, &mut out) else {
+    let Ok(n) = whole::listing(table, bad, all, &mut order, &mut out) else {
         return false;
     };
     print_first(rt, &out, n)

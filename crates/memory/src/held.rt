@@ -7,6 +7,7 @@ use crate::words::{get4, get8};
 use crate::{HEARD, LATITUDE, NORTH};
 
 // Whether the key and every value of the body is in its range.
+#[tactic(auto, unfolding(crate::specs::Ranges::in_range))]
 fn in_range(key: u32, p: &[u8]) -> bool
     requires { length p.now ≡ body_size }
     ensures { result ≡ in_range key p.now }
@@ -15,6 +16,7 @@ fn in_range(key: u32, p: &[u8]) -> bool
 }
 
 // Whether the place is held at the clock: in range, and its track in date.
+#[tactic(auto, unfolding(crate::specs::Ranges::held))]
 pub fn is_held(clock: u64, key: u32, p: &[u8]) -> bool
     requires { length p.now ≡ body_size }
     ensures { result ≡ held clock key p.now }

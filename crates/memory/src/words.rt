@@ -1,38 +1,30 @@
-// Numbers at an offset of a slice, low byte first: plain sums of bytes, which compile to single loads and stores.
+// Numbers at an offset of a slice, low byte first: plain sums of bytes, which compile to single loads and stores. They stay so, since each message passes here.
 ghost use Rattle.std.specs.Prelude.{◌≡◌, ◌+◌, ◌<◌, ◌≤◌, length};
 ghost use Rattle.memory.specs.Bytes.{number_at, low_bytes, put};
 
-fn wide(x: u8) -> u32
-    ensures { (result ≡ x) × (result < 256) }
-{
-    x as u32
-}
-
-fn wider(x: u32) -> u64
-    ensures { (result ≡ x) × (result < 4294967296) }
-{
-    x as u64
-}
-
+#[tactic(auto, using(crate::proofs::Numbers::number_4))]
 pub fn get4(s: &[u8], at: usize) -> u32
     requires { at + 4 ≤ length s.now }
     ensures { result ≡ number_at 4 s.now at }
 {
-    wide(s[at]) + wide(s[at + 1]) * 256 + wide(s[at + 2]) * 65536 + wide(s[at + 3]) * 16777216
+    u32::from(s[at])
+        + u32::from(s[at + 1]) * 256
+        + u32::from(s[at + 2]) * 65536
+        + u32::from(s[at + 3]) * 16777216
 }
 
 pub fn get5(s: &[u8], at: usize) -> u64
     requires { at + 5 ≤ length s.now }
     ensures { result ≡ number_at 5 s.now at }
 {
-    wider(get4(s, at)) + wider(wide(s[at + 4])) * 4294967296
+    u64::from(get4(s, at)) + u64::from(s[at + 4]) * 4294967296
 }
 
 pub fn get8(s: &[u8], at: usize) -> u64
     requires { at + 8 ≤ length s.now }
     ensures { result ≡ number_at 8 s.now at }
 {
-    wider(get4(s, at)) + wider(get4(s, at + 4)) * 4294967296
+    u64::from(get4(s, at)) + u64::from(get4(s, at + 4)) * 4294967296
 }
 
 // The byte before is read too, so that it is a single load.

@@ -9,11 +9,11 @@ use mathlib.Core.List.{List}
 use lib.ListN.{length, take, drop}
 use lib.Seq.{length-take-le}
 use Rattle.text.specs.declared.Line.{Line}
-use Rattle.text.specs.Lines.{header_text, line_of}
+use Rattle.text.specs.Lines.{header_text, line_of, text_in}
 use Rattle.form.specs.Form.{pieces, same, in_form, lines_in}
 use Rattle.form.specs.Scan.{part, lines_from, NextLine}
 use Rattle.form.proofs.Loops.{from_here}
-use Rattle.agree.proofs.Shown.{line_same}
+use Rattle.text.proofs.Fits.{line_text_lem}
 use Rattle.merge.specs.declared.head.Field.{Field}
 use Rattle.merge.specs.Merged.{number_from, behind, clock_in, bad_in, first_of, others_of, header_of, tracks_of, is_listing}
 use Rattle.merge.specs.Code.{FieldAt, HeadOf}
@@ -55,7 +55,7 @@ bad_read f g k = k.value ∙ ap (λ (t : List ℕ). number_from 0 (drop 12 t)) (
 pub headed : (s : List ℕ) {e tracks : ℕ} {x y z : Field} {l : Line} {in-form sames : Bool} → NextLine s 0 e
     → tracks ≡ length (lines_from s e) → tracks ≤ length s
     → FieldAt (part 0 e s) 0 6 x → FieldAt (part 0 e s) x.end 8 y → FieldAt (part 0 e s) y.end 12 z
-    → l ≡ line_of (header_text x.value tracks z.value) → in-form ≡ in_form s → sames ≡ same (part 0 e s) (take (l.len - 0) (drop 0 l.bytes))
+    → l ≡ line_of (header_text x.value tracks z.value) → in-form ≡ in_form s → sames ≡ same (part 0 e s) (text_in l)
     → HeadOf s (record { right = in-form && sames; end = e; clock = x.value; tracks = tracks; bad = z.value })
 unfolding is_listing
 headed s {e} {tracks} {x} {y} {z} {l} {in-form} {sames} n t few f g k i p q =
@@ -65,7 +65,7 @@ headed s {e} {tracks} {x} {y} {z} {l} {in-form} {sames} n t few f g k i p q =
     let w : tracks ≡ length (tracks_of s) = t ∙ ap length (tracks_from s n) in
     let same_text : sames ≡ same (header_of s) (header_text (clock_in (header_of s)) (length (tracks_of s)) (bad_in (header_of s))) =
     q
-    ∙ line_same _ i (part 0 e s)
+    ∙ ap (same (part 0 e s)) (ap text_in i ∙ line_text_lem _)
     ∙ ap (λ (a : List ℕ). same a (header_text x.value tracks z.value)) (sym h)
     ∙ ap (same (header_of s)) (ap₂ (λ (a d : ℕ). header_text a tracks d) c b ∙ ap (λ (a : ℕ). header_text (clock_in (header_of s)) a (bad_in (header_of s))) w) in
     record {

@@ -1,5 +1,6 @@
 -- The ways in which `merge` ends, each with what its steps have said: a wrong length, texts that cannot be one, and both as one in the buffer.
 -- Assumes nothing.
+use Rattle.std.specs.Prelude.{Ok, Err}
 use Prim.Native.Nat.{ℕ, zero, suc, ◌+◌, ◌-◌, ◌≤◌}
 use native.Mathlib.Omega.{arith}
 use mathlib.Core.Path.{◌≡◌, refl, sym, ap, ap₂, ◌∙◌}
@@ -12,7 +13,7 @@ use lib.Seq.{sets}
 use Rattle.refusals.specs.declared.Refusal.TheVariants.{Length, Form}
 use Rattle.entries.specs.Arrays.{filled}
 use Rattle.text.specs.declared.Line.{Line}
-use Rattle.text.specs.Lines.{header_text, line_of, text_in}
+use Rattle.text.specs.Lines.{header_text, line_of, text_in, text_in}
 use Rattle.text.specs.Code.{written, Wrote}
 use Rattle.text.proofs.Fits.{line_text_lem}
 use Rattle.fields.proofs.Bools.{each, and-false}
@@ -20,18 +21,17 @@ use Rattle.form.specs.Form.{same, in_form}
 use Rattle.form.specs.Scan.{lines_from}
 use Rattle.form.proofs.Loops.{same_equal}
 use Rattle.merge.specs.declared.head.Head.{Head}
-use Rattle.merge.specs.declared.Merged.TheVariants.{Bytes, Refused}
 use Rattle.merge.specs.Merged.{most, clock_in, bad_in, header_of, tracks_of, is_listing, in_order, rising, joined, mergeable, merged, left, merged_into}
 use Rattle.merge.specs.Code.{HeadOf}
 use Rattle.merge.proofs.Fits.{header_fits}
 
 -- ---- refusals
 
-pub wrong_length : (a b out : List ℕ) → (length out ≡ length a + length b → ⊥) → left (Refused Length) out ≡ merged_into a b out
+pub wrong_length : (a b out : List ℕ) → (length out ≡ length a + length b → ⊥) → left (Err Length) out ≡ merged_into a b out
 unfolding merged_into
 wrong_length a b out n = sym (simp (ne_eqb (length out) (length a + length b) n))
 
-pub no_one : (a b out : List ℕ) → length out ≡ length a + length b → mergeable a b ≡ false → left (Refused Form) out ≡ merged_into a b out
+pub no_one : (a b out : List ℕ) → length out ≡ length a + length b → mergeable a b ≡ false → left (Err Form) out ≡ merged_into a b out
 unfolding merged_into
 no_one a b out e m = sym (simp (eq-eqb (length out) (length a + length b) e, m))
 
@@ -93,9 +93,6 @@ filled_then n t (w ∷ ws) =
     ∙ filled_then n (t ++ (w ∷ [])) ws
     ∙ ap (filled n) (append_assoc t (w ∷ []) ws)
 
-pub line_is : (text : List ℕ) {l : Line} → l ≡ line_of text → take (l.len - 0) (drop 0 l.bytes) ≡ text
-line_is text {l} e = ap (λ (k : ℕ). take k l.bytes) (let p : l.len - 0 ≡ l.len = omega arith in p) ∙ ap text_in e ∙ line_text_lem text
-
 pub line_length : (text : List ℕ) {l : Line} → l ≡ line_of text → l.len ≡ length text
 unfolding line_of
 line_length text e = ap (λ (x : Line). x.len) e
@@ -103,18 +100,18 @@ line_length text e = ap (λ (x : Line). x.len) e
 pub both_one : {a b : List ℕ} {x y : Head} → HeadOf a x → HeadOf b y → (out : List ℕ) → length out ≡ length a + length b → heads x y ≡ true
     → rising 0 (in_order (lines_from a x.end) (lines_from b y.end)) ≡ true
     → {l : Line} → l ≡ line_of (header_text x.clock (x.tracks + y.tracks) (x.bad + y.bad))
-    → {one two : List ℕ} {r : ℕ} → one ≡ filled (length out) (take (l.len - 0) (drop 0 l.bytes))
+    → {t one two : List ℕ} {r : ℕ} → t ≡ text_in l → one ≡ filled (length out) t
     → Wrote one l.len (joined (in_order (lines_from a x.end) (lines_from b y.end))) r two
-    → left (Bytes r) two ≡ merged_into a b out
+    → left (Ok r) two ≡ merged_into a b out
 unfolding merged_into merged written
-both_one {a} {b} {x} {y} p q out e h k {l} i {one} {two} {r} f w =
+both_one {a} {b} {x} {y} p q out e h k {l} i {t} {one} {two} {r} g f w =
     let head = header_text x.clock (x.tracks + y.tracks) (x.bad + y.bad) in
     let lines = joined (in_order (lines_from a x.end) (lines_from b y.end)) in
     let m : mergeable a b ≡ true = by_heads p q ∙ ap₂ (λ (s t : Bool). s && t) h k in
     let n = line_length head i in
     let text : head ++ lines ≡ merged a b = cc (p.clock, p.bad, q.bad, p.tracks, q.tracks, p.lines, q.lines) in
     let put : two ≡ filled (length out) (head ++ lines) =
-    w.text ∙ ap₂ (λ (s : List ℕ) (j : ℕ). sets s j lines) (f ∙ ap (filled (length out)) (line_is head i)) n ∙ filled_then (length out) head lines in
+    w.text ∙ ap₂ (λ (s : List ℕ) (j : ℕ). sets s j lines) (f ∙ ap (filled (length out)) (g ∙ ap text_in i ∙ line_text_lem head)) n ∙ filled_then (length out) head lines in
     let long : r ≡ length (head ++ lines) = w.next ∙ ap (λ (j : ℕ). j + length lines) n ∙ sym (length-append head lines) in
-    ap₂ (λ (j : ℕ) (s : List ℕ). left (Bytes j) s) (long ∙ ap length text) (put ∙ ap (filled (length out)) text)
+    ap₂ (λ (j : ℕ) (s : List ℕ). left (Ok j) s) (long ∙ ap length text) (put ∙ ap (filled (length out)) text)
     ∙ sym (simp (eq-eqb (length out) (length a + length b) e, m))

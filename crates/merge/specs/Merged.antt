@@ -1,5 +1,5 @@
 -- RULES 18.8 and 18.9: two listings as one. The header has the same clock and the sums of the counts; then come the lines of both, in the order of their keys. If they cannot be one, it is 16.
-use Rattle.std.specs.Prelude.{ℕ, ◌+◌, ◌-◌, ◌*◌, ◌^◌, Bool, true, cond, not, ◌&&◌, ◌||◌, List, [], ◌∷◌, ◌++◌, eqb, leb, ltb, length, drop, get_or}
+use Rattle.std.specs.Prelude.{ℕ, ◌+◌, ◌-◌, ◌*◌, ◌^◌, Bool, true, cond, not, ◌&&◌, ◌||◌, List, [], ◌∷◌, ◌++◌, eqb, leb, ltb, length, drop, get_or, Result, Ok, Err}
 use Rattle.refusals.specs.declared.Refusal.TheVariants.{Length, Form}
 use Rattle.keys.specs.declared.Kind.{Kind}
 use Rattle.keys.specs.declared.Kind.TheVariants.{I, O, T, M, N, C}
@@ -7,8 +7,7 @@ use Rattle.keys.specs.Keys.{letter_of, key_for}
 use Rattle.text.specs.Lines.{newline, clock_label, tracks_label, bad_label, header_text}
 use Rattle.form.specs.Form.{pieces, same, is_digit, in_form, lines_in}
 use Rattle.entries.specs.Arrays.{filled}
-use Rattle.merge.specs.declared.Merged.{Merged}
-use Rattle.merge.specs.declared.Merged.TheVariants.{Bytes, Refused}
+use Rattle.refusals.specs.declared.Refusal.{Refusal}
 
 -- ---- the header's numbers
 
@@ -159,15 +158,15 @@ merged a b =
 
 -- what it answers, and the buffer as it leaves it
 pub record Left : Type 0 where
-  pub answer : Merged
+  pub answer : Result ℕ Refusal
   pub out : List ℕ
 
-abbrev pub left : Merged → List ℕ → Left
+abbrev pub left : Result ℕ Refusal → List ℕ → Left
 left answer out = record { answer = answer; out = out }
 
 -- 1 for a buffer that is not as long as both texts, 16, or the length of the text, which is in the buffer, with zeros behind it
 unfoldable pub merged_into : List ℕ → List ℕ → List ℕ → Left
 merged_into a b out =
-    cond (not (eqb (length out) (length a + length b))) (left (Refused Length) out)
-    (cond (not (mergeable a b)) (left (Refused Form) out)
-    (left (Bytes (length (merged a b))) (filled (length out) (merged a b))))
+    cond (not (eqb (length out) (length a + length b))) (left (Err Length) out)
+    (cond (not (mergeable a b)) (left (Err Form) out)
+    (left (Ok (length (merged a b))) (filled (length out) (merged a b))))

@@ -5,7 +5,7 @@ ghost use Rattle.form.specs.Scan.{lines_from};
 ghost use Rattle.merge.specs.Merged.{most, further as further_of};
 ghost use Rattle.merge.specs.Code.{FieldAt, HeadOf};
 
-const MOST: u64 = 0xffff_ffff_ffff_ffff;
+const MOST: u64 = u64::MAX;
 
 // A number, and where the text goes on behind it.
 #[derive(Clone, Copy)]
@@ -107,14 +107,12 @@ pub(crate) fn head_of(s: &[u8]) -> Head
     let middle = field_in(&s[0..end], clock.end, 8);
     let bad = field_in(&s[0..end], middle.end, 12);
     let line = text::header_line(clock.value, tracks, bad.value);
-    let bytes = line.bytes;
-    let n = line.len;
-    let right = form::in_form(s) & form::same(&s[0..end], &bytes[0..n]);
+    let right = form::in_form(s) & form::same(&s[0..end], line.as_bytes());
     Head {
-        right: right,
-        end: end,
+        right,
+        end,
         clock: clock.value,
-        tracks: tracks,
+        tracks,
         bad: bad.value,
     }
 }

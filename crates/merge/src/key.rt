@@ -1,5 +1,5 @@
 // The key of a line in the form of a listing.
-ghost use Rattle.std.specs.Prelude.{◌≡◌, ◌-◌, ◌≤◌};
+ghost use Rattle.std.specs.Prelude.{◌≡◌, ◌≤◌};
 ghost use Rattle.merge.specs.Merged.{byte_at, hex_value, address_of, kind_by, sender_fits, flag_of, station_of, key_in};
 
 use keys::Kind;
@@ -11,21 +11,14 @@ fn byte_at(line: &[u8], i: usize) -> u8
     if i < line.len() { line[i] } else { 0 }
 }
 
-// What a byte has above another; 0 for one that is below.
-fn above(b: u8, low: u8) -> u8
-    ensures { result ≡ b - low }
-{
-    if b < low { 0 } else { b - low }
-}
-
 fn hex_value(b: u8) -> u32
     ensures value { result ≡ hex_value b }
     ensures upper_bound { result ≤ 200 }
 {
     if b <= 57 {
-        return above(b, 48) as u32;
+        return u32::from(b.saturating_sub(48));
     }
-    above(b, 55) as u32
+    u32::from(b.saturating_sub(55))
 }
 
 // Six digits to the base 16.
@@ -75,12 +68,12 @@ fn station_of(line: &[u8]) -> u8
 {
     let one = byte_at(line, 12);
     if one == 32 {
-        return above(byte_at(line, 11), 48);
+        return byte_at(line, 11).saturating_sub(48);
     }
-    10 + above(one, 48)
+    10 + one.saturating_sub(48)
 }
 
-// The key, or 0, which is none.
+// The key, or 0, which is none: so `key_in` of specs/Merged says, and the order of lines begins above 0.
 pub(crate) fn key_in(line: &[u8]) -> u32
     ensures { result ≡ key_in line.now }
 {
@@ -93,7 +86,7 @@ pub(crate) fn key_in(line: &[u8]) -> u32
         return 0;
     }
     keys::key_for(
-        Kind::C(above(byte_at(line, 9), 48), station_of(line)),
+        Kind::C(byte_at(line, 9).saturating_sub(48), station_of(line)),
         address,
     )
 }

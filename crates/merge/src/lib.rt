@@ -10,34 +10,25 @@ ghost use Rattle.merge.specs.Merged.{left, merged_into};
 
 use refusals::Refusal;
 
-#[derive(Clone, Copy)]
-pub enum Merged {
-    // how many the text has
-    Bytes(usize),
-    Refused(Refusal),
-}
-
 // The listing of both, with zeros behind it, in a buffer that is as long as both texts. Or 1, then 16.
-pub fn merge(a: &[u8], b: &[u8], out: &mut [u8]) -> Merged
+pub fn merge(a: &[u8], b: &[u8], out: &mut [u8]) -> Result<usize, Refusal>
     ensures { left result out.new ≡ merged_into a.now b.now out.old }
 {
     if out.len() < a.len() {
-        return Merged::Refused(Refusal::Length);
+        return Err(Refusal::Length);
     }
     if out.len() - a.len() != b.len() {
-        return Merged::Refused(Refusal::Length);
+        return Err(Refusal::Length);
     }
     let x = head::head_of(a);
     let y = head::head_of(b);
     if !head::are_one(x, y) {
-        return Merged::Refused(Refusal::Form);
+        return Err(Refusal::Form);
     }
     if !lines::rise(a, x.end, b, y.end) {
-        return Merged::Refused(Refusal::Form);
+        return Err(Refusal::Form);
     }
     let line = text::header_line(x.clock, x.tracks + y.tracks, x.bad + y.bad);
-    let bytes = line.bytes;
-    let n = line.len;
-    entries::fill_bytes(out, &bytes[0..n]);
-    Merged::Bytes(lines::put_lines(a, x.end, b, y.end, out, n))
+    entries::fill_bytes(out, line.as_bytes());
+    Ok(lines::put_lines(a, x.end, b, y.end, out, line.len))
 }

@@ -86,17 +86,15 @@ pub(crate) fn rise(a: &[u8], first: usize, b: &[u8], second: usize) -> bool
     }
 }
 
-// A part of a text, from a place of the buffer on.
+// A part of a text, from a place of the buffer on. By a loop, as `text` has it: of `copy_from_slice` not all archives are made.
 fn put_part(out: &mut [u8], at: usize, s: &[u8], from: usize, to: usize) -> usize
     requires { (from ≤ to) × (to ≤ length s.now) × (at + (to - from) ≤ length out.old) }
     ensures { Wrote out.old at (part from to s.now) result out.new }
 {
     let mut k = at;
-    let mut i = from;
-    while i < to {
+    for i in from..to {
         out[k] = s[i];
         k += 1;
-        i += 1;
     }
     k
 }

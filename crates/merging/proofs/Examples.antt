@@ -1,9 +1,9 @@
 -- The statement is not empty, its proviso is needed, and a rule that overwrites breaks it: two messages at one time, of two aircraft or one of them damaged, to a table of one place or of two, computed.
 -- Assumes nothing.
+use Rattle.std.specs.Prelude.{None, Result, Ok, Err, Option, Some}
 use Prim.Native.Nat.{ℕ, zero, suc, ◌+◌}
 use native.Mathlib.Omega.{arith}
 use mathlib.Core.Bool.{true, false≢true}
-use mathlib.Core.Option.{Option, some, none}
 use mathlib.Core.Path.{◌≡◌, refl, ap, sym, ◌∙◌, subst}
 use mathlib.Core.List.{List, [], ◌∷◌, ◌++◌}
 use lib.ListN.{length, get_or, replicate}
@@ -11,11 +11,9 @@ use borrow.Author.Tests.{eqb-true}
 use Rattle.fields.specs.Bytes.{Bytes}
 use Rattle.parity.specs.Division.{remainder_from, reduce}
 use Rattle.parity.specs.Parity.{remainder, flipped}
-use Rattle.messages.specs.declared.Decoded.{Decoded}
-use Rattle.messages.specs.declared.Decoded.TheVariants as decode
 use Rattle.messages.specs.Message.{opened, kind_of, decoded, key_of}
 use Rattle.whereabouts.specs.Located.{no_site, surface_position}
-use Rattle.readings.specs.Altitude.{altitude_of}
+use Rattle.readings.specs.Altitude.{altitude_of, altitude_at}
 use Rattle.track.specs.declared.Track.{Track}
 use Rattle.track.specs.Track.{group_track, surface_track}
 use Rattle.track.specs.Meaning.{meant_groups, meant_position, meant_saved, meant}
@@ -28,24 +26,24 @@ use Rattle.rules.specs.Rules.{set_up, place_of, free_place, delivered, received,
 use Rattle.rules.specs.Search.{better}
 use Rattle.rules.specs.View.{view_at}
 use Rattle.rules.specs.Agreement.{Call}
-use Rattle.rules.specs.declared.answers.NextKey.TheVariants.{Key, End}
 use Rattle.table_bytes.specs.Layout.{clock_of, site_from, key_at, body_at, moved, stored, emptied}
 use Rattle.table.specs.Bytes.{bytes}
 use Rattle.table.specs.View.{view}
 use Rattle.table.proofs.Lawful.{bytes_set_up}
-use Rattle.text.specs.declared.Figure.TheVariants.{Unknown}
 use Rattle.text.specs.declared.Row.{Row}
-use Rattle.text.specs.Lines.{field, figure, header_text, key_text, row_text, text_in}
+use Rattle.text.specs.Lines.{field, figure, header_text, key_text, row_text}
 use Rattle.text.specs.Numbers.{decimal_in, decimal, hex}
 use Rattle.text.proofs.Fits.{line_text_lem}
 use Rattle.report.specs.Listing.{latitude_in, longitude_in, feet, step_in, row_of, row_for, listing, line_in}
-use Rattle.report.specs.Walked.{some_text, Walked, ended, then}
+use Rattle.report.specs.Walked.{line_printed, some_text, Walked, ended, then}
 use Rattle.report.proofs.Walking.{walk_prints, walk_tracks}
 use Rattle.isolation.specs.Runs.{is_of, Rule}
 use Rattle.isolation.specs.Wrong.{number_in, overwriting}
 use Rattle.isolation.proofs.Examples.{first, no_position_lem, stranger_first, not_six, empty_bytes}
 use Rattle.merging.specs.Orders.{offered, OfOneKey, NoSix, Granted, Same, TwoAntennas}
 use Rattle.merging.proofs.Merged.{two_antennas}
+use Rattle.messages.specs.declared.Message.{Message}
+use Rattle.refusals.specs.declared.Refusal.{Refusal}
 
 -- ---- messages at one time: of I ABCDEF, the same with its last bit flipped, one of TYPE 0, and of I 123456, this also a second later
 
@@ -65,13 +63,13 @@ abbrev pub later : Call
 later = record { message = stranger_first.message; time = 2000; fits = omega arith }
 
 -- the key of a message that is acceptable, else 0
-abbrev pub key_in : Decoded → ℕ
-key_in (decode.Message m) = key_of m
-key_in (decode.Refused r) = 0
+abbrev pub key_in : Result Message Refusal → ℕ
+key_in (Ok m) = key_of m
+key_in (Err r) = 0
 
-of_key : (key : ℕ) (d : Decoded) → is_of key d ≡ true → key_in d ≡ key
-of_key key (decode.Message m) e = eqb-true (key_of m) key e
-of_key key (decode.Refused r) e = absurd (false≢true e)
+of_key : (key : ℕ) (d : Result Message Refusal) → is_of key d ≡ true → key_in d ≡ key
+of_key key (Ok m) e = eqb-true (key_of m) key e
+of_key key (Err r) e = absurd (false≢true e)
 
 apart : (a b : Call) {j k : ℕ} → key_in (decoded a.message) ≡ j → key_in (decoded b.message) ≡ k → (j ≡ k → ⊥) → OfOneKey a b → ⊥
 apart a b p q differ (key, (e, f)) = differ (sym p ∙ of_key key (decoded a.message) e ∙ sym (of_key key (decoded b.message) f) ∙ q)
@@ -111,7 +109,7 @@ module _ {rule : Rule (List ℕ)} {n : ℕ} {a b : Call} {i j k l : ℕ} (x : An
 
 -- the row of a key that was heard at 1000 and has said nothing of where it is
 abbrev pub row : ℕ → Row
-row key = record { key = key; heard = 1000; latitude = Unknown; longitude = Unknown; altitude = Unknown; step = Unknown }
+row key = record { key = key; heard = 1000; latitude = None; longitude = None; altitude = None; step = None }
 
 abbrev rows_of : List ℕ → List ℕ
 rows_of [] = []
@@ -123,8 +121,8 @@ text_of keys = header_text 1000 (length keys) 0 ++ rows_of keys
 
 -- a walk from a key on, with the row of each key
 pub data Rows (s : List ℕ) : ℕ → List ℕ → Type 0 where
-  last : {above : ℕ} → next_above bytes s above ≡ End → Rows s above []
-  row_of_lem : {above key : ℕ} {keys : List ℕ} → next_above bytes s above ≡ Key key → row_for true key (view s key) ≡ some (row key) → Rows s key keys → Rows s above (key ∷ keys)
+  last : {above : ℕ} → next_above bytes s above ≡ Ok None → Rows s above []
+  row_of_lem : {above key : ℕ} {keys : List ℕ} → next_above bytes s above ≡ Ok (Some key) → row_for true key (view s key) ≡ Some (row key) → Rows s key keys → Rows s above (key ∷ keys)
 
 pub record Holds (s keys : List ℕ) : Type 0 where
   pub whole : whole_places (length s) ≡ true
@@ -136,14 +134,14 @@ unfolding some_text row_text key_text
 some_row key = refl
 
 module _ (s : List ℕ) (whole : whole_places (length s) ≡ true) where
-  line_text_is : (key : ℕ) → row_for true key (view s key) ≡ some (row key) → text_in (line_in true s key).line ≡ row_text (row key)
+  line_text_is : (key : ℕ) → row_for true key (view s key) ≡ Some (row key) → line_printed (line_in true s key) ≡ row_text (row key)
   unfolding line_in
   line_text_is key e = rw (whole, e) (line_text_lem (row_text (row key)))
 
   rows_walked : {above : ℕ} {keys : List ℕ} → Rows s above keys → Walked true s above (length keys) (rows_of keys)
   rows_walked (last e) = ended e
   rows_walked {above} (row_of_lem {key = key} {keys = keys} e r more) =
-      let t : text_in (line_in true s key).line ≡ row_text (row key) = line_text_is key r in
+      let t : line_printed (line_in true s key) ≡ row_text (row key) = line_text_is key r in
       subst (λ (n : ℕ). Walked true s above n (row_text (row key) ++ rows_of keys)) (omega (arith, some_row key))
       (subst (λ (x : List ℕ). Walked true s above (some_text x + length keys) (x ++ rows_of keys)) t (then e (rows_walked more)))
 
@@ -161,8 +159,8 @@ digits_apart e = let z : ◌≡◌ {A = ℕ} 65 49 = ap (λ (t : List ℕ). get_
 -- ---- computed
 
 abbrev pub held_in : Option Track → ℕ
-held_in none = 0
-held_in (some t) = 1
+held_in None = 0
+held_in (Some t) = 1
 
 pub record Computed : Type 0 where
   pub keys : (key_in (decoded mine.message) ≡ 0x1ABCDEF) × (key_in (decoded other.message) ≡ 0x1123456) × (key_in (decoded damaged.message) ≡ 0)
@@ -180,7 +178,7 @@ pub record Computed : Type 0 where
   pub overwritten : (held_in (view (offered (overwriting bytes) (ready 1) mine other).table 0x1ABCDEF) ≡ 0) × (held_in (view (offered (overwriting bytes) (ready 1) other mine).table 0x1ABCDEF) ≡ 1)
 
 pub computed : Computed
-unfolding flipped remainder remainder_from reduce opened kind_of is_held holds set_up place_of free_place delivered received next_above better view_at whole_places site_from key_at body_at moved stored emptied number_at low_bytes put saved_from groups_in lowered position_in written_in meant_groups meant_position meant_saved meant track_of above_pole marks_of saved_number saved_bytes message_bytes spot_bytes body_of in_range group_track surface_track surface_position latitude_in longitude_in feet step_in row_of row_for altitude_of
+unfolding flipped remainder remainder_from reduce opened kind_of is_held holds set_up place_of free_place delivered received next_above better view_at whole_places site_from key_at body_at moved stored emptied number_at low_bytes put saved_from groups_in lowered position_in written_in meant_groups meant_position meant_saved meant track_of above_pole marks_of saved_number saved_bytes message_bytes spot_bytes body_of in_range group_track surface_track surface_position latitude_in longitude_in feet step_in row_of row_for altitude_of altitude_at
 computed =
     record {
       keys = (refl, refl, refl);

@@ -1,6 +1,7 @@
 -- Two antennas, one instant, of the code of `slice_table`: calls whose clauses all hold, in either order, answer and leave the same. Whatever a place of the slice holds, what it means fits: a value in its range stays so, and one
 -- that counts for nothing is zero.
 -- Assumes nothing.
+use Rattle.std.specs.Prelude.{Result}
 use Prim.Native.Nat.{ℕ, ◌^◌, ◌<◌}
 use mathlib.Core.Bool.{Bool, true, false, cond, ◌&&◌}
 use mathlib.Core.Path.{◌≡◌, refl, ap, sym, ◌∙◌, subst}
@@ -17,7 +18,6 @@ use contract.Monad.{Fun, fact}
 use Rattle.refusals.proofs.Clauses.{both_say}
 use Rattle.fields.proofs.Bools.{each, by_test}
 use Rattle.keys.specs.Keys.{is_key}
-use Rattle.messages.specs.declared.Decoded.{Decoded}
 use Rattle.positions.specs.Positions.{count_size, pole_to_pole}
 use Rattle.whereabouts.specs.declared.Position.{Position}
 use Rattle.whereabouts.specs.declared.Saved.{Saved}
@@ -38,6 +38,8 @@ use Rattle.isolation.proofs.OfSlice.{Received, got, received_is}
 use Rattle.merging.specs.Orders.{Offered, then, offered, OfOneKey, NoSix, Same}
 use Rattle.merging.specs.Slices.{Typed, AllTyped}
 use Rattle.merging.proofs.Merged.{slice_antennas}
+use Rattle.messages.specs.declared.Message.{Message}
+use Rattle.refusals.specs.declared.Refusal.{Refusal}
 
 -- ---- what a place means fits
 
@@ -105,26 +107,26 @@ slice_fits s t i h e = place_fits (get_or s.places i no_place) (t i h) e
 -- ---- the two orders are those of the rules
 
 module _ (s : Slice) (typed : AllTyped s) (a b : Call) (time : a.time ≡ b.time) (keys : OfOneKey a b → ⊥) where
-  abbrev By : Slice → Call → After Decoded → Type 0
+  abbrev By : Slice → Call → After (Result Message Refusal) → Type 0
   By x c r = r ≡ received slice x c.message c.time
 
-  order_is : (x y : Call) {p q : After Decoded} → By s x p → By p.table y q → then p q ≡ offered (received slice) s x y
-  order_is x y {p} e f = ap (then p) f ∙ ap (λ (r : After Decoded). then r (received slice r.table y.message y.time)) e
+  order_is : (x y : Call) {p q : After (Result Message Refusal)} → By s x p → By p.table y q → then p q ≡ offered (received slice) s x y
+  order_is x y {p} e f = ap (then p) f ∙ ap (λ (r : After (Result Message Refusal)). then r (received slice r.table y.message y.time)) e
 
-  by_rules : {p q v w : After Decoded} → By s a p → By p.table b q → By s b v → By v.table a w → NoSix (then p q) → NoSix (then v w) → Same slice (then p q) (then v w)
+  by_rules : {p q v w : After (Result Message Refusal)} → By s a p → By p.table b q → By s b v → By v.table a w → NoSix (then p q) → NoSix (then v w) → Same slice (then p q) (then v w)
   by_rules {p} {q} {v} {w} ep eq ev ew n m =
       let x = order_is a b ep eq in
       let y = order_is b a ev ew in
-      subst (λ (o : Offered Slice Decoded). Same slice o (then v w)) (sym x)
+      subst (λ (o : Offered Slice (Result Message Refusal)). Same slice o (then v w)) (sym x)
       (subst (Same slice (offered (received slice) s a b)) (sym y)
       (slice_antennas s (slice_fits s typed) a b (record { time = time; keys = keys; one_way = subst NoSix x n; other_way = subst NoSix y m })))
 
   module _ {M : Type 1} {𝓤 : Ura M} (𝓛 : Logic 𝓤) (mem : Memory → SProp 𝓤) (run : Routine → Fun 𝓤) where
-    abbrev Call-of : Slice → Call → After Decoded → Type 0
+    abbrev Call-of : Slice → Call → After (Result Message Refusal) → Type 0
     Call-of x c r = Received 𝓛 mem run x c.message c.time r
 
     -- of `receive`, whatever the places hold
-    pub slice_code_antennas : {p q v w : After Decoded} (cp : Call-of s a p) (cq : Call-of p.table b q) (cv : Call-of s b v) (cw : Call-of v.table a w)
+    pub slice_code_antennas : {p q v w : After (Result Message Refusal)} (cp : Call-of s a p) (cq : Call-of p.table b q) (cv : Call-of s b v) (cw : Call-of v.table a w)
         → NoSix (then p q) → NoSix (then v w)
         → ent 𝓤 (sep 𝓤 (sep 𝓤 (got 𝓛 mem run cp) (got 𝓛 mem run cq)) (sep 𝓤 (got 𝓛 mem run cv) (got 𝓛 mem run cw))) (fact 𝓤 (Same slice (then p q) (then v w)))
     slice_code_antennas {p} {q} {v} {w} cp cq cv cw n m =

@@ -1,10 +1,8 @@
 -- RULES 9.12 and 9.13: two antennas, one instant. Two messages are offered one after the other with the same time, not both acceptable messages of one key. They give the same clock, the same answer to each and the same listing in either order,
 -- if neither order answers 6. Places in the table may differ.
-use Rattle.std.specs.Prelude.{ℕ, Bool, true, ◌≡◌, List}
+use Rattle.std.specs.Prelude.{ℕ, Bool, true, ◌≡◌, List, Result, Err}
 use Rattle.refusals.specs.declared.Refusal.TheVariants.{Full}
 use Rattle.fields.specs.Bytes.{Bytes}
-use Rattle.messages.specs.declared.Decoded.{Decoded}
-use Rattle.messages.specs.declared.Decoded.TheVariants as decode
 use Rattle.messages.specs.Message.{decoded}
 use Rattle.rules.specs.Form.{Form}
 use Rattle.rules.specs.Rules.{After}
@@ -13,6 +11,8 @@ use Rattle.rules.specs.Agreement.{Call}
 use Rattle.table.specs.Bytes.{bytes}
 use Rattle.report.specs.Listing.{listing}
 use Rattle.isolation.specs.Runs.{is_of, Rule}
+use Rattle.messages.specs.declared.Message.{Message}
+use Rattle.refusals.specs.declared.Refusal.{Refusal}
 
 -- ---- two messages offered one after the other
 
@@ -26,7 +26,7 @@ abbrev pub then : {S A : Type 0} → After S A → After S A → Offered S A
 then p q = record { first = p.answer; second = q.answer; table = q.table }
 
 -- by a rule: `received` of a form is the library's. A message is any bytes, of any length
-abbrev pub offered : {S : Type 0} → Rule S → S → Call → Call → Offered S Decoded
+abbrev pub offered : {S : Type 0} → Rule S → S → Call → Call → Offered S (Result Message Refusal)
 offered rule s a b =
     let p = rule s a.message a.time in
     then p (rule p.table b.message b.time)
@@ -42,8 +42,8 @@ abbrev pub Never : {S A : Type 0} → A → Offered S A → Type 0
 Never x o = (o.first ≡ x → ⊥) × (o.second ≡ x → ⊥)
 
 -- .. 6
-abbrev pub NoSix : {S : Type 0} → Offered S Decoded → Type 0
-NoSix o = Never (decode.Refused Full) o
+abbrev pub NoSix : {S : Type 0} → Offered S (Result Message Refusal) → Type 0
+NoSix o = Never (Err Full) o
 
 pub record Granted {S : Type 0} (rule : Rule S) (s : S) (a b : Call) : Type 0 where
   pub time : a.time ≡ b.time

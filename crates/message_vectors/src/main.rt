@@ -4,9 +4,8 @@
 #![tactic(auto)]
 
 use counts::{LatitudeCount, LongitudeCount};
-use encoder::Encoded;
 use layouts::{Air, Airborne, Body, Coarse, Ground, Identification, Status, Surface, Vertical};
-use messages::{Decoded, Message};
+use messages::Message;
 use refusals::Refusal;
 use std::io::{self, Read};
 
@@ -83,24 +82,6 @@ fn say_air(out: &impl Print, b: Air) -> io::Result<()> {
     say_vertical(out, b.vertical)
 }
 
-// The fields of a status from NACp on.
-fn say_end(
-    out: &impl Print,
-    nacp: u8,
-    bits49: u8,
-    sil: u8,
-    bit53: u8,
-    bit54: u8,
-    bits55: u8,
-) -> io::Result<()> {
-    say(out, nacp)?;
-    say(out, bits49)?;
-    say(out, sil)?;
-    say(out, bit53)?;
-    say(out, bit54)?;
-    say(out, bits55)
-}
-
 fn say_status(out: &impl Print, b: Status) -> io::Result<()> {
     say(out, b.typecode)?;
     say(out, b.subtype)?;
@@ -110,7 +91,12 @@ fn say_status(out: &impl Print, b: Status) -> io::Result<()> {
     say(out, b.mode)?;
     say(out, b.version)?;
     say(out, b.supplementa)?;
-    say_end(out, b.nacp, b.bits49, b.sil, b.bit53, b.bit54, b.bits55)
+    say(out, b.nacp)?;
+    say(out, b.bits49)?;
+    say(out, b.sil)?;
+    say(out, b.bit53)?;
+    say(out, b.bit54)?;
+    say(out, b.bits55)
 }
 
 fn say_coarse(out: &impl Print, b: Coarse) -> io::Result<()> {
@@ -147,10 +133,9 @@ fn say_bytes(out: &impl Print, s: &[u8]) -> io::Result<()> {
 
 fn say_encoded(out: &impl Print, m: Message) -> io::Result<()> {
     let mut bytes = [0u8; 14];
-    let e = encoder::encode(m, &mut bytes);
-    match e {
-        Encoded::Written => say_bytes(out, &bytes),
-        Encoded::Refused(r) => say_refused(out, r),
+    match encoder::encode(m, &mut bytes) {
+        Ok(()) => say_bytes(out, &bytes),
+        Err(r) => say_refused(out, r),
     }
 }
 
@@ -163,10 +148,9 @@ fn say_message(out: &impl Print, m: Message) -> io::Result<()> {
 }
 
 fn answer(out: &impl Print, s: &[u8]) -> io::Result<()> {
-    let d = messages::decode(s);
-    match d {
-        Decoded::Message(m) => say_message(out, m),
-        Decoded::Refused(r) => say_refused(out, r),
+    match messages::decode(s) {
+        Ok(m) => say_message(out, m),
+        Err(r) => say_refused(out, r),
     }?;
     out.print("\n")
 }
@@ -275,7 +259,7 @@ fn one(input: &mut impl Read, out: &impl Print) -> io::Result<bool> {
         return Ok(false);
     }
     let n = (fields::number_of(&head) % 256) as usize;
-    if 253 <= n && n <= 254 {
+    if matches!(n, 253 | 254) {
         answer_made(input, out, n == 254)?;
         return Ok(true);
     }

@@ -1,5 +1,6 @@
 -- An acceptable message is one that is decoded: both go by the same tests, and TYPE and subtype choose a layout or none. What its ME is unpacked to is packed to the same ME.
 -- Assumes nothing.
+use Rattle.std.specs.Prelude.{Result, Ok, Err}
 use Prim.Native.Nat.{ℕ, ◌/◌, ◌^◌}
 use mathlib.Core.Path.{◌≡◌, refl, sym, ap, ap₂, subst, ◌∙◌}
 use mathlib.Core.Bool.{Bool, true, false, cond, not, ◌||◌}
@@ -17,24 +18,19 @@ use Rattle.layouts.specs.Bodies.{layout_by, is_taken, taken_as, taken_by, body_m
 use Rattle.layouts.specs.declared.bodies.Body.{Body}
 use Rattle.layouts.specs.declared.bodies.Layout.{Layout}
 use Rattle.layouts.specs.declared.bodies.Layout.TheVariants as layout
-use Rattle.layouts.specs.declared.bodies.Taken.{Taken}
-use Rattle.layouts.specs.declared.bodies.Taken.TheVariants as read
 use Rattle.layouts.proofs.BothWays.{read_good}
 use Rattle.messages.specs.Message.{bits, format_taken, opened, decoded}
-use Rattle.messages.specs.Accepted.{frame_of, frame_coarse, frame_reserved, frame_refused, framed, accepted, headed, frame_in, frame_says, decoded_by, opened_as, IsAccepted, message_of, Opens}
+use Rattle.messages.specs.Accepted.{frame_of, formed, unless, frame_coarse, frame_reserved, frame_refused, framed, accepted, headed, frame_in, frame_says, decoded_by, opened_as, IsAccepted, message_of, Opens}
 use Rattle.messages.specs.Said.{accepted_said, earns1, earns3, earns4, accept_table}
 use Rattle.messages.specs.declared.Frame.{Frame}
-use Rattle.messages.specs.declared.Accepted.{Accepted}
-use Rattle.messages.specs.declared.Accepted.TheVariants as accept
-use Rattle.messages.specs.declared.Decoded.TheVariants as decode
 use Rattle.messages.proofs.Flags.{layout_in_lem, reserved_in_lem}
 
 -- ---- a layout, or none
 
 -- what a layout that is taken, or none, reads the bits as
-abbrev Reads : Bool → Taken → Type 0
-Reads true x = (b : Body) × (x ≡ read.Body b)
-Reads false x = x ≡ read.Refused TypeCode
+abbrev Reads : Bool → Result Body Refusal → Type 0
+Reads true x = (b : Body) × (x ≡ Ok b)
+Reads false x = x ≡ Err TypeCode
 
 reads : (l : Layout) (n : ℕ) → Reads (is_taken l) (taken_as l n)
 reads layout.Identification n = (_, refl)
@@ -65,17 +61,43 @@ module _ (f : Frame) where
       by_cases true true true e k q r = rw (e, k, q)
       by_cases true false true e k q r = rw (e, k, q)
       by_cases true false false e k q r = rw (e, k, q, r)
-      by_cases true true false e k q r = let g : framed f ≡ accept.Frame f = rw (e, k, q) in sym (ap opened_as g)
+      by_cases true true false e k q r = let g : framed f ≡ Ok f = rw (e, k, q) in sym (ap opened_as g)
 
 pub accepted_opened : (s : List ℕ) → decoded s ≡ opened_as (accepted s)
 accepted_opened s = by_cases (eqb (length s) 14) (eqb (remainder s) 0)
   where
     by_cases : (l p : Bool)
-        → cond (not l) (decode.Refused Length) (cond (not p) (decode.Refused Parity) (opened (bits 1 5 s) (bits 6 8 s) (bits 9 32 s) (bits 33 88 s)))
-        ≡ opened_as (cond (not l) (accept.Refused Length) (cond (not p) (accept.Refused Parity) (framed (frame_of s))))
+        → cond (not l) (Err Length) (cond (not p) (Err Parity) (opened (bits 1 5 s) (bits 6 8 s) (bits 9 32 s) (bits 33 88 s)))
+        ≡ opened_as (cond (not l) (Err Length) (cond (not p) (Err Parity) (framed (frame_of s))))
     by_cases false p = refl
     by_cases true false = refl
     by_cases true true = opens (frame_of s)
+
+-- 1, 3 and 4 come first, whatever is asked for 5
+
+pub accepted_by : (s : List ℕ) → accepted s ≡ unless frame_refused (formed s)
+unfolding framed formed
+accepted_by s = by_cases (eqb (length s) 14) (eqb (remainder s) 0) (format_taken (bits 1 5 s) (bits 6 8 s))
+  where
+    by_cases : (l p t : Bool)
+        → cond (not l) (Err Length) (cond (not p) (Err Parity) (cond (not t) (Err Format) (cond (frame_refused (frame_of s)) (Err TypeCode) (Ok (frame_of s)))))
+        ≡ unless frame_refused (cond (not l) (Err Length) (cond (not p) (Err Parity) (cond (not t) (Err Format) (Ok (frame_of s)))))
+    by_cases false p t = refl
+    by_cases true false t = refl
+    by_cases true true false = refl
+    by_cases true true true = refl
+
+pub frame_in_by : (s : List ℕ) → frame_in s ≡ unless frame_reserved (formed s)
+unfolding headed formed
+frame_in_by s = by_cases (eqb (length s) 14) (eqb (remainder s) 0) (format_taken (bits 1 5 s) (bits 6 8 s))
+  where
+    by_cases : (l p t : Bool)
+        → cond (not l) (Err Length) (cond (not p) (Err Parity) (cond (not t) (Err Format) (cond (frame_reserved (frame_of s)) (Err TypeCode) (Ok (frame_of s)))))
+        ≡ unless frame_reserved (cond (not l) (Err Length) (cond (not p) (Err Parity) (cond (not t) (Err Format) (Ok (frame_of s)))))
+    by_cases false p t = refl
+    by_cases true false t = refl
+    by_cases true true false = refl
+    by_cases true true true = refl
 
 -- .. and what was opened, by its layout
 
@@ -86,8 +108,8 @@ frame_says_lem s =
     by_cases (eqb (length s) 14) (eqb (remainder s) 0) (format_taken f.format f.control) (frame_reserved f)
   where
     by_cases : (l p t r : Bool)
-        → cond (not l) (decode.Refused Length) (cond (not p) (decode.Refused Parity) (cond (not t) (decode.Refused Format) (cond r (decode.Refused TypeCode) (frame_says (frame_of s)))))
-        ≡ decoded_by (cond (not l) (accept.Refused Length) (cond (not p) (accept.Refused Parity) (cond (not t) (accept.Refused Format) (cond r (accept.Refused TypeCode) (accept.Frame (frame_of s))))))
+        → cond (not l) (Err Length) (cond (not p) (Err Parity) (cond (not t) (Err Format) (cond r (Err TypeCode) (frame_says (frame_of s)))))
+        ≡ decoded_by (cond (not l) (Err Length) (cond (not p) (Err Parity) (cond (not t) (Err Format) (cond r (Err TypeCode) (Ok (frame_of s))))))
     by_cases false p t r = refl
     by_cases true false t r = refl
     by_cases true true false r = refl
@@ -96,25 +118,25 @@ frame_says_lem s =
 
 -- ---- the message of a frame
 
-no_frame : {A : Type 0} {r : Refusal} {f : Frame} → accept.Refused r ≡ accept.Frame f → A
+no_frame : {A : Type 0} {r : Refusal} {f : Frame} → Err r ≡ Ok f → A
 no_frame e = let z : ◌≡◌ {A = ℕ} 0 1 = cc in let w : ⊥ = omega arith in absurd w
 
 module _ (g f : Frame) where
-  tested : (l p : Bool) → cond (not l) (accept.Refused Length) (cond (not p) (accept.Refused Parity) (framed g)) ≡ accept.Frame f → framed g ≡ accept.Frame f
+  tested : (l p : Bool) → cond (not l) (Err Length) (cond (not p) (Err Parity) (framed g)) ≡ Ok f → framed g ≡ Ok f
   tested false p e = no_frame e
   tested true false e = no_frame e
   tested true true e = e
 
   -- what `framed` asks of a frame that it gives back
-  passed : (b t r : Bool) → cond (not b) (accept.Refused Format) (cond (not t || r) (accept.Refused TypeCode) (accept.Frame g)) ≡ accept.Frame f
+  passed : (b t r : Bool) → cond (not b) (Err Format) (cond (not t || r) (Err TypeCode) (Ok g)) ≡ Ok f
       → (b ≡ true) × (t ≡ true) × (r ≡ false) × (g ≡ f)
   passed false t r e = no_frame e
   passed true false r e = no_frame e
   passed true true true e = no_frame e
   passed true true false e = (refl, refl, refl, cc)
 
-opened_as_lem : (g : Frame) (b : Body) → format_taken g.format g.control ≡ true → frame_reserved g ≡ false → taken_by (frame_coarse g) g.me ≡ read.Body b
-    → opened_as (accept.Frame g) ≡ decode.Message (message_of g b)
+opened_as_lem : (g : Frame) (b : Body) → format_taken g.format g.control ≡ true → frame_reserved g ≡ false → taken_by (frame_coarse g) g.me ≡ Ok b
+    → opened_as (Ok g) ≡ Ok (message_of g b)
 unfolding opened
 opened_as_lem g b h q r = rw (h, q, r)
 
@@ -127,13 +149,13 @@ frame_opens f a =
     let r : Reads true (taken_by (frame_coarse g) g.me) = subst (λ (t : Bool). Reads t (taken_by (frame_coarse g) g.me)) p.1 (reads (layout_by (frame_coarse g) g.me) g.me) in
     of_frame g p.0 p.2 r.0 r.1 (read_good (frame_coarse g) g.me r.0 (mod-lt (numeral s / 2 ^ 24) (lit< tt)) r.1) p.3
   where
-    of_frame : (g : Frame) → format_taken g.format g.control ≡ true → frame_reserved g ≡ false → (b : Body) → taken_by (frame_coarse g) g.me ≡ read.Body b
+    of_frame : (g : Frame) → format_taken g.format g.control ≡ true → frame_reserved g ≡ false → (b : Body) → taken_by (frame_coarse g) g.me ≡ Ok b
         → (body_fits b ≡ true) × (body_me b ≡ g.me) → g ≡ f → Opens f
     of_frame g h n b r good q = subst Opens q (record { body = b; reads = r; message = opened_as_lem g b h n r; fits = good.0; same = good.1 })
 
 -- ---- the table of RULES 3.2
 
-says : (t : Bool) (x y : Accepted) → accepted_said (cond t x y) ≡ cond t (accepted_said x) (accepted_said y)
+says : (t : Bool) (x y : Result Frame Refusal) → accepted_said (cond t x y) ≡ cond t (accepted_said x) (accepted_said y)
 says true x y = refl
 says false x y = refl
 
@@ -145,4 +167,4 @@ accept_says_the_table s =
     ∙ ap (cond (earns1 s) (number 1)) (says (earns3 s) _ _
     ∙ ap (cond (earns3 s) (number 3)) (says (earns4 s) _ _
     ∙ ap (cond (earns4 s) (number 4)) (says (frame_refused (frame_of s)) _ _
-    ∙ ap₂ (λ (l : Layout) (b : Bool). cond (not (is_taken l) || b) (number 5) (accepted_said (accept.Frame (frame_of s)))) (layout_in_lem s) (reserved_in_lem s))))
+    ∙ ap₂ (λ (l : Layout) (b : Bool). cond (not (is_taken l) || b) (number 5) (accepted_said (Ok (frame_of s)))) (layout_in_lem s) (reserved_in_lem s))))

@@ -1,6 +1,7 @@
 -- Messages both ways: what is encoded is decoded to the same fields, and what is decoded is encoded to the same 14 bytes.
 -- Four bytes, seven and the seal are a message just when they are cut and put together alike, by the laws of bytes, layouts and parity.
 -- Assumes nothing.
+use Rattle.std.specs.Prelude.{Result, Ok, Err}
 use Prim.Native.Nat.{ℕ, ◌/◌, ◌%◌, ◌^◌, ◌<◌}
 use mathlib.Core.Path.{◌≡◌, refl, sym, ap, ap₂, subst, ◌∙◌}
 use mathlib.Core.Bool.{Bool, true, false, not, ◌&&◌}
@@ -21,15 +22,13 @@ use Rattle.parity.specs.Parity.{remainder}
 use Rattle.parity.proofs.Seal.{sealed, only_sealed}
 use Rattle.layouts.specs.Bodies.{type_by, taken_by, flag_in, body_coarse, body_type, flag_of, body_me, body_fits}
 use Rattle.layouts.proofs.BothWays.{written_read, read_good, coarse_read, type_read, flag_read, me_lt}
-use Rattle.layouts.specs.declared.bodies.Taken.{Taken}
-use Rattle.layouts.specs.declared.bodies.Taken.TheVariants as read
 use Rattle.messages.specs.Message.{bits, format_taken, coarse_by, is_reserved, reserved_in, with_body, opened, decoded, head_widths, head_fields, agree, head_taken, message_fits, sealed_by, message_bytes}
 use Rattle.messages.specs.declared.Frame.{Frame}
 use Rattle.messages.specs.declared.Message.{Message}
-use Rattle.messages.specs.declared.Decoded.{Decoded}
-use Rattle.messages.specs.declared.Decoded.TheVariants as decode
 use Rattle.messages.proofs.Fitting.{fits_head, fits_taken, fits_body}
 use Rattle.messages.proofs.Parts.{four, seven, head_lt, me_is, head_is, frame_is}
+use Rattle.layouts.specs.declared.bodies.Body.{Body}
+use Rattle.refusals.specs.declared.Refusal.{Refusal}
 
 -- ---- what is encoded is decoded to the same fields
 
@@ -43,7 +42,7 @@ alike true b e = e
 alike false b e = rw e
 
 opened_back : (m : Message) → head_taken m ≡ true → body_fits m.body ≡ true
-    → opened m.format m.control m.address (body_me m.body) ≡ decode.Message m
+    → opened m.format m.control m.address (body_me m.body) ≡ Ok m
 unfolding opened
 opened_back m h b =
     let n : ℕ = body_me m.body in
@@ -52,7 +51,7 @@ opened_back m h b =
     let q : Bool = r (body_type m.body) (flag_of m.body) in
     let g = each (format_taken m.format m.control && not q) (agree c (body_coarse m.body)) h in
     let t = each (format_taken m.format m.control) (not q) g.0 in
-    let e : taken_by c n ≡ read.Body m.body = ap (λ (k : Bool). taken_by k n) (sym (same c (body_coarse m.body) g.1)) ∙ written_read n m.body (rw b) in
+    let e : taken_by c n ≡ Ok m.body = ap (λ (k : Bool). taken_by k n) (sym (same c (body_coarse m.body) g.1)) ∙ written_read n m.body (rw b) in
     let f : r (type_by c n) (flag_in c n) ≡ false = sym (ap₂ r (type_read c n m.body e) (flag_read c n m.body e)) ∙ not-true q t.1 in
     rw (t.0, f) (ap (with_body m.format m.control m.address) e)
 
@@ -77,7 +76,7 @@ pub message_bytes_lem : (m : Message) → Bytes (message_bytes m)
 unfolding frame
 message_bytes_lem m = frame_bytes (pack head_widths (head_fields m)) (body_me m.body)
 
-pub encoded_decoded : (m : Message) → message_fits m ≡ true → decoded (message_bytes m) ≡ decode.Message m
+pub encoded_decoded : (m : Message) → message_fits m ≡ true → decoded (message_bytes m) ≡ Ok m
 unfolding frame
 encoded_decoded m e =
     let b : body_fits m.body ≡ true = fits_body m e in
@@ -90,9 +89,9 @@ encoded_decoded m e =
 
 -- ---- what is decoded is encoded to the same bytes
 
-abbrev Good : List ℕ → Decoded → Type 0
-Good s (decode.Message m) = (message_fits m ≡ true) × (message_bytes m ≡ s)
-Good s (decode.Refused r) = Unit
+abbrev Good : List ℕ → Result Message Refusal → Type 0
+Good s (Ok m) = (message_fits m ≡ true) × (message_bytes m ≡ s)
+Good s (Err r) = Unit
 
 module _ (s : List ℕ) (e : length s ≡ 14) (h : Bytes s) (z : remainder s ≡ 0) where
   head : ℕ
@@ -118,17 +117,17 @@ module _ (s : List ℕ) (e : length s ≡ 14) (h : Bytes s) (z : remainder s ≡
   abbrev coarse : Bool
   coarse = coarse_by (bits 1 5 s) (bits 6 8 s)
 
-  body_good : format_taken (bits 1 5 s) (bits 6 8 s) ≡ true → reserved_in (bits 1 5 s) (bits 6 8 s) (bits 33 88 s) ≡ false → (b : Taken) → taken_by coarse (bits 33 88 s) ≡ b
+  body_good : format_taken (bits 1 5 s) (bits 6 8 s) ≡ true → reserved_in (bits 1 5 s) (bits 6 8 s) (bits 33 88 s) ≡ false → (b : Result Body Refusal) → taken_by coarse (bits 33 88 s) ≡ b
       → Good s (with_body (bits 1 5 s) (bits 6 8 s) (bits 9 32 s) b)
   unfolding head frame
-  body_good t r (read.Body b) p =
+  body_good t r (Ok b) p =
       let n : ℕ = bits 33 88 s in
       let g = read_good coarse n b (mod-lt (number s / 2 ^ 24) (lit< tt)) p in
       let f = ap (fits head_widths) (head_is s e h) ∙ unpack_fits head_widths head in (
         both (both f (both (both t (ap not (ap₂ (is_reserved (bits 1 5 s) (bits 6 8 s)) (type_read coarse n b p) (flag_read coarse n b p) ∙ r))) (alike coarse (body_coarse b) (coarse_read coarse n b p)))) g.0,
         framed _ _ (ap (pack head_widths) (head_is s e h) ∙ pack_unpack head_widths head ∙ mod-eq_of_lt (head_lt s e h)) (g.1 ∙ me_is s e h),
       )
-  body_good t r (read.Refused q) p = tt
+  body_good t r (Err q) p = tt
 
   opened_good : Good s (opened (bits 1 5 s) (bits 6 8 s) (bits 9 32 s) (bits 33 88 s))
   unfolding opened
@@ -137,7 +136,7 @@ module _ (s : List ℕ) (e : length s ≡ 14) (h : Bytes s) (z : remainder s ≡
       (λ t. by_test (Good s) (reserved_in (bits 1 5 s) (bits 6 8 s) (bits 33 88 s)) _ _ (λ r. tt)
       (λ r. body_good (not-false (format_taken (bits 1 5 s) (bits 6 8 s)) t) r (taken_by coarse (bits 33 88 s)) refl))
 
-pub decoded_good : (s : List ℕ) (m : Message) → Bytes s → decoded s ≡ decode.Message m → (message_fits m ≡ true) × (message_bytes m ≡ s)
+pub decoded_good : (s : List ℕ) (m : Message) → Bytes s → decoded s ≡ Ok m → (message_fits m ≡ true) × (message_bytes m ≡ s)
 decoded_good s m h d =
     subst (Good s) d
     (by_test (Good s) (not (eqb (length s) 14)) _ _ (λ e. tt)

@@ -1,5 +1,6 @@
 -- A damaged message is refused with 3: it has 14 bytes still, and one wrong bit leaves no remainder 0.
 -- Assumes nothing.
+use Rattle.std.specs.Prelude.{Err}
 use Prim.Native.Nat.{ℕ}
 use mathlib.Core.Path.{◌≡◌, ap, ◌∙◌}
 use mathlib.Core.Bool.{true, false, not}
@@ -14,7 +15,6 @@ use Rattle.messages.specs.Accepted.{Acceptable}
 use Rattle.messages.specs.Damaged.{Damaged}
 use Rattle.messages.specs.Message.{decoded}
 use Rattle.messages.specs.Said.{earns1, earns3}
-use Rattle.messages.specs.declared.Decoded.TheVariants as decode
 use Rattle.messages.proofs.Exactly.{accepted_exactly}
 
 module _ (s : List ℕ) (a : Acceptable s) where
@@ -33,5 +33,5 @@ module _ (message : List ℕ) (d : Damaged message) where
       ap not (ap (λ (s : List ℕ). eqb (remainder s) 0) d.heard
       ∙ ne_eqb _ 0 (one_wrong_bit d.bit d.sent (long d.sent d.acceptable) (divided d.sent d.acceptable) d.from d.to))
 
-  pub damaged_is_3 : decoded message ≡ decode.Refused Parity
+  pub damaged_is_3 : decoded message ≡ Err Parity
   damaged_is_3 = rw (damaged_long, damaged_earns_3)

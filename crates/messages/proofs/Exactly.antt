@@ -1,6 +1,7 @@
 -- The decoder's answer is the table of RULES 3.2: each number exactly when it is earned and none before it is, else the layout and its fields by the layout's widths.
 -- The definition's tests are the table's, one by one; a field of a part of the bits is a field of the whole.
 -- Assumes nothing.
+use Rattle.std.specs.Prelude.{Result, Ok, Err}
 use Prim.Native.Nat.{ℕ, ◌+◌, ◌*◌, ◌/◌, ◌%◌, ◌^◌}
 use mathlib.Core.Path.{◌≡◌, refl, sym, ap, ap₂, ◌∙◌}
 use mathlib.Core.Bool.{Bool, true, false, cond, not, ◌&&◌, ◌||◌}
@@ -30,9 +31,8 @@ use Rattle.messages.specs.Accepted.{Acceptable}
 use Rattle.messages.specs.Message.{bits, traffic_by, is_reserved, reserved_in, with_body, opened, decoded, head_widths}
 use Rattle.messages.specs.Said.{said, earns1, earns3, earns4, coarse_at, layout_in, type_at, flag_at, earns5, values_in, table}
 use Rattle.messages.specs.declared.Message.{Message}
-use Rattle.messages.specs.declared.Decoded.{Decoded}
-use Rattle.messages.specs.declared.Decoded.TheVariants as decode
 use Rattle.messages.proofs.Flags.{layout_in_lem, reserved_in_lem}
+use Rattle.refusals.specs.declared.Refusal.{Refusal}
 
 -- ---- fields of a part of the bits
 
@@ -55,7 +55,7 @@ module _ (n : ℕ) where
 
 -- ---- what is said of a choice is the choice of what is said
 
-said_of : (t : Bool) (x y : Decoded) → said (cond t x y) ≡ cond t (said x) (said y)
+said_of : (t : Bool) (x y : Result Message Refusal) → said (cond t x y) ≡ cond t (said x) (said y)
 said_of true x y = refl
 said_of false x y = refl
 
@@ -114,9 +114,9 @@ differ m n f e =
 no_number : {A : Type 0} (v : Values) (n : ℕ) → gives v ≡ number n → A
 no_number v n e = let y : ◌≡◌ {A = ℕ} 0 1 = cc in let w : ⊥ = omega arith in absurd w
 
-message_of_lem : (d : Decoded) (v : Values) → said d ≡ gives v → (m : Message) × (d ≡ decode.Message m)
-message_of_lem (decode.Message m) v e = (m, refl)
-message_of_lem (decode.Refused r) v e = no_number v (number_of r) (sym e)
+message_of_lem : (d : Result Message Refusal) (v : Values) → said d ≡ gives v → (m : Message) × (d ≡ Ok m)
+message_of_lem (Ok m) v e = (m, refl)
+message_of_lem (Err r) v e = no_number v (number_of r) (sym e)
 
 abbrev chosen : Bool → Bool → Bool → Bool → Values → Said Values
 chosen a b c d v = cond a (number 1) (cond b (number 3) (cond c (number 4) (cond d (number 5) (gives v))))
@@ -244,16 +244,16 @@ module _ (s : List ℕ) where
   same_fields = refl
 
   -- a message that says what the table says has the layout of the bits
-  pub layout_told : (m : Message) → said (decode.Message m) ≡ table s → body_layout m.body ≡ layout_in s
+  pub layout_told : (m : Message) → said (Ok m) ≡ table s → body_layout m.body ≡ layout_in s
   layout_told m e = ap (λ (v : Values). v.layout) (sym (none (earns1 s) (earns3 s) (earns4 s) (earns5 s) (values_in s) _ (sym e)).4)
 
   -- so Air, whatever its fields, is not what the table says where the bits are Ground's, nor Ground where they are Air's
   pub ground_not_air : (format control address : ℕ) (a : Air) → layout_in s ≡ layout.Ground
-      → said (decode.Message (record { format = format; control = control; address = address; body = body.Air a })) ≡ table s → ⊥
+      → said (Ok (record { format = format; control = control; address = address; body = body.Air a })) ≡ table s → ⊥
   ground_not_air format control address a h e =
       air_ground (layout_told (record { format = format; control = control; address = address; body = body.Air a }) e ∙ h)
 
   pub air_not_ground : (format control address : ℕ) (g : Ground) → layout_in s ≡ layout.Air
-      → said (decode.Message (record { format = format; control = control; address = address; body = body.Ground g })) ≡ table s → ⊥
+      → said (Ok (record { format = format; control = control; address = address; body = body.Ground g })) ≡ table s → ⊥
   air_not_ground format control address g h e =
       air_ground (sym (layout_told (record { format = format; control = control; address = address; body = body.Ground g }) e ∙ h))

@@ -1,5 +1,6 @@
 -- Published messages with their fields, and what is refused; so the decoder neither refuses all nor gives one message for all. Each is computed.
 -- Assumes nothing.
+use Rattle.std.specs.Prelude.{Ok}
 use Prim.Native.Nat.{ℕ}
 use mathlib.Core.Path.{◌≡◌, refl, sym, ap, ◌∙◌}
 use mathlib.Core.Bool.{true, false}
@@ -13,7 +14,6 @@ use Rattle.layouts.specs.Said.{Values, values}
 use Rattle.layouts.specs.declared.bodies.Body.TheVariants as body
 use Rattle.layouts.specs.declared.bodies.Layout.TheVariants as layout
 use Rattle.messages.specs.declared.Message.{Message}
-use Rattle.messages.specs.declared.Decoded.TheVariants as decode
 use Rattle.messages.specs.Damaged.{Damaged}
 use Rattle.messages.specs.Message.{decoded, opened, kind_of, message_fits, message_bytes}
 use Rattle.messages.specs.Said.{said, key_in, starts_in}
@@ -184,7 +184,7 @@ never_paired e = let z : ◌≡◌ {A = ℕ} 0x340621D 0x440621D = sym six_kinds
 -- ---- both ways: the bytes are decoded to these fields, which are taken and give the same bytes
 
 abbrev BothWays : List ℕ → Message → Type 0
-BothWays bytes m = (decoded bytes ≡ decode.Message m) × (message_fits m ≡ true) × (message_bytes m ≡ bytes)
+BothWays bytes m = (decoded bytes ≡ Ok m) × (message_fits m ≡ true) × (message_bytes m ≡ bytes)
 
 -- TYPE 0
 abbrev no_position_fields : Message

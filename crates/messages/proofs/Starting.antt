@@ -1,5 +1,6 @@
 -- What may start a track is told alike of a decoded message, of its bytes and of its frame: each goes by TYPE and by the kind, which every layout reads from its bits.
 -- Assumes nothing.
+use Rattle.std.specs.Prelude.{Ok}
 use Prim.Native.Nat.{ℕ}
 use mathlib.Core.Path.{◌≡◌, refl, sym, ap, ap₂, ◌∙◌}
 use mathlib.Core.List.{List}
@@ -16,13 +17,12 @@ use Rattle.messages.specs.Accepted.{frame_coarse, frame_starts, message_of, Open
 use Rattle.messages.specs.Said.{coarse_at, layout_in, type_at, flag_at, station_at, earns5, starts_in}
 use Rattle.messages.specs.declared.Frame.{Frame}
 use Rattle.messages.specs.declared.Message.{Message}
-use Rattle.messages.specs.declared.Decoded.TheVariants as decode
 use Rattle.messages.proofs.Exactly.{accepted_exactly}
 use Rattle.messages.proofs.Flags.{type_in_lem, traffic_is}
 use Rattle.messages.proofs.Keys.{decoded_from, decoded_kind, frame_kind_lem}
 
 -- of a decoded message, by the bits of the whole
-pub decoded_starts : (s : List ℕ) (m : Message) → decoded s ≡ decode.Message m → starts m ≡ starts_in s
+pub decoded_starts : (s : List ℕ) (m : Message) → decoded s ≡ Ok m → starts m ≡ starts_in s
 decoded_starts s m d =
     let f = decoded_from s m d in
     ap starts (sym f.1)
@@ -37,7 +37,7 @@ pub coarse_starts : (m : Message) → coarse_by m.format m.control ≡ true → 
 coarse_starts m e = ap (λ (c : Bool). starts_by c (traffic m) (body_type m.body)) e
 
 -- a status that is decoded starts one of kind I or O: of the traffic service it is refused
-pub status_starts : (s : List ℕ) (m : Message) → decoded s ≡ decode.Message m → type_at s ≡ 31 → (starts m ≡ true) × (traffic m ≡ false)
+pub status_starts : (s : List ℕ) (m : Message) → decoded s ≡ Ok m → type_at s ≡ 31 → (starts m ≡ true) × (traffic m ≡ false)
 status_starts s m d e =
     let five : earns5 s ≡ false = ((accepted_exactly s).0 (m, d)).3 in
     let reserved = (neither (not (is_taken (layout_in s))) _ five).1 in

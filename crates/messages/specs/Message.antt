@@ -1,5 +1,5 @@
 -- RULES 2, 8.4 and 17: a message of 112 bits: what its bytes say, and the bytes that say it. Bit 1 is the top bit of byte 0.
-use Rattle.std.specs.Prelude.{ℕ, List, [], ◌∷◌, ◌++◌, Bool, cond, not, ◌&&◌, ◌||◌, leb, eqb, length}
+use Rattle.std.specs.Prelude.{ℕ, List, [], ◌∷◌, ◌++◌, Bool, cond, not, ◌&&◌, ◌||◌, leb, eqb, length, Result, Ok, Err}
 use Rattle.refusals.specs.declared.Refusal.TheVariants.{Length, Parity, Format, TypeCode}
 use Rattle.fields.specs.Packing.{field, pack, fits}
 use Rattle.fields.specs.Bytes.{number, bytes_of}
@@ -10,11 +10,9 @@ use Rattle.parity.specs.Parity.{remainder, seal}
 use Rattle.layouts.specs.Layouts.{is_position}
 use Rattle.layouts.specs.Status.{is_status_type}
 use Rattle.layouts.specs.Bodies.{type_by, taken_by, flag_in, body_coarse, body_type, flag_of, station_of, body_me, body_fits}
-use Rattle.layouts.specs.declared.bodies.Taken.{Taken}
-use Rattle.layouts.specs.declared.bodies.Taken.TheVariants as read
 use Rattle.messages.specs.declared.Message.{Message}
-use Rattle.messages.specs.declared.Decoded.{Decoded}
-use Rattle.messages.specs.declared.Decoded.TheVariants as decode
+use Rattle.layouts.specs.declared.bodies.Body.{Body}
+use Rattle.refusals.specs.declared.Refusal.{Refusal}
 
 -- RULES 2.1: bits from .. to of the message
 abbrev pub bits : ℕ → ℕ → List ℕ → ℕ
@@ -43,22 +41,22 @@ reserved_in format control me = is_reserved format control (type_by (coarse_by f
 -- ---- decoding
 
 -- with what ME says
-abbrev pub with_body : ℕ → ℕ → ℕ → Taken → Decoded
-with_body format control address (read.Body b) = decode.Message (record { format = format; control = control; address = address; body = b })
-with_body format control address (read.Refused r) = decode.Refused r
+abbrev pub with_body : ℕ → ℕ → ℕ → Result Body Refusal → Result Message Refusal
+with_body format control address (Ok b) = Ok (record { format = format; control = control; address = address; body = b })
+with_body format control address (Err r) = Err r
 
 -- by DF, CA or CF, AA and ME: 4, then 5, for a flag or a TYPE that is reserved or a TYPE or subtype that is not taken
-unfoldable pub opened : ℕ → ℕ → ℕ → ℕ → Decoded
+unfoldable pub opened : ℕ → ℕ → ℕ → ℕ → Result Message Refusal
 opened format control address me =
-    cond (not (format_taken format control)) (decode.Refused Format)
-    (cond (reserved_in format control me) (decode.Refused TypeCode)
+    cond (not (format_taken format control)) (Err Format)
+    (cond (reserved_in format control me) (Err TypeCode)
     (with_body format control address (taken_by (coarse_by format control) me)))
 
 -- RULES 2.2 and 3.6: 1, then 3, then 4 and 5. DF is bits 1-5, CA or CF 6-8, AA 9-32, ME 33-88
-abbrev pub decoded : List ℕ → Decoded
+abbrev pub decoded : List ℕ → Result Message Refusal
 decoded s =
-    cond (not (eqb (length s) 14)) (decode.Refused Length)
-    (cond (not (eqb (remainder s) 0)) (decode.Refused Parity)
+    cond (not (eqb (length s) 14)) (Err Length)
+    (cond (not (eqb (remainder s) 0)) (Err Parity)
     (opened (bits 1 5 s) (bits 6 8 s) (bits 9 32 s) (bits 33 88 s)))
 
 -- ---- the key of a track

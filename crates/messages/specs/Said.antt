@@ -1,5 +1,5 @@
 -- RULES 2.3 to 2.5, 3.2 and 19.3: what an answer says in the rules' terms: a number, or the layout of ME with the values of all fields in the order of their bits.
-use Rattle.std.specs.Prelude.{ℕ, List, [], ◌∷◌, ◌++◌, Bool, cond, not, ◌||◌, eqb, length}
+use Rattle.std.specs.Prelude.{ℕ, List, [], ◌∷◌, ◌++◌, Bool, cond, not, ◌||◌, eqb, length, Result, Ok, Err}
 use Rattle.refusals.specs.Numbers.{number_of}
 use Rattle.refusals.specs.Said.{Said, number, gives}
 use Rattle.fields.specs.Packing.{unpack}
@@ -11,20 +11,19 @@ use Rattle.layouts.specs.Said.{Values, values}
 use Rattle.layouts.specs.declared.bodies.Layout.{Layout}
 use Rattle.layouts.specs.declared.bodies.Layout.TheVariants as layout
 use Rattle.messages.specs.Message.{bits, format_taken, coarse_by, is_reserved, kind_of, starts_by, head_widths, head_fields}
-use Rattle.messages.specs.declared.Accepted.{Accepted}
-use Rattle.messages.specs.declared.Accepted.TheVariants as accept
-use Rattle.messages.specs.declared.Decoded.{Decoded}
-use Rattle.messages.specs.declared.Decoded.TheVariants as decode
+use Rattle.messages.specs.declared.Frame.{Frame}
+use Rattle.messages.specs.declared.Message.{Message}
+use Rattle.refusals.specs.declared.Refusal.{Refusal}
 
 -- the decoder's answer
-abbrev pub said : Decoded → Said Values
-said (decode.Message m) = gives (values (body_layout m.body) (head_fields m ++ body_fields m.body))
-said (decode.Refused r) = number (number_of r)
+abbrev pub said : Result Message Refusal → Said Values
+said (Ok m) = gives (values (body_layout m.body) (head_fields m ++ body_fields m.body))
+said (Err r) = number (number_of r)
 
 -- the answer of `accept`: DF, CA or CF, AA and ME
-abbrev pub accepted_said : Accepted → Said (List ℕ)
-accepted_said (accept.Frame f) = gives (f.format ∷ f.control ∷ f.address ∷ f.me ∷ [])
-accepted_said (accept.Refused r) = number (number_of r)
+abbrev pub accepted_said : Result Frame Refusal → Said (List ℕ)
+accepted_said (Ok f) = gives (f.format ∷ f.control ∷ f.address ∷ f.me ∷ [])
+accepted_said (Err r) = number (number_of r)
 
 -- ---- the table's "When, exactly", for the bytes of a message
 

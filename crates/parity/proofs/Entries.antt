@@ -5,6 +5,7 @@ use Prim.Native.Nat.{ℕ, zero, suc, ◌+◌, ◌*◌, ◌/◌, ◌%◌, ◌^◌
 use mathlib.Core.Path.{◌≡◌, refl, sym, ap, ap₂, ◌∙◌}
 use mathlib.Core.Bool.{Bool}
 use mathlib.Core.List.{List, [], ◌∷◌}
+use native.Mathlib.Nat.{mod-eq_of_lt, mul-add-mod_self_right}
 use native.Mathlib.Omega.{arith}
 use lib.Dec.{eqb, eqb→eq, lit<}
 use lib.ListN.{length, get_or}
@@ -66,3 +67,12 @@ step_is r b hr hb =
     ∙ ap₂ bit_xor
     (let e : x % 2 ^ 16 * 256 + 0 ≡ x % 2 ^ 16 * 256 = omega arith in e ∙ ap (λ (y : ℕ). y * 256) lo)
     (ap (λ (y : ℕ). remainder_from (y * 2 ^ 16) (bits_of (0 ∷ []))) hi ∙ sym (entry_is (bit_xor (r / 2 ^ 16) b) i)))
+
+-- the low 24 bits are all that the code reads
+pub step_low : (r b : ℕ) → b < 256 → bit_xor (r % 2 ^ 16 * 256) (get_or table (bit_xor (r / 2 ^ 16 % 256) b) 0) ≡ stepped (r % 2 ^ 24) b
+step_low r b h =
+    let lo : r % 2 ^ 16 ≡ r % 2 ^ 24 % 2 ^ 16 = omega arith in
+    let up : r / 2 ^ 16 ≡ r / 2 ^ 24 * 256 + r % 2 ^ 24 / 2 ^ 16 = omega arith in
+    let hi : r / 2 ^ 16 % 256 ≡ r % 2 ^ 24 / 2 ^ 16 =
+    ap (λ (x : ℕ). x % 256) up ∙ mul-add-mod_self_right (r / 2 ^ 24) 256 (r % 2 ^ 24 / 2 ^ 16) ∙ mod-eq_of_lt (omega arith) in
+    ap₂ (λ (x y : ℕ). bit_xor (x * 256) (get_or table (bit_xor y b) 0)) lo hi ∙ step_is (r % 2 ^ 24) b (omega arith) h

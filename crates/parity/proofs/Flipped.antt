@@ -9,6 +9,7 @@ use lib.Dec.{T, eqb}
 use lib.Pow.{pow_pos}
 use lib.Seq.{set_out, get_or-set_same}
 use lib.ListN.{length, get_or, set, length-set, length-replicate}
+use Rattle.std.specs.Int.Bits.{xor_assoc}
 use lib.Bits.{bit_xor, xor_self, xor_zero_l, xor_zero_r}
 use Rattle.fields.proofs.Tables.{at}
 use Rattle.parity.specs.Division.{remainder_from, reduce, bits_of, xor_all}
@@ -16,7 +17,6 @@ use Rattle.parity.specs.Parity.{remainder, flipped}
 use Rattle.parity.proofs.Linear.{cons, bits_xor}
 use Rattle.parity.specs.Strings.{zeros}
 use Rattle.parity.proofs.Seal.{remainder_xor}
-use Rattle.parity.proofs.Xor.{xor_assoc}
 
 -- ---- a flip as an exclusive-or
 

@@ -6,13 +6,15 @@ use mathlib.Core.Path.{◌≡◌, refl, sym, ap, ap₂, ◌∙◌}
 use mathlib.Core.List.{List, [], ◌∷◌, ◌++◌, append_assoc}
 use native.Mathlib.Nat.{mod-eq_of_lt}
 use native.Mathlib.Omega.{arith}
+use native.Mathlib.Numerals.{add-one}
 use lib.Dec.{lit<}
 use lib.Pow.{pow_mono}
-use lib.ListN.{length, replicate, take, drop, length-drop, take-append-drop}
+use lib.ListN.{length, get_or, replicate, take, drop, length-drop, take-append-drop}
+use lib.Seq.{take-suc}
 use lib.Bits.{bit_xor, xor_self, xor_zero_r}
 use Rattle.fields.specs.Bytes.{number, bytes_of, Bytes}
 use Rattle.fields.proofs.Packing.{unpack_fit}
-use Rattle.fields.proofs.Bytes.{number_bytes, bytes_number, bytes_drop, fit_bytes, number_lt}
+use Rattle.fields.proofs.Bytes.{number_bytes, bytes_number, bytes_drop, fit_bytes, number_lt, number_whole}
 use Rattle.parity.specs.Division.{remainder_from, bits_of, stepped, xor_all}
 use Rattle.parity.proofs.Linear.{linear, below_24, more_bytes, bits_bits, bits_xor, bits_length, added}
 use Rattle.parity.proofs.Small.{bytes_alone}
@@ -95,13 +97,16 @@ seal_more s b h =
     ∙ remainder_more (s ++ b ∷ 0 ∷ 0 ∷ []) (0 ∷ [])
     ∙ ap (λ (x : ℕ). remainder_from x (bits_of (0 ∷ []))) (three s (b ∷ 0 ∷ 0 ∷ []) refl (first_of_three b h) ∙ ap (bit_xor (seal s)) n)
 
--- ---- the code's numbers: up to three bytes as `number_of` and 24 bits give them
+-- .. of a string, the byte at i
+pub seal_next : (s : List ℕ) (i : ℕ) → Bytes s → i < length s → seal (take (i + 1) s) ≡ stepped (seal (take i s) % 2 ^ 24) (get_or s i 0)
+seal_next s i h l =
+    let e : take (i + 1) s ≡ take i s ++ (get_or s i 0 ∷ []) = rw add-one (take-suc s i 0 l) in
+    ap seal e ∙ seal_more (take i s) (get_or s i 0) (h i) ∙ ap (λ (n : ℕ). stepped n (get_or s i 0)) (sym (mod-eq_of_lt (seal_below (take i s))))
 
-pub low_number : (s : List ℕ) → Bytes s → length s ≤ 3 → number s % 2 ^ 64 % 2 ^ 24 ≡ number s
-low_number s h l =
-    let m : 2 ^ (8 * length s) ≤ 2 ^ 24 = pow_mono {j = 24} (omega arith) in
-    let k : number s < 2 ^ (8 * length s) = number_lt s (length s) h refl in
-    ap (λ (n : ℕ). n % 2 ^ 24) (mod-eq_of_lt (omega arith)) ∙ mod-eq_of_lt (omega arith)
+-- ---- the code's number of up to three bytes
+
+pub number_short : (s : List ℕ) → Bytes s → length s ≤ 3 → number s % 2 ^ 64 ≡ remainder s
+number_short s h l = number_whole s h (omega arith) ∙ sym (short s h l)
 
 -- the string in two parts, the last three bytes and those before them
 pub by_parts : (s : List ℕ) (k : ℕ) → Bytes s → length s ≡ k + 3 → bit_xor (seal (take k s)) (number (drop k s)) ≡ remainder s

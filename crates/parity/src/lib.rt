@@ -4,7 +4,7 @@
 mod division;
 mod lookup;
 
-ghost use Rattle.std.specs.Prelude.{◌≡◌, ◌%◌, ◌^◌};
+ghost use Rattle.std.specs.Prelude.{◌≡◌};
 ghost use Rattle.parity.specs.Parity.{remainder, seal};
 
 pub use division::step;
@@ -15,18 +15,10 @@ pub fn seal_of(s: &[u8]) -> u32
     ensures { result ≡ seal s.now }
 {
     let mut r: u32 = 0;
-    let mut i: usize = 0;
-    while i < s.len() {
-        r = crate::division::step(r, s[i]);
-        i += 1;
+    for &byte in s {
+        r = step(r, byte);
     }
     r
-}
-
-fn low24(n: u64) -> u32
-    ensures { result ≡ n % 2 ^ 24 }
-{
-    (n % 0x100_0000) as u32
 }
 
 // The remainder of the bytes. Of up to three it is the number that they make; more add their last three to the seal of the others.
@@ -35,8 +27,8 @@ pub fn remainder_of(s: &[u8]) -> u32
 {
     let n = s.len();
     if n < 3 {
-        return low24(fields::number_of(s));
+        return fields::number_of(s) as u32;
     }
-    let q = seal_of(&s[0..n - 3]);
-    q ^ low24(fields::number_of(&s[n - 3..n]))
+    let (front, last) = s.split_at(n - 3);
+    seal_of(front) ^ fields::number_of(last) as u32
 }

@@ -1,5 +1,5 @@
-pub mod Entries
-pub mod OfCode
-pub mod Parts
-pub mod Unique
 pub mod Words
+pub mod Entries
+pub mod Parts
+pub mod OfCode
+pub mod Unique

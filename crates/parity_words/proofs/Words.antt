@@ -1,7 +1,7 @@
 -- The division by words. The remainder of a string is that of the four bytes of a number: a word more is added to what 32 zero bits leave of that number.
 -- What they leave is the exclusive-or of what they leave of each byte.
 -- Assumes nothing.
-use Prim.Native.Nat.{ℕ, suc, ◌-◌, ◌*◌, ◌/◌, ◌%◌, ◌^◌, ◌<◌}
+use Prim.Native.Nat.{ℕ, ◌*◌, ◌/◌, ◌%◌, ◌^◌, ◌<◌}
 use mathlib.Core.Path.{◌≡◌, refl, sym, ap, ap₂, ◌∙◌}
 use mathlib.Core.List.{List, [], ◌∷◌, ◌++◌}
 use native.Mathlib.Nat.{mod-eq_of_lt}
@@ -15,20 +15,9 @@ use Rattle.fields.proofs.Bytes.{number_bytes, bytes_number, fit_bytes}
 use Rattle.parity.specs.Division.{remainder_from, bits_of, stepped, xor_all}
 use Rattle.parity.specs.Parity.{remainder, seal}
 use Rattle.parity.specs.Strings.{zeros}
-use Rattle.parity.proofs.Linear.{cons, below_24, more_bits}
+use Rattle.parity.proofs.Linear.{cons}
 use Rattle.parity.proofs.Halves.{zeros_before, in_halves}
 use Rattle.parity.proofs.Seal.{remainder_more, remainder_below, remainder_xor, short}
-
--- ---- a zero bit more
-
-pub zero_more : (r n : ℕ) → 0 < n → r < 2 ^ 24 → remainder_from (remainder_from (r % 2 ^ 24) (0 ∷ [])) (zeros (n - 1)) ≡ remainder_from r (zeros n)
-zero_more r n p h =
-    ap (λ (x : ℕ). remainder_from (remainder_from x (0 ∷ [])) (zeros (n - 1))) (mod-eq_of_lt h)
-    ∙ sym (more_bits r (0 ∷ []) (zeros (n - 1)))
-    ∙ ap (λ (k : ℕ). remainder_from r (zeros k)) (let e : suc (n - 1) ≡ n = omega arith in e)
-
-pub zero_below : (r : ℕ) → remainder_from (r % 2 ^ 24) (0 ∷ []) < 2 ^ 24
-zero_below r = below_24 (r % 2 ^ 24) (0 ∷ []) (omega arith) (lit< tt, tt)
 
 -- ---- a byte and zero bytes
 

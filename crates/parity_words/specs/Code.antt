@@ -1,5 +1,5 @@
 -- The code's tables of the division by words. Nobody need believe them: proofs/Entries.antt proves their rule by computed tests.
-use Rattle.std.specs.Prelude.{ℕ, List, [], ◌∷◌, ◌++◌, replicate}
+use Rattle.std.specs.Prelude.{ℕ, List, [], ◌∷◌}
 
 -- entry i is what 16 zero bits leave of i times x^16
 abbrev pub left1 : List ℕ
@@ -144,16 +144,3 @@ left4 =
     0xC12F39 ∷ 0xC225F7 ∷ 0xC73AA5 ∷ 0xC4306B ∷ 0xCD0401 ∷ 0xCE0ECF ∷ 0xCB119D ∷ 0xC81B53 ∷
     0xE9D5A9 ∷ 0xEADF67 ∷ 0xEFC035 ∷ 0xECCAFB ∷ 0xE5FE91 ∷ 0xE6F45F ∷ 0xE3EB0D ∷ 0xE0E1C3 ∷
     0xF183D9 ∷ 0xF28917 ∷ 0xF79645 ∷ 0xF49C8B ∷ 0xFDA8E1 ∷ 0xFEA22F ∷ 0xFBBD7D ∷ 0xF8B7B3 ∷ []
-
--- a table as the code asks it: its index begins at 256
-abbrev pub table1 : List ℕ
-table1 = replicate 256 0 ++ left1
-
-abbrev pub table2 : List ℕ
-table2 = replicate 256 0 ++ left2
-
-abbrev pub table3 : List ℕ
-table3 = replicate 256 0 ++ left3
-
-abbrev pub table4 : List ℕ
-table4 = replicate 256 0 ++ left4

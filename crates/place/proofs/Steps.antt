@@ -1,5 +1,6 @@
 -- A step keeps a track that fits: each rule of the step, from the spot that is found up, gives values that fit.
 -- Assumes nothing.
+use Rattle.std.specs.Prelude.{Result, Ok, Err}
 use Prim.Native.Nat.{ℕ, zero, suc, ◌-◌, ◌*◌, ◌^◌, ◌≤◌, ◌<◌}
 use mathlib.Core.Path.{◌≡◌, refl, sym, ap, ◌∙◌}
 use mathlib.Core.Bool.{Bool, true, false, ◌&&◌}
@@ -21,8 +22,6 @@ use Rattle.positions.specs.declared.Turn.{Turn}
 use Rattle.positions.specs.declared.Turn.TheVariants as turn
 use Rattle.positions.specs.declared.Format.{Format}
 use Rattle.positions.specs.declared.Format.TheVariants.{Even, Odd}
-use Rattle.positions.specs.declared.Found.{Found}
-use Rattle.positions.specs.declared.Found.TheVariants.{At, Refused}
 use Rattle.positions.specs.Positions.{
   units,
   count_size,
@@ -42,22 +41,19 @@ use Rattle.positions.specs.Positions.{
   near_found,
   singly,
 }
+use Rattle.messages.specs.declared.Message.{Message}
+use Rattle.whereabouts.specs.declared.Position.{Position}
 use Rattle.positions.specs.Code.{nearestℕ}
 use Rattle.positions.specs.Rounded.{HandedBy, pair_zones, pair_exact, single_zones, single_exact, last_short}
 use Rattle.positions.proofs.Shift.{abs_is, lifted, lifted_is}
 use Rattle.positions.proofs.Naturals.{rounded_is, rounded_low, rounded_high}
 use Rattle.positions.proofs.Short.{paired_handed, singly_handed, last_room}
 use Rattle.layouts.specs.declared.surface.Surface.{Surface}
-use Rattle.layouts.specs.declared.airborne.Airborne.{Airborne}
 use Rattle.layouts.specs.declared.bodies.Body.{Body}
 use Rattle.layouts.specs.declared.bodies.Body.TheVariants as body
 use Rattle.layouts.specs.Bodies.{body_me, body_fits}
 use Rattle.layouts.proofs.BothWays.{fitting, me_lt}
-use Rattle.messages.specs.declared.Decoded.{Decoded}
-use Rattle.messages.specs.declared.Decoded.TheVariants as decode
 use Rattle.track.specs.declared.Groups.{Groups}
-use Rattle.whereabouts.specs.declared.Placed.{Placed}
-use Rattle.whereabouts.specs.declared.Placed.TheVariants as placed
 use Rattle.whereabouts.specs.declared.Position.{Position}
 use Rattle.whereabouts.specs.declared.Saved.{Saved}
 use Rattle.whereabouts.specs.declared.Site.{Site}
@@ -107,9 +103,9 @@ rounded_pole M r p e =
     ap (λ (z : ℤ). pole_to_pole (rounded M z)) (sym is) ∙ rounded_up (lifted r M) M p (rw is h)
 
 -- its latitude is from pole to pole
-abbrev PolarFound : Found → Type 0
-PolarFound (At s) = pole_to_pole s.latitude ≡ true
-PolarFound (Refused r) = Unit
+abbrev PolarFound : Result Spot Refusal → Type 0
+PolarFound (Ok s) = pole_to_pole s.latitude ≡ true
+PolarFound (Err r) = Unit
 
 pair_inside : (P : ℕ) → 0 < P → (f : Format) (a b : ℕ) → (inside (60 * P) (pair_latitude P Even a b) && inside (59 * P) (pair_latitude P Odd a b)) ≡ true
     → pole_to_pole (rounded (latitude_zones f * P) (pair_latitude P f a b)) ≡ true
@@ -121,10 +117,10 @@ unfolding pair_found pair_spot
 paired_polar P some even odd later =
     let a = even.latitude.0 in
     let b = odd.latitude.0 in
-    by_test PolarFound (fit P even && fit P odd) (pair_found P even odd later) (Refused Field)
+    by_test PolarFound (fit P even && fit P odd) (pair_found P even odd later) (Err Field)
     (λ _.
-    by_test PolarFound (inside (60 * P) (pair_latitude P Even a b) && inside (59 * P) (pair_latitude P Odd a b)) _ (Refused Latitude)
-    (λ e. by_test PolarFound (eqb (pair_nl P Even a b) (pair_nl P Odd a b)) _ (Refused Zones) (λ _. pair_inside P some later a b e) (λ _. tt))
+    by_test PolarFound (inside (60 * P) (pair_latitude P Even a b) && inside (59 * P) (pair_latitude P Odd a b)) _ (Err Latitude)
+    (λ e. by_test PolarFound (eqb (pair_nl P Even a b) (pair_nl P Odd a b)) _ (Err Zones) (λ _. pair_inside P some later a b e) (λ _. tt))
     (λ _. tt))
     (λ _. tt)
 
@@ -140,8 +136,8 @@ unfolding near_found near_spot
 singly_polar P some s c k f =
     let N = all_round k (latitude_zones f) in
     let r = near P N s.latitude c.latitude.0 in
-    by_test PolarFound (fit P c && pole_to_pole s.latitude) (near_found P N s c k f) (Refused Field)
-    (λ _. by_test PolarFound (inside (N * P) r) _ (Refused Latitude) (λ e. rounded_pole (N * P) r (zones_pos P some k f) e) (λ _. tt))
+    by_test PolarFound (fit P c && pole_to_pole s.latitude) (near_found P N s c k f) (Err Field)
+    (λ _. by_test PolarFound (inside (N * P) r) _ (Err Latitude) (λ e. rounded_pole (N * P) r (zones_pos P some k f) e) (λ _. tt))
     (λ _. tt)
 
 -- the spot that is found fits its bytes: from pole to pole, and short of a turn
@@ -149,13 +145,13 @@ record FitsSpot (s : Spot) : Type 0 where
   latitude : pole_to_pole s.latitude ≡ true
   longitude : s.longitude < 2 ^ 32
 
-abbrev FitsFound : Found → Type 0
-FitsFound (At s) = FitsSpot s
-FitsFound (Refused r) = Unit
+abbrev FitsFound : Result Spot Refusal → Type 0
+FitsFound (Ok s) = FitsSpot s
+FitsFound (Err r) = Unit
 
-spot_fits : (P N r u : ℕ) (found : Found) → PolarFound found → HandedBy P N r (suc u) found → FitsFound found
-spot_fits P N r u (At s) p h = record { latitude = p; longitude = omega arith }
-spot_fits P N r u (Refused e) p h = tt
+spot_fits : (P N r u : ℕ) (found : Result Spot Refusal) → PolarFound found → HandedBy P N r (suc u) found → FitsFound found
+spot_fits P N r u (Ok s) p h = record { latitude = p; longitude = omega arith }
+spot_fits P N r u (Err e) p h = tt
 
 size_some : (size : Size) → 0 < count_size size
 size_some Fine = omega arith
@@ -179,25 +175,25 @@ singly_fits size s c k f =
 
 -- ---- the position
 
-abbrev FitsPlaced : Placed → Type 0
-FitsPlaced (placed.At p) = FitsPosition p
-FitsPlaced (placed.Refused r) = Unit
+abbrev FitsPlaced : Result Position Refusal → Type 0
+FitsPlaced (Ok p) = FitsPosition p
+FitsPlaced (Err r) = Unit
 
-placed_or_fits : (x : Placed) (p : Position) → FitsPlaced x → FitsPosition p → FitsPosition (placed_or x p)
-placed_or_fits (placed.At found) p e f = e
-placed_or_fits (placed.Refused r) p e f = f
+placed_or_fits : (x : Result Position Refusal) (p : Position) → FitsPlaced x → FitsPosition p → FitsPosition (placed_or x p)
+placed_or_fits (Ok found) p e f = e
+placed_or_fits (Err r) p e f = f
 
-passed_on_fits : (r : Refusal) (other : Placed) → FitsPlaced other → FitsPlaced (passed_on r other)
-passed_on_fits r other e = by_test FitsPlaced (eqb (number_of r) 8) (placed.Refused r) other (λ _. tt) (λ _. e)
+passed_on_fits : (r : Refusal) (other : Result Position Refusal) → FitsPlaced other → FitsPlaced (passed_on r other)
+passed_on_fits r other e = by_test FitsPlaced (eqb (number_of r) 8) (Err r) other (λ _. tt) (λ _. e)
 
 module _ (p : Position) (fits : FitsPosition p) (time : ℕ) (h : time < 2 ^ 64) where
   found_fits : (s : Spot) → FitsSpot s → FitsPosition (found_at s time)
   unfolding meant_position
   found_fits s e = record { latitude = e.latitude; longitude = e.longitude; time = h; meant = refl }
 
-  settled_fits : (found : Found) → FitsFound found → FitsPlaced (settled found p time)
-  settled_fits (At s) e = found_fits s e
-  settled_fits (Refused r) e = passed_on_fits r (placed.At p) fits
+  settled_fits : (found : Result Spot Refusal) → FitsFound found → FitsPlaced (settled found p time)
+  settled_fits (Ok s) e = found_fits s e
+  settled_fits (Err r) e = passed_on_fits r (Ok p) fits
 
   module _ (size : Size) (counts : Counts) (format : Format) where
     read_near_fits : (reference : Spot) (k : Turn) → FitsPlaced (read_near reference p size counts k format time)
@@ -206,11 +202,11 @@ module _ (p : Position) (fits : FitsPosition p) (time : ℕ) (h : time < 2 ^ 64)
 
     read_singly_fits : FitsPlaced (read_singly p size counts format time)
     unfolding read_singly
-    read_singly_fits = by_test FitsPlaced (is_fresh p time) _ (placed.At p) (λ _. read_near_fits p.spot turn.Airborne) (λ _. fits)
+    read_singly_fits = by_test FitsPlaced (is_fresh p time) _ (Ok p) (λ _. read_near_fits p.spot turn.Airborne) (λ _. fits)
 
-    after_pair_fits : (found : Found) → FitsFound found → FitsPlaced (after_pair found p size counts format time)
-    after_pair_fits (At s) e = found_fits s e
-    after_pair_fits (Refused r) e = passed_on_fits r (read_singly p size counts format time) read_singly_fits
+    after_pair_fits : (found : Result Spot Refusal) → FitsFound found → FitsPlaced (after_pair found p size counts format time)
+    after_pair_fits (Ok s) e = found_fits s e
+    after_pair_fits (Err r) e = passed_on_fits r (read_singly p size counts format time) read_singly_fits
 
   paired_with_fits : (partner : Counts) (size : Size) (counts : Counts) (format : Format) → FitsFound (paired_with partner size counts format)
   unfolding paired_with
@@ -229,7 +225,7 @@ module _ (p : Position) (fits : FitsPosition p) (time : ℕ) (h : time < 2 ^ 64)
   surface_placed site counts format =
       by_test FitsPlaced (is_fresh p time) _ _
       (λ _. read_near_fits Fine counts format p.spot turn.Surface)
-      (λ _. by_test FitsPlaced site.known _ (placed.At p) (λ _. read_near_fits Fine counts format site.spot turn.Surface) (λ _. fits))
+      (λ _. by_test FitsPlaced site.known _ (Ok p) (λ _. read_near_fits Fine counts format site.spot turn.Surface) (λ _. fits))
 
   airborne_fits : (partner : Saved) (size : Size) (counts : Counts) (format : Format) → FitsPosition (placed_or (airborne_position p partner size counts format time) p)
   airborne_fits partner size counts format = placed_or_fits (airborne_position p partner size counts format time) p (airborne_placed partner size counts format) fits
@@ -352,7 +348,7 @@ module _ (t : Track) (f : Fits t) (site : Site) (time : ℕ) (h : time < 2 ^ 64)
       let p = w.1.1.1.1 in
       saved_track_fits _ true b.f _ (pressure_fits _ b.altitude (moving_fits true _ (me_lt (body.Coarse b) e) refl) w.0) p.0 p.1.0 p.1.1.0
 
-  pub stepped_fits : (answer : Decoded) → Fits (stepped t answer site time).track
-  stepped_fits (decode.Refused r) = f
-  stepped_fits (decode.Message m) =
+  pub stepped_fits : (answer : Result Message Refusal) → Fits (stepped t answer site time).track
+  stepped_fits (Err r) = f
+  stepped_fits (Ok m) =
       by_test (λ (s : Stepped). Fits s.track) (body_fits m.body) _ _ (λ e. body_fits_lem m.body e) (λ _. f)

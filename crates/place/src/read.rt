@@ -27,6 +27,7 @@ fn lower(n: u32) -> i32
 }
 
 // The latitude of its number; one above its range is read as the pole.
+#[tactic(auto, unfolding(crate::specs::Place::lowered))]
 pub fn latitude_of(n: u32) -> i32
     ensures { result ≡ lowered n }
 {
@@ -44,18 +45,19 @@ fn count_in(coarse: bool, n: u64) -> u32
     }
 }
 
+#[tactic(auto, unfolding(crate::specs::Place::saved_from))]
 fn saved_from(n: u64, time: u64) -> Saved
     ensures { result ≡ saved_from n time }
 {
     let coarse = n / memory::SAVED_COARSE_MARK % 2 == 1;
     Saved {
         known: n / memory::SAVED_MARK % 2 == 1,
-        coarse: coarse,
+        coarse,
         counts: Counts {
             latitude: LatitudeCount(count_in(coarse, n)),
             longitude: LongitudeCount(count_in(coarse, n / memory::COUNTS)),
         },
-        time: time,
+        time,
     }
 }
 
@@ -69,6 +71,7 @@ fn saved_at(p: &[u8], at: usize) -> Saved
     )
 }
 
+#[tactic(auto, unfolding(crate::specs::Place::groups_in))]
 fn groups_in(p: &[u8]) -> Groups
     requires { length p.now ≡ body_size }
     ensures { result ≡ groups_in p.now }
@@ -87,37 +90,37 @@ fn groups_in(p: &[u8]) -> Groups
     }
 }
 
+#[tactic(auto, unfolding(crate::specs::Place::position_in))]
 fn position_in(p: &[u8]) -> Position
     requires { length p.now ≡ body_size }
     ensures { result ≡ position_in p.now }
 {
     let marks = memory::get4(p, memory::MARKS);
-    let latitude = latitude_of(memory::get4(p, memory::LATITUDE));
     Position {
         known: marks / memory::KNOWN_MARK % 2 == 1,
         spot: Spot {
-            latitude: latitude,
+            latitude: latitude_of(memory::get4(p, memory::LATITUDE)),
             longitude: memory::get4(p, memory::LONGITUDE),
         },
         time: memory::get8(p, memory::TIME),
     }
 }
 
+#[tactic(auto, unfolding(crate::specs::Place::written_in))]
 fn written_in(p: &[u8]) -> Track
     requires { length p.now ≡ body_size }
     ensures { result ≡ written_in p.now }
 {
-    let even = saved_at(p, memory::EVEN);
-    let odd = saved_at(p, memory::ODD);
     Track {
         heard: memory::get8(p, memory::HEARD),
         groups: groups_in(p),
         position: position_in(p),
-        saved: [even, odd],
+        saved: [saved_at(p, memory::EVEN), saved_at(p, memory::ODD)],
     }
 }
 
 // The track of a body, whatever its bytes.
+#[tactic(auto, unfolding(crate::specs::Place::track_of))]
 pub fn load(p: &[u8]) -> Track
     requires { length p.now ≡ body_size }
     ensures { result ≡ track_of p.now }

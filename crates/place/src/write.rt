@@ -20,12 +20,6 @@ const UP: u64 = memory::UP as u64;
 
 const TURN: u64 = 0x1_0000_0000;
 
-fn flag(b: bool) -> u64
-    ensures { (result ≡ bit b) × (result ≤ 1) }
-{
-    if b { 1 } else { 0 }
-}
-
 // How far a latitude lies above the south pole, 2^32 up, so that no number is below 0.
 pub fn above_pole(latitude: i32) -> u64
     ensures { result ≡ above_pole latitude }
@@ -36,21 +30,21 @@ pub fn above_pole(latitude: i32) -> u64
 fn marks_of(g: Groups, known: bool) -> u32
     ensures { result ≡ marks_of g known }
 {
-    (g.pressure % CODES) as u32
-        + (g.height % CODES) as u32 * memory::CODES
-        + (flag(known) as u32) * memory::KNOWN_MARK
-        + (g.typecode % TYPES) as u32 * memory::TYPE_MARK
-        + (flag(g.bit8) as u32) * memory::BIT8_MARK
-        + (flag(g.coarse) as u32) * memory::COARSE_MARK
+    u32::from(g.pressure % CODES)
+        + u32::from(g.height % CODES) * memory::CODES
+        + u32::from(known) * memory::KNOWN_MARK
+        + u32::from(g.typecode % TYPES) * memory::TYPE_MARK
+        + u32::from(g.bit8) * memory::BIT8_MARK
+        + u32::from(g.coarse) * memory::COARSE_MARK
 }
 
 fn saved_number(v: Saved) -> u64
     ensures { result ≡ saved_number v }
 {
-    (v.counts.latitude.0 % COUNTS) as u64
-        + (v.counts.longitude.0 % COUNTS) as u64 * memory::COUNTS
-        + flag(v.known) * memory::SAVED_MARK
-        + flag(v.coarse) * memory::SAVED_COARSE_MARK
+    u64::from(v.counts.latitude.0 % COUNTS)
+        + u64::from(v.counts.longitude.0 % COUNTS) * memory::COUNTS
+        + u64::from(v.known) * memory::SAVED_MARK
+        + u64::from(v.coarse) * memory::SAVED_COARSE_MARK
 }
 
 fn put_saved(s: &mut [u8], at: usize, v: Saved)
@@ -86,9 +80,7 @@ pub fn store(s: &mut [u8], at: usize, t: Track)
     requires { at + body_size ≤ length s.old }
     ensures { s.new ≡ put s.old at (body_of t) }
 {
-    let both = t.saved;
-    let even = both[0];
-    let odd = both[1];
+    let [even, odd] = t.saved;
     let g = t.groups;
     let p = t.position;
     memory::put8(s, at, t.heard);

@@ -8,42 +8,24 @@
 // A latitude of a spot is signed, in two's complement. Degrees are written as bit patterns in hex.
 #![tactic(auto)]
 
-ghost use Rattle.std.specs.Prelude.{◌≤◌, ◌<◌};
+ghost use Rattle.std.specs.Prelude.{◌≤◌};
 
 use counts::{LatitudeCount, LongitudeCount};
-use degrees::{Degrees, InDegrees};
-use positions::{Counts, Encoded, Format, Found, Size, Spot, Turn};
+use degrees::Degrees;
+use positions::{Counts, Format, Size, Spot, Turn};
 use refusals::Refusal;
 use std::io;
-
-fn wide(x: u8) -> u32
-    ensures { result < 256 }
-{
-    x as u32
-}
 
 fn number(record: &[u8; 18], at: usize) -> u32
     requires { at ≤ 14 }
 {
-    let a = wide(record[at]);
-    let b = wide(record[at + 1]);
-    let c = wide(record[at + 2]);
-    let d = wide(record[at + 3]);
-    a * 16777216 + b * 65536 + c * 256 + d
-}
-
-fn signed(x: u32) -> i32 {
-    if x < 2147483648 {
-        x as i32
-    } else {
-        (x as i64 - 4294967296) as i32
-    }
+    u32::from_be_bytes([record[at], record[at + 1], record[at + 2], record[at + 3]])
 }
 
 fn spot_at(record: &[u8; 18], at: usize) -> Spot
     requires { at ≤ 10 }
 {
-    let latitude = signed(number(record, at));
+    let latitude = number(record, at).cast_signed();
     let longitude = number(record, at + 4);
     Spot {
         latitude,
@@ -65,18 +47,16 @@ fn counts_at(record: &[u8; 18], at: usize) -> Counts
 // The double of a bit pattern. Of all those that are not a number Rattle has one.
 fn double_of(pattern: u64) -> f64 {
     if 0x7ff0_0000_0000_0000 < pattern % 0x8000_0000_0000_0000 {
-        let zero = 0.0;
-        zero / zero
-    } else {
-        f64::from_bits(pattern)
+        return f64::NAN;
     }
+    f64::from_bits(pattern)
 }
 
 fn double_at(record: &[u8; 18], at: usize) -> f64
     requires { at ≤ 10 }
 {
-    let high = number(record, at) as u64;
-    let low = number(record, at + 4) as u64;
+    let high = u64::from(number(record, at));
+    let low = u64::from(number(record, at + 4));
     double_of(high * 4294967296 + low)
 }
 
@@ -101,51 +81,39 @@ fn size_of(f: u8) -> Size {
     if f < 2 { Size::Fine } else { Size::Coarse }
 }
 
-fn say_signed(out: &impl Print, z: i32) -> io::Result<()> {
-    let wide = signs::widen(z);
-    if signs::is_below(wide) {
-        out.print("-")?;
-    }
-    out.print(signs::size_of(wide))
-}
-
 fn say_refusal(out: &impl Print, r: Refusal) -> io::Result<()> {
     print!(out; "refused {}", refusals::number(r))
 }
 
-fn say_encoded(out: &impl Print, e: Encoded) -> io::Result<()> {
+fn say_encoded(out: &impl Print, e: Result<Counts, Refusal>) -> io::Result<()> {
     match e {
-        Encoded::As(c) => print!(out; "{} {}", c.latitude.0, c.longitude.0),
-        Encoded::Refused(r) => say_refusal(out, r),
+        Ok(c) => print!(out; "{} {}", c.latitude.0, c.longitude.0),
+        Err(r) => say_refusal(out, r),
     }
 }
 
-fn say_found(out: &impl Print, f: Found) -> io::Result<()> {
+fn say_found(out: &impl Print, f: Result<Spot, Refusal>) -> io::Result<()> {
     match f {
-        Found::At(s) => {
-            say_signed(out, s.latitude)?;
-            print!(out; " {}", s.longitude)
-        }
-        Found::Refused(r) => say_refusal(out, r),
+        Ok(s) => print!(out; "{} {}", s.latitude, s.longitude),
+        Err(r) => say_refusal(out, r),
     }
 }
 
 fn say_double(out: &impl Print, x: f64) -> io::Result<()> {
-    if x != x {
-        out.print("nan")
-    } else {
-        print!(out; "{:016x}", f64::to_bits(x))
+    if x.is_nan() {
+        return out.print("nan");
     }
+    print!(out; "{:016x}", f64::to_bits(x))
 }
 
-fn say_degrees(out: &impl Print, a: InDegrees) -> io::Result<()> {
+fn say_degrees(out: &impl Print, a: Result<Degrees, Refusal>) -> io::Result<()> {
     match a {
-        InDegrees::Degrees(d) => {
+        Ok(d) => {
             say_double(out, d.latitude)?;
             out.print(" ")?;
             say_double(out, d.longitude)
         }
-        InDegrees::Refused(r) => say_refusal(out, r),
+        Err(r) => say_refusal(out, r),
     }
 }
 

@@ -1,6 +1,7 @@
 -- Each answer from what the code has computed: every part is put for the one that the definition names, and every test is decided.
 -- Assumes nothing.
-use mathlib.Core.Path.{◌≡◌, sym, ap, ◌∙◌}
+use Rattle.std.specs.Prelude.{Ok, Err}
+use mathlib.Core.Path.{◌≡◌, refl, sym, ap, ◌∙◌}
 use mathlib.Core.Bool.{true, false, ◌||◌}
 use mathlib.Core.Logic.{⊎_elim}
 use Prim.Native.Nat.{ℕ, ◌+◌, ◌*◌, ◌%◌, ◌≤◌, ◌<◌}
@@ -14,7 +15,6 @@ use Rattle.positions.specs.declared.Counts.{Counts}
 use Rattle.positions.specs.declared.Turn.{Turn}
 use Rattle.positions.specs.declared.Format.{Format}
 use Rattle.positions.specs.declared.Format.TheVariants.{Even, Odd}
-use Rattle.positions.specs.declared.Found.TheVariants.{At, Refused}
 use Rattle.positions.specs.Whole.{modulo}
 use Rattle.positions.specs.Zones.{zone_count}
 use Rattle.positions.specs.Code.{Within, Paired}
@@ -30,6 +30,11 @@ pub same : {p q : ℤ} {u v : ℕ} → p ≡ q → u ≡ v → spot p u ≡ spot
 same e f = λ i. spot (e i) (f i)
 
 -- the parts of a pair
+-- a field of what the one of a format has is what the one of that format has of the field
+pub own_by : {A : Type 0} (g : A → ℕ) (f : Format) (even odd : A) → g (own f even odd) ≡ own f (g even) (g odd)
+own_by g Even even odd = refl
+own_by g Odd even odd = refl
+
 pub own_small : (f : Format) {P even odd : ℕ} → even < P → odd < P → own f even odd < P
 own_small Even p q = p
 own_small Odd p q = q
@@ -72,7 +77,7 @@ fit_counts P c e =
 
 -- what a pair finds, with r and s the two latitudes one turn up
 module _ (even odd : Counts) (r s : ℕ) (er : Paired Even even.latitude.0 odd.latitude.0 r) (es : Paired Odd even.latitude.0 odd.latitude.0 s) where
-  pub pair_far : (later : Format) → (ltb 39321600 (4 * r) || ltb 38666240 (4 * s)) ≡ true → Refused Latitude ≡ pair_found 131072 even odd later
+  pub pair_far : (later : Format) → (ltb 39321600 (4 * r) || ltb 38666240 (4 * s)) ≡ true → Err Latitude ≡ pair_found 131072 even odd later
   unfolding pair_found
   pair_far later t =
       ⊎_elim
@@ -102,20 +107,20 @@ module _ (even odd : Counts) (r s : ℕ) (er : Paired Even even.latitude.0 odd.l
       unfolding pair_nl
       odd_count = rw es.is (sym em)
 
-      pub pair_apart_lem : (later : Format) → (NL ≡ m → ⊥) → Refused Zones ≡ pair_found 131072 even odd later
+      pub pair_apart_lem : (later : Format) → (NL ≡ m → ⊥) → Err Zones ≡ pair_found 131072 even odd later
       unfolding pair_found
       pair_apart_lem later h = rw (even_inside, odd_inside, even_count, odd_count, ne_eqb NL m h)
 
       pub pair_found_lem : (later : Format) → NL ≡ m → (p : Spot) →
           p ≡ pair_spot 131072 later (sub_ℕ (own later r s) (latitude_zones later * 131072)) NL even.longitude.0 odd.longitude.0 →
-          At p ≡ pair_found 131072 even odd later
+          Ok p ≡ pair_found 131072 even odd later
       unfolding pair_found
-      pair_found_lem Even e p ep = ap At ep ∙ rw (even_inside, odd_inside, even_count, odd_count, eq-eqb NL m e, er.is)
-      pair_found_lem Odd e p ep = ap At ep ∙ rw (even_inside, odd_inside, even_count, odd_count, eq-eqb NL m e, es.is)
+      pair_found_lem Even e p ep = ap Ok ep ∙ rw (even_inside, odd_inside, even_count, odd_count, eq-eqb NL m e, er.is)
+      pair_found_lem Odd e p ep = ap Ok ep ∙ rw (even_inside, odd_inside, even_count, odd_count, eq-eqb NL m e, es.is)
 
 -- what is found near a reference, with y the latitude one turn up
 module _ (N y : ℕ) (s : Spot) (c : Counts) (k : Turn) (f : Format) (e : near 131072 N s.latitude c.latitude.0 ≡ sub_ℕ y (N * 131072)) where
-  pub near_far : (ltb (4 * y) (3 * (N * 131072)) || ltb (5 * (N * 131072)) (4 * y)) ≡ true → Refused Latitude ≡ near_found 131072 N s c k f
+  pub near_far : (ltb (4 * y) (3 * (N * 131072)) || ltb (5 * (N * 131072)) (4 * y)) ≡ true → Err Latitude ≡ near_found 131072 N s c k f
   unfolding near_found
   near_far t =
       ⊎_elim
@@ -131,7 +136,7 @@ module _ (N y : ℕ) (s : Spot) (c : Counts) (k : Turn) (f : Format) (e : near 1
     near_north = ltb-false (5 * (N * 131072)) (4 * y) (neither (ltb (4 * y) (3 * (N * 131072))) (ltb (5 * (N * 131072)) (4 * y)) t).1
 
     pub near_found_lem : (NL lo n : ℕ) → NL ≡ zone_count (N * 131072) (sub_ℕ y (N * 131072)) → lo ≡ longitude_zones f NL → n ≡ all_round k lo → (p : Spot) →
-        p ≡ near_spot 131072 N (sub_ℕ y (N * 131072)) n s.longitude c.longitude.0 → At p ≡ near_found 131072 N s c k f
+        p ≡ near_spot 131072 N (sub_ℕ y (N * 131072)) n s.longitude c.longitude.0 → Ok p ≡ near_found 131072 N s c k f
     unfolding near_found
     near_found_lem NL lo n eNL elo en p ep =
-        ap At ep ∙ rw (e, inside_yes y (N * 131072) near_south near_north, ← eNL, ← elo, ← en)
+        ap Ok ep ∙ rw (e, inside_yes y (N * 131072) near_south near_north, ← eNL, ← elo, ← en)

@@ -2,10 +2,10 @@
 -- So a search by halves finds the first entry not below: where one entry is below a latitude, all before it are, and the search may go on behind it.
 -- And both searches find the same: a whole number is at most a fraction just where it is at most the fraction rounded down.
 -- Assumes nothing.
-use mathlib.Core.Path.{◌≡◌, refl, sym, ap, ap₂, ◌∙◌}
+use mathlib.Core.Path.{◌≡◌, refl, sym, ap, ap₂, subst, ◌∙◌}
 use mathlib.Core.Bool.{Bool, true, false, cond, ◌&&◌}
 use mathlib.Core.List.{List, [], ◌∷◌, map}
-use mathlib.Core.Logic.{◌↔◌, inl, inr, ⊎_elim}
+use mathlib.Core.Logic.{◌↔◌, ◌⊎◌, inl, inr, ⊎_elim}
 use Prim.Native.Nat.{ℕ, zero, suc, ◌+◌, ◌-◌, ◌*◌, ◌≤◌, ◌<◌, suc-le-suc}
 use native.Mathlib.Nat.{not-suc-le-zero, le_of_suc-le-suc, mul-le-mul_right, mul-lt-mul_of_pos_right, le-div_iff_mul-le, div-lt_iff_lt-mul}
 use native.Mathlib.Omega.{arith}
@@ -14,6 +14,10 @@ use lib.IntN.{ℤ, nat_abs}
 use lib.ListN.{length, get_or, drop, drop_of_length-le}
 use lib.Seq.{drop-cons}
 use borrow.Author.Tests.{le-leb, lt-leb}
+use Rattle.std.proofs.Common.{Result, Ok, Err}
+use Rattle.std.specs.Ordering.{nat_cmp}
+use Rattle.std.specs.List.Sorted.{IsBinarySearchResult, IsNonDecreasingBy}
+use Rattle.std.proofs.lemmas.List.Sorted.{searched, IsNonDecreasingBy-from_all_adjacent}
 use Rattle.positions.specs.declared.Turn.{Turn}
 use Rattle.positions.specs.declared.Turn.TheVariants.{Airborne, Surface}
 use Rattle.positions.specs.declared.Format.{Format}
@@ -42,22 +46,22 @@ second_of : (a b : Bool) → T (a && b) → T b
 second_of true b t = t
 second_of false b t = absurd t
 
-rises : (xs : List ℕ) → T (rising xs) → (i : ℕ) → suc i < length xs → get_or xs i 0 < get_or xs (suc i) 0
+rises : (d : ℕ) (xs : List ℕ) → T (rising xs) → (i : ℕ) → suc i < length xs → get_or xs i d < get_or xs (suc i) d
 unfolding rising above
-rises [] t i h = absurd (not-suc-le-zero h)
-rises (x ∷ []) t i h = absurd (not-suc-le-zero (le_of_suc-le-suc h))
-rises (x ∷ y ∷ ys) t zero h = ltb→lt x y (first_of (ltb x y) (rising (y ∷ ys)) t)
-rises (x ∷ y ∷ ys) t (suc i) h = rises (y ∷ ys) (second_of (ltb x y) (rising (y ∷ ys)) t) i (le_of_suc-le-suc h)
+rises d [] t i h = absurd (not-suc-le-zero h)
+rises d (x ∷ []) t i h = absurd (not-suc-le-zero (le_of_suc-le-suc h))
+rises d (x ∷ y ∷ ys) t zero h = ltb→lt x y (first_of (ltb x y) (rising (y ∷ ys)) t)
+rises d (x ∷ y ∷ ys) t (suc i) h = rises d (y ∷ ys) (second_of (ltb x y) (rising (y ∷ ys)) t) i (le_of_suc-le-suc h)
 
 -- that of RULES 7.4: the one test is `tt`
 pub latitudes_rise : Rising latitudes
 unfolding latitudes rising above
-latitudes_rise = record { long = refl; rise = λ i h. rises latitudes tt i (suc-le-suc h) }
+latitudes_rise = record { long = refl; rise = λ i h. rises 0 latitudes tt i (suc-le-suc h) }
 
 -- the code's
 pub edges_rise : Rising edges
 unfolding edges latitudes rising above
-edges_rise = record { long = refl; rise = λ i h. rises edges tt i (suc-le-suc h) }
+edges_rise = record { long = refl; rise = λ i h. rises 0 edges tt i (suc-le-suc h) }
 
 -- ---- the search, in any table that rises
 
@@ -100,6 +104,37 @@ module _ (es : List ℕ) (x d : ℕ) where
         (λ (e : 58 ≤ i). ap left {x = i} {y = 58} (omega arith) ∙ none ∙ omega arith)
         (λ (e : i < 58). here i e (h e))
         (order i 58)
+
+-- ---- the search in the code's table, by the library's binary search
+
+edges_climb : IsNonDecreasingBy (λ (y : ℕ). y) edges
+unfolding edges latitudes rising above
+edges_climb = IsNonDecreasingBy-from_all_adjacent (λ (y : ℕ). y) edges (λ k d l. omega (arith, rises d edges tt k (omega arith), ap (λ j. get_or edges j d) {x = k + 1} {y = suc k} (omega arith)))
+
+-- entry i is the first that is not below x
+first_at : (x i : ℕ) → i ≤ 58 → ((k : ℕ) → suc k ≡ i → get_or edges k 0 < x) → (i < 58 → x ≤ get_or edges i 0) → first 59 edges x 1 ≡ 59 - i
+first_at x zero g b h = reached edges x 1 edges_rise 0 g (λ l. omega (arith, h l))
+first_at x (suc m) g b h =
+    passed edges x 1 edges_rise 0 m (omega arith) (omega arith) (omega (arith, b m refl)) ∙ reached edges x 1 edges_rise (suc m) g (λ l. omega (arith, h l))
+
+first_found : (x i : ℕ) (r : Result ℕ ℕ) → IsBinarySearchResult (λ y. nat_cmp y x) edges r → (r ≡ Ok i) ⊎ (r ≡ Err i) → (i ≤ 58) × (first 59 edges x 1 ≡ 59 - i)
+first_found x i r h (inl e) =
+    let s = searched edges x (Ok i) (subst (IsBinarySearchResult (λ y. nat_cmp y x) edges) e h) (λ i j. edges_climb i j 0) in (
+      omega (arith, s.0, edges_rise.long),
+      first_at x i (omega (arith, s.0, edges_rise.long)) (λ k q. omega (arith, edges_rise.rise k (omega (arith, s.0, edges_rise.long)), ap (λ j. get_or edges j 0) q, s.1)) (λ l. omega (arith, s.1)),
+    )
+first_found x i r h (inr e) =
+    let s = searched edges x (Err i) (subst (IsBinarySearchResult (λ y. nat_cmp y x) edges) e h) (λ i j. edges_climb i j 0) in (
+      omega (arith, s.0, edges_rise.long),
+      first_at x i (omega (arith, s.0, edges_rise.long)) (λ k q. s.1 k (omega arith)) (λ l. omega (arith, s.2 i (omega arith) (omega (arith, edges_rise.long)))),
+    )
+
+-- the place of x, be it an entry or not, is the number of entries below it
+pub search_is : (x i : ℕ) (es : List ℕ) (r : Result ℕ ℕ) → es ≡ edges → IsBinarySearchResult (λ y. nat_cmp y x) es r → (r ≡ Ok i) ⊎ (r ≡ Err i)
+    → (59 - i ≡ first 59 edges x 1) × ((0 < 59 - i) × (59 - i ≤ 59))
+search_is x i es r t h w =
+    let s = first_found x i r (subst (λ (l : List ℕ). IsBinarySearchResult (λ y. nat_cmp y x) l r) t h) w in
+    (sym s.1, (omega (arith, s.0), omega arith))
 
 -- there is always a zone, and never more than 59
 first_range : (n : ℕ) (es : List ℕ) (a d : ℕ) → length es < n → (0 < first n es a d) × (first n es a d ≤ n)

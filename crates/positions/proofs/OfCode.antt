@@ -2,6 +2,7 @@
 -- within half a count of the true one; and no spot that `pair` or `single` gives has lost anything of its longitude. By the same of the definitions, which
 -- hold at either size of counts; that `encode` gave counts says that the latitude is from pole to pole.
 -- Assumes nothing.
+use Rattle.std.specs.Prelude.{Result, Ok, Err}
 use mathlib.Core.Path.{◌≡◌, refl, sym, ap, ◌∙◌, subst}
 use mathlib.Core.Bool.{Bool, true, false, cond, ◌&&◌}
 use Prim.Native.Nat.{ℕ, ◌*◌, ◌<◌}
@@ -19,10 +20,6 @@ use Rattle.positions.specs.declared.Format.TheVariants.{Even, Odd}
 use Rattle.positions.specs.declared.Size.{Size}
 use Rattle.positions.specs.declared.Size.TheVariants.{Fine, Coarse}
 use Rattle.positions.specs.declared.Counts.{Counts}
-use Rattle.positions.specs.declared.Encoded.{Encoded}
-use Rattle.positions.specs.declared.Encoded.TheVariants.{As, Refused as NotEncoded}
-use Rattle.positions.specs.declared.Found.{Found}
-use Rattle.positions.specs.declared.Found.TheVariants.{At, Refused}
 use Rattle.positions.specs.Whole.{modulo}
 use Rattle.positions.specs.Zones.{zone_count}
 use Rattle.positions.specs.Positions.{units, count_size, latitude_zones, longitude_zones, all_round, whole, spot_zones, counts_of, pole_to_pole, rounded_turn, inside, fit, paired, near, near_spot, near_found}
@@ -40,36 +37,36 @@ use Rattle.positions.proofs.single.Reads as single
 
 -- ---- calls that met their contracts
 
-abbrev pub EncodeMet : Size → Spot → Turn → Format → Encoded → Type 0
+abbrev pub EncodeMet : Size → Spot → Turn → Format → Result Counts Refusal → Type 0
 EncodeMet z s k f x = encode.Post tt (z, (s, (k, (f, tt)))) x (z, (s, (k, (f, tt))))
 
-abbrev pub PairMet : Size → Counts → Counts → Format → Found → Type 0
+abbrev pub PairMet : Size → Counts → Counts → Format → Result Spot Refusal → Type 0
 PairMet z even odd later x = pair.Post tt (z, (even, (odd, (later, tt)))) x (z, (even, (odd, (later, tt))))
 
-abbrev pub SingleMet : Size → Spot → Counts → Turn → Format → Found → Type 0
+abbrev pub SingleMet : Size → Spot → Counts → Turn → Format → Result Spot Refusal → Type 0
 SingleMet z reference c k f x = single.Post tt (z, (reference, (c, (k, (f, tt))))) x (z, (reference, (c, (k, (f, tt)))))
 
 -- ---- what an answer that gives something says of the tests
 
-as_given : (t : Bool) (c d : Counts) → As c ≡ cond t (As d) (NotEncoded Field) → T t × (c ≡ d)
-as_given true c d e = let g : As c ≡ As d = e in (tt, cc)
+as_given : (t : Bool) (c d : Counts) → Ok c ≡ cond t (Ok d) (Err Field) → T t × (c ≡ d)
+as_given true c d e = let g : Ok c ≡ Ok d = e in (tt, cc)
 as_given false c d e =
-    let g : As c ≡ NotEncoded Field = e in
+    let g : Ok c ≡ Err Field = e in
     let z : ◌≡◌ {A = ℕ} 0 1 = cc in
     let no : ⊥ = omega arith in
     absurd no
 
-at_same : (r p : Spot) → At r ≡ At p → r ≡ p
+at_same : (r p : Spot) → ◌≡◌ {A = Result Spot Refusal} (Ok r) (Ok p) → r ≡ p
 at_same r p e = cc
 
-at_none : (r : Spot) (n : Refusal) → At r ≡ Refused n → ⊥
+at_none : (r : Spot) (n : Refusal) → Ok r ≡ Err n → ⊥
 at_none r n e = let z : ◌≡◌ {A = ℕ} 0 1 = cc in omega arith
 
-at_trip : (t : Bool) (r p : Spot) → At r ≡ cond t (At p) (Refused Zones) → r ≡ p
+at_trip : (t : Bool) (r p : Spot) → Ok r ≡ cond t (Ok p) (Err Zones) → r ≡ p
 at_trip true r p e = at_same r p e
 at_trip false r p e = absurd (at_none r Zones e)
 
-at_near : (t u : Bool) (r p : Spot) → At r ≡ cond t (cond u (At p) (Refused Latitude)) (Refused Field) → (t ≡ true) × (r ≡ p)
+at_near : (t u : Bool) (r p : Spot) → Ok r ≡ cond t (cond u (Ok p) (Err Latitude)) (Err Field) → (t ≡ true) × (r ≡ p)
 at_near true true r p e = (refl, at_same r p e)
 at_near true false r p e = absurd (at_none r Latitude e)
 at_near false u r p e = absurd (at_none r Field e)
@@ -77,7 +74,7 @@ at_near false u r p e = absurd (at_none r Field e)
 -- ---- no longitude is a turn
 
 -- whatever spot a pair gives: its longitude is the pair's exact one rounded to nearest, all of it, and 555 units short of a turn or more, 17,772 of coarse counts
-pub code_pair_handed : (size : Size) (even odd : Counts) (later : Format) (r : Spot) → PairMet size even odd later (At r)
+pub code_pair_handed : (size : Size) (even odd : Counts) (later : Format) (r : Spot) → PairMet size even odd later (Ok r)
     → Handed (count_size size) (pair_zones (count_size size) even odd later) (pair_exact (count_size size) even odd later) (last_short size Airborne) r.longitude
 code_pair_handed Fine even odd later r pr =
     subst (HandedBy 131072 (pair_zones 131072 even odd later) (pair_exact 131072 even odd later) 555) (sym pr) (paired_handed 131072 554 (omega arith) even odd later)
@@ -85,7 +82,7 @@ code_pair_handed Coarse even odd later r pr =
     subst (HandedBy 4096 (pair_zones 4096 even odd later) (pair_exact 4096 even odd later) 17772) (sym pr) (paired_handed 4096 17771 (omega arith) even odd later)
 
 -- and so of a single message, with 139 on the surface, and 4,443
-pub code_single_handed : (size : Size) (reference : Spot) (c : Counts) (k : Turn) (f : Format) (r : Spot) → SingleMet size reference c k f (At r)
+pub code_single_handed : (size : Size) (reference : Spot) (c : Counts) (k : Turn) (f : Format) (r : Spot) → SingleMet size reference c k f (Ok r)
     → Handed (count_size size) (single_zones (count_size size) reference c k f) (single_exact (count_size size) reference c k f) (last_short size k) r.longitude
 code_single_handed Fine reference c Airborne f r pr =
     subst (HandedBy 131072 (single_zones 131072 reference c Airborne f) (single_exact 131072 reference c Airborne f) 555) (sym pr) (singly_handed 131072 554 Airborne (last_room Fine Airborne) (lit< tt) reference c f)
@@ -118,7 +115,7 @@ module _ (size : Size) (s : Spot) where
   -- ---- a pair
 
   -- one place encoded both ways and paired gives the rounded place of the later message, or 10 just where the rounded latitudes differ in NL
-  pub encode_both_and_pair : (e o : Counts) (later : Format) (r : Found) → EncodeMet size s Airborne Even (As e) → EncodeMet size s Airborne Odd (As o) → PairMet size e o later r → r ≡ round_trip P s later
+  pub encode_both_and_pair : (e o : Counts) (later : Format) (r : Result Spot Refusal) → EncodeMet size s Airborne Even (Ok e) → EncodeMet size s Airborne Odd (Ok o) → PairMet size e o later r → r ≡ round_trip P s later
   encode_both_and_pair e o later r pe po pr =
       let ge = as_given (pole_to_pole s.latitude) e (counts_of P s Airborne Even) pe in
       let go = as_given (pole_to_pole s.latitude) o (counts_of P s Airborne Odd) po in
@@ -143,11 +140,11 @@ module _ (size : Size) (s : Spot) where
         }
 
     -- and so the place is within half a count of the one that was encoded
-    pub code_half_a_count : (e o : Counts) (later : Format) (r : Spot) → EncodeMet size s Airborne Even (As e) → EncodeMet size s Airborne Odd (As o) → PairMet size e o later (At r)
+    pub code_half_a_count : (e o : Counts) (later : Format) (r : Spot) → EncodeMet size s Airborne Even (Ok e) → EncodeMet size s Airborne Odd (Ok o) → PairMet size e o later (Ok r)
         → HalfACount P (latitude_zones later) (longitude_zones later (rounded_nl P later s.latitude)) s r
     unfolding round_trip
     code_half_a_count e o later r pe po pr =
-        let same = at_trip (eqb (rounded_nl P Even s.latitude) (rounded_nl P Odd s.latitude)) r (rounded_spot P later s) (encode_both_and_pair e o later (At r) pe po pr) in
+        let same = at_trip (eqb (rounded_nl P Even s.latitude) (rounded_nl P Odd s.latitude)) r (rounded_spot P later s) (encode_both_and_pair e o later (Ok r) pe po pr) in
         subst (λ (p : Spot). HalfACount P (latitude_zones later) (longitude_zones later (rounded_nl P later s.latitude)) s p) (sym same) (rounded_half later)
 
     -- ---- one message, against a reference
@@ -167,7 +164,7 @@ module _ (size : Size) (s : Spot) where
       unfolding spot_zones
       some_longitude = some_round k (longitude_zones f (zone_count (N * P) (whole P N s.latitude))) (omega arith)
 
-      pub code_half_a_count_singly : EncodeMet size s k f (As c) → SingleMet size reference c k f (At r)
+      pub code_half_a_count_singly : EncodeMet size s k f (Ok c) → SingleMet size reference c k f (Ok r)
           → Nearby P N reference.latitude c.latitude.0 (whole P N s.latitude)
           → (z : ℤ) → modulo z (n * P) ≡ modulo (whole P n (pos s.longitude)) (n * P) → Nearby P n (pos reference.longitude) c.longitude.0 z
           → HalfACount P N n s r

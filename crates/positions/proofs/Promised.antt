@@ -1,6 +1,7 @@
 -- What the contracts promise in the rules' terms: whatever meets the contract of `encode` says 8 or the counts, and whatever meets that of `pair` or `single`
 -- says 8, 9, 10 in that order or the spot. The tests of the definitions are the table's, each turned over; then by the cases of the tests.
 -- Assumes nothing.
+use Rattle.std.specs.Prelude.{Ok, Err}
 use Prim.Native.Nat.{ℕ, ◌*◌, ◌≤◌, ◌<◌}
 use mathlib.Core.Path.{◌≡◌, refl, sym, ap, ◌∙◌}
 use mathlib.Core.Bool.{Bool, true, false, cond, not, ◌&&◌, ◌||◌}
@@ -20,8 +21,6 @@ use Rattle.positions.specs.declared.Format.TheVariants.{Even, Odd}
 use Rattle.positions.specs.declared.Size.{Size}
 use Rattle.positions.specs.declared.Size.TheVariants.{Fine, Coarse}
 use Rattle.positions.specs.declared.Counts.{Counts}
-use Rattle.positions.specs.declared.Encoded.TheVariants as encoding
-use Rattle.positions.specs.declared.Found.TheVariants as finding
 use Rattle.positions.specs.Positions.{count_size, latitude_zones, all_round, counts_of, pole_to_pole, encoded, inside, pair_latitude, pair_nl, pair_found, fit, paired, near, near_found, singly}
 use Rattle.positions.specs.Said.{encoded_said, found_said, past_pole, too_high, encode_table, pair_table, single_table}
 use Rattle.positions.proofs.Shift.{order}
@@ -62,9 +61,9 @@ fits Coarse c = rw (not_from c.latitude.0 4096, not_from c.longitude.0 4096) (ne
 -- ---- each definition says what the table does
 
 encode_says : (size : Size) (s : Spot) (k : Turn) (f : Format) → encoded_said (encoded (count_size size) s k f) ≡ encode_table size s k f
-encode_says size s k f = ap (λ (t : Bool). encoded_said (cond t (encoding.As (counts_of (count_size size) s k f)) (encoding.Refused Field))) (poles s) ∙ by_test (past_pole s) (counts_of (count_size size) s k f)
+encode_says size s k f = ap (λ (t : Bool). encoded_said (cond t (Ok (counts_of (count_size size) s k f)) (Err Field))) (poles s) ∙ by_test (past_pole s) (counts_of (count_size size) s k f)
   where
-    by_test : (t : Bool) (c : Counts) → encoded_said (cond (not t) (encoding.As c) (encoding.Refused Field)) ≡ cond t (number 8) (gives c)
+    by_test : (t : Bool) (c : Counts) → encoded_said (cond (not t) (Ok c) (Err Field)) ≡ cond t (number 8) (gives c)
     by_test true c = refl
     by_test false c = refl
 
@@ -78,7 +77,7 @@ pair_says size even odd later =
     (by_tests (too_high size even) (too_high size odd) (inside (60 * P) (pair_latitude P Even a b)) (inside (59 * P) (pair_latitude P Odd a b)) (eqb (pair_nl P Even a b) (pair_nl P Odd a b)) _)
   where
     by_tests : (a b i j n : Bool) (s : Spot)
-        → found_said (cond (not a && not b) (cond (i && j) (cond n (finding.At s) (finding.Refused Zones)) (finding.Refused Latitude)) (finding.Refused Field))
+        → found_said (cond (not a && not b) (cond (i && j) (cond n (Ok s) (Err Zones)) (Err Latitude)) (Err Field))
         ≡ cond (a || b) (number 8) (cond (not i || not j) (number 9) (cond (not n) (number 10) (gives s)))
     by_tests true b i j n s = refl
     by_tests false true i j n s = refl
@@ -95,7 +94,7 @@ single_says size reference c k f =
     rw (fits size c, poles reference) (by_tests (too_high size c) (past_pole reference) (inside (N * P) (near P N reference.latitude c.latitude.0)) _)
   where
     by_tests : (a b i : Bool) (s : Spot)
-        → found_said (cond (not a && not b) (cond i (finding.At s) (finding.Refused Latitude)) (finding.Refused Field)) ≡ cond (a || b) (number 8) (cond (not i) (number 9) (gives s))
+        → found_said (cond (not a && not b) (cond i (Ok s) (Err Latitude)) (Err Field)) ≡ cond (a || b) (number 8) (cond (not i) (number 9) (gives s))
     by_tests true b i s = refl
     by_tests false true i s = refl
     by_tests false false false s = refl

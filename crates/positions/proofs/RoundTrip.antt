@@ -1,6 +1,7 @@
 -- Encoding one place both ways and pairing gives the rounded place of the later message exactly, or 10 just when the two rounded
 -- latitudes differ in NL, and never 9: both latitudes come back exactly (Trip.antt), so their tests and NLs are those of the rounded ones.
 -- Assumes nothing.
+use Rattle.std.specs.Prelude.{Ok}
 use mathlib.Core.Path.{◌≡◌, refl, sym, ap}
 use mathlib.Core.Bool.{Bool, true, false, cond}
 use Prim.Native.Nat.{ℕ, ◌*◌, ◌≤◌, ◌<◌}
@@ -13,7 +14,6 @@ use Rattle.positions.specs.declared.Turn.TheVariants.{Airborne}
 use Rattle.positions.specs.declared.Format.{Format}
 use Rattle.positions.specs.declared.Format.TheVariants.{Even, Odd}
 use Rattle.positions.specs.declared.Counts.{Counts}
-use Rattle.positions.specs.declared.Found.TheVariants.{At}
 use Rattle.positions.specs.Whole.{modulo}
 use Rattle.positions.specs.Zones.{zone_count}
 use Rattle.positions.specs.Positions.{latitude_zones, longitude_zones, all_round, whole, count, spot_zones, counts_of, pole_to_pole, inside, pair_latitude, pair_longitude, pair_nl, pair_spot, pair_found, fit, paired}
@@ -82,7 +82,7 @@ module _ (q : ℕ) (large : 118 < 4 * q) (s : Spot) (t : T (pole_to_pole s.latit
   unfolding pair_found round_trip
   found_again later =
       rw (inside_of Even, inside_of Odd, count_of Even, count_of Odd)
-      (if_true (eqb n m) _ _ _ (λ (h : T (eqb n m)). ap At (spot_of n (both (eqb→eq n m h)) later)))
+      (if_true (eqb n m) _ _ _ (λ (h : T (eqb n m)). ap Ok (spot_of n (both (eqb→eq n m h)) later)))
     where
       n : ℕ
       n = rounded_nl (4 * q) Even s.latitude

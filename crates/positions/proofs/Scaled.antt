@@ -1,7 +1,7 @@
 -- Counts of a smaller size are counts of a larger one: at the size P * k and at counts times k every definition is what it is at P.
 -- So counts of 2^12 are read by the code for 2^17, as counts times 32.
 -- Assumes nothing.
-use mathlib.Core.Path.{◌≡◌, refl, sym, ap, ap₂, ◌∙◌}
+use mathlib.Core.Path.{◌≡◌, refl, sym, ap, ap₂, subst, ◌∙◌}
 use mathlib.Core.Bool.{Bool, cond, ◌&&◌}
 use mathlib.Core.List.{List, [], ◌∷◌}
 use mathlib.Core.Logic.{⊎_elim}
@@ -19,7 +19,7 @@ use Rattle.positions.specs.declared.Format.{Format}
 use Rattle.positions.specs.declared.Format.TheVariants.{Even, Odd}
 use Rattle.positions.specs.declared.Counts.{Counts}
 use Rattle.positions.specs.Whole.{modulo, nearest}
-use Rattle.positions.specs.Code.{factor, times, nearestℕ, Polar}
+use Rattle.positions.specs.Code.{factor, times, IsSize, nearestℕ, Polar}
 use Rattle.positions.specs.declared.Size.{Size}
 use Rattle.positions.specs.declared.Size.TheVariants.{Fine, Coarse}
 use Rattle.positions.specs.Zones.{latitudes, first, zone_count}
@@ -285,16 +285,31 @@ module _ (k : ℕ) (some : 0 < k) where
     singly_scale reference c turn f =
         rw (fit_scale c, near_found_scale (all_round turn (latitude_zones f)) (some_round turn (latitude_zones f) (some_zones f)) reference c turn f)
 
--- ---- coarse counts, read as fine ones
+-- ---- counts of either size, read as fine ones
 
-pub found_coarse : (even odd : Counts) (later : Format) → pair_found 131072 (times 32 even) (times 32 odd) later ≡ pair_found 4096 even odd later
-found_coarse = found_scale 32 (lit< tt) 4096 (lit< tt)
+abbrev FoundAs : Counts → Counts → Format → ℕ → Type 0
+FoundAs even odd later P = pair_found 131072 (times (131072 / P) even) (times (131072 / P) odd) later ≡ pair_found P even odd later
 
-pub near_coarse : (reference : Spot) (c : Counts) (turn : Turn) (f : Format)
-    → near_found 131072 (all_round turn (latitude_zones f)) reference (times 32 c) turn f ≡ near_found 4096 (all_round turn (latitude_zones f)) reference c turn f
-near_coarse reference c turn f =
+pub found_sized : (P : ℕ) → IsSize P → (even odd : Counts) (later : Format)
+    → pair_found 131072 (times (131072 / P) even) (times (131072 / P) odd) later ≡ pair_found P even odd later
+found_sized P size even odd later =
+    ⊎_elim
+    (λ (e : P ≡ 131072). subst (FoundAs even odd later) (sym e) (found_scale 1 (lit< tt) 131072 (lit< tt) even odd later))
+    (λ (e : P ≡ 4096). subst (FoundAs even odd later) (sym e) (found_scale 32 (lit< tt) 4096 (lit< tt) even odd later))
+    size
+
+abbrev NearAs : Spot → Counts → Turn → Format → ℕ → Type 0
+NearAs reference c turn f P =
+    near_found 131072 (all_round turn (latitude_zones f)) reference (times (131072 / P) c) turn f ≡ near_found P (all_round turn (latitude_zones f)) reference c turn f
+
+pub near_sized : (P : ℕ) → IsSize P → (reference : Spot) (c : Counts) (turn : Turn) (f : Format)
+    → near_found 131072 (all_round turn (latitude_zones f)) reference (times (131072 / P) c) turn f ≡ near_found P (all_round turn (latitude_zones f)) reference c turn f
+near_sized P size reference c turn f =
     let some = some_round turn (latitude_zones f) (some_zones f) in
-    near_found_scale 32 (lit< tt) 4096 (lit< tt) (all_round turn (latitude_zones f)) some reference c turn f
+    ⊎_elim
+    (λ (e : P ≡ 131072). subst (NearAs reference c turn f) (sym e) (near_found_scale 1 (lit< tt) 131072 (lit< tt) (all_round turn (latitude_zones f)) some reference c turn f))
+    (λ (e : P ≡ 4096). subst (NearAs reference c turn f) (sym e) (near_found_scale 32 (lit< tt) 4096 (lit< tt) (all_round turn (latitude_zones f)) some reference c turn f))
+    size
 
 -- the rounded latitude of a spot that is encoded: y over z * P, P counts to a zone, is y * k over z * 131072
 factor_pos : (size : Size) → 0 < factor size

@@ -1,6 +1,7 @@
 -- No longitude is a turn: an exact one is short of a turn by a count or more, and of a circle of M counts a count is 2^32 / M units, more than half a unit where M is
 -- below 2^33. So rounded to nearest it is still short, and nothing need bring it back into the circle.
 -- Assumes nothing.
+use Rattle.std.specs.Prelude.{Result, Err}
 use mathlib.Core.Path.{◌≡◌, refl}
 use mathlib.Core.Bool.{◌&&◌}
 use Prim.Native.Nat.{ℕ, suc, ◌+◌, ◌-◌, ◌*◌, ◌/◌, ◌≤◌, ◌<◌}
@@ -17,8 +18,6 @@ use Rattle.positions.specs.declared.Format.TheVariants.{Even, Odd}
 use Rattle.positions.specs.declared.Size.{Size}
 use Rattle.positions.specs.declared.Size.TheVariants.{Fine, Coarse}
 use Rattle.positions.specs.declared.Counts.{Counts}
-use Rattle.positions.specs.declared.Found.{Found}
-use Rattle.positions.specs.declared.Found.TheVariants.{Refused}
 use Rattle.positions.specs.Whole.{floor, modulo, nearest}
 use Rattle.positions.specs.Zones.{zone_count}
 use Rattle.positions.specs.Code.{nearestℕ}
@@ -29,6 +28,7 @@ use Rattle.positions.proofs.Shift.{modulo_lt}
 use Rattle.positions.proofs.Latitudes.{zones_range}
 use Rattle.positions.proofs.Naturals.{rounded_turn_lem}
 use Rattle.positions.proofs.Answers.{own_small, fit_counts}
+use Rattle.refusals.specs.declared.Refusal.{Refusal}
 
 -- ---- a circle of any size
 
@@ -112,16 +112,16 @@ module _ (P u : ℕ) where
       let a = even.latitude.0 in
       let b = odd.latitude.0 in
       let n = pair_zones P even odd later in
-      let Due : Found → Type 0 = HandedBy P n (pair_exact P even odd later) (suc u) in
-      by_test Due (fit P even && fit P odd) (pair_found P even odd later) (Refused Field)
+      let Due : Result Spot Refusal → Type 0 = HandedBy P n (pair_exact P even odd later) (suc u) in
+      by_test Due (fit P even && fit P odd) (pair_found P even odd later) (Err Field)
       (λ e.
       let t = each (fit P even) (fit P odd) e in
       let z = zones_most later (pair_nl P Even a b) (zones_range (60 * P) (pair_latitude P Even a b)).1 in
       let zone = pair_zone P (pair_nl P Even a b) even.longitude.0 odd.longitude.0 in
       let own-count = own later even.longitude.0 odd.longitude.0 in
-      by_test Due (inside (60 * P) (pair_latitude P Even a b) && inside (59 * P) (pair_latitude P Odd a b)) _ (Refused Latitude)
+      by_test Due (inside (60 * P) (pair_latitude P Even a b) && inside (59 * P) (pair_latitude P Odd a b)) _ (Err Latitude)
       (λ _.
-      by_test Due (eqb (pair_nl P Even a b) (pair_nl P Odd a b)) _ (Refused Zones)
+      by_test Due (eqb (pair_nl P Even a b) (pair_nl P Odd a b)) _ (Err Zones)
       (λ _. handed P u n _ (fewer P u n 59 z.1 room) (in_turn_lem P n (modulo zone n) own-count (modulo_lt zone n z.0) (own_small later (fit_counts P even t.0).1 (fit_counts P odd t.1).1)))
       (λ _. tt))
       (λ _. tt))
@@ -135,10 +135,10 @@ module _ (P u : ℕ) where
       let N = all_round k (latitude_zones f) in
       let r = near P N reference.latitude c.latitude.0 in
       let n = single_zones P reference c k f in
-      let Due : Found → Type 0 = HandedBy P n (single_exact P reference c k f) (suc u) in
-      by_test Due (fit P c && pole_to_pole reference.latitude) (near_found P N reference c k f) (Refused Field)
+      let Due : Result Spot Refusal → Type 0 = HandedBy P n (single_exact P reference c k f) (suc u) in
+      by_test Due (fit P c && pole_to_pole reference.latitude) (near_found P N reference c k f) (Err Field)
       (λ _.
-      by_test Due (inside (N * P) r) _ (Refused Latitude)
+      by_test Due (inside (N * P) r) _ (Err Latitude)
       (λ _.
       let NL = zone_count (N * P) r in
       let z = zones_most f NL (zones_range (N * P) r).1 in

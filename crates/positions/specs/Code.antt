@@ -14,6 +14,10 @@ abbrev pub factor : Size → ℕ
 factor Fine = 1
 factor Coarse = 32
 
+-- how many counts a zone has, of either size
+abbrev pub IsSize : ℕ → Type 0
+IsSize P = (P ≡ 131072) ⊎ (P ≡ 4096)
+
 abbrev pub times : ℕ → Counts → Counts
 times k c = record { latitude = record { 0 = c.latitude.0 * k }; longitude = record { 0 = c.longitude.0 * k } }
 

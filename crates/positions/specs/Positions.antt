@@ -1,7 +1,7 @@
 -- RULES 7: positions. P is the count size, 2^17 or 2^12, and N how many zones make 360 degrees.
 -- A spot is in 2^-32 of 360 degrees. An exact position is a fraction of 360 degrees, a whole number over N * P.
 -- So a spot's x times Z / turn x P is x * (N * P) / 2^32, and a whole number times turn / Z / P is that number over N * P.
-use Rattle.std.specs.Prelude.{Bool, cond, ◌&&◌, ℕ, ◌+◌, ◌-◌, ◌*◌, ◌/◌, max, ℤ, pos, nat_abs, ◌+ℤ◌, ◌-ℤ◌, ◌*ℤ◌, leb, ltb, eqb}
+use Rattle.std.specs.Prelude.{Bool, cond, ◌&&◌, ℕ, ◌+◌, ◌-◌, ◌*◌, ◌/◌, max, ℤ, pos, nat_abs, ◌+ℤ◌, ◌-ℤ◌, ◌*ℤ◌, leb, ltb, eqb, Result, Ok, Err}
 use Rattle.refusals.specs.declared.Refusal.TheVariants.{Field, Latitude, Zones}
 use Rattle.positions.specs.declared.Spot.{Spot}
 use Rattle.positions.specs.declared.Turn.{Turn}
@@ -11,12 +11,9 @@ use Rattle.positions.specs.declared.Format.TheVariants.{Even, Odd}
 use Rattle.positions.specs.declared.Size.{Size}
 use Rattle.positions.specs.declared.Size.TheVariants.{Fine, Coarse}
 use Rattle.positions.specs.declared.Counts.{Counts}
-use Rattle.positions.specs.declared.Encoded.{Encoded}
-use Rattle.positions.specs.declared.Encoded.TheVariants.{As, Refused as NotEncoded}
-use Rattle.positions.specs.declared.Found.{Found}
-use Rattle.positions.specs.declared.Found.TheVariants.{At, Refused}
 use Rattle.positions.specs.Whole.{modulo, nearest}
 use Rattle.positions.specs.Zones.{zone_count}
+use Rattle.refusals.specs.declared.Refusal.{Refusal}
 
 -- RULES 7.6: a spot's units in 360 degrees
 abbrev pub units : ℕ
@@ -33,7 +30,7 @@ bit Even = 0
 bit Odd = 1
 
 -- of what the two messages have, what the one of this format has
-abbrev pub own : Format → ℕ → ℕ → ℕ
+abbrev pub own : {A : Type 0} → Format → A → A → A
 own Even even odd = even
 own Odd even odd = odd
 
@@ -81,8 +78,8 @@ abbrev pub pole_to_pole : ℤ → Bool
 pole_to_pole latitude = leb (nat_abs latitude) 1073741824
 
 -- RULES 7.8 and 7.19: the counts of a spot, or 8
-abbrev pub encoded : ℕ → Spot → Turn → Format → Encoded
-encoded P s k f = cond (pole_to_pole s.latitude) (As (counts_of P s k f)) (NotEncoded Field)
+abbrev pub encoded : ℕ → Spot → Turn → Format → Result Counts Refusal
+encoded P s k f = cond (pole_to_pole s.latitude) (Ok (counts_of P s k f)) (Err Field)
 
 -- RULES 7.14: Places handed out: the exact r / M of 360 degrees rounds to nearest, half up
 unfoldable pub rounded : ℕ → ℤ → ℤ
@@ -131,23 +128,23 @@ pair_spot P f r NL even odd =
     }
 
 -- RULES 7.10: both latitudes are tested for 9, then 10; the later message gives the spot
-unfoldable pub pair_found : ℕ → Counts → Counts → Format → Found
+unfoldable pub pair_found : ℕ → Counts → Counts → Format → Result Spot Refusal
 pair_found P even odd later =
     let a = even.latitude.0 in
     let b = odd.latitude.0 in
     cond (inside (60 * P) (pair_latitude P Even a b) && inside (59 * P) (pair_latitude P Odd a b))
     (cond (eqb (pair_nl P Even a b) (pair_nl P Odd a b))
-    (At (pair_spot P later (pair_latitude P later a b) (pair_nl P Even a b) even.longitude.0 odd.longitude.0))
-    (Refused Zones))
-    (Refused Latitude)
+    (Ok (pair_spot P later (pair_latitude P later a b) (pair_nl P Even a b) even.longitude.0 odd.longitude.0))
+    (Err Zones))
+    (Err Latitude)
 
 -- RULES 7.1: whether both counts are below P
 abbrev pub fit : ℕ → Counts → Bool
 fit P c = ltb c.latitude.0 P && ltb c.longitude.0 P
 
 -- RULES 7.19: the spot of the later message, or 8, 9, 10 in that order
-abbrev pub paired : ℕ → Counts → Counts → Format → Found
-paired P even odd later = cond (fit P even && fit P odd) (pair_found P even odd later) (Refused Field)
+abbrev pub paired : ℕ → Counts → Counts → Format → Result Spot Refusal
+paired P even odd later = cond (fit P even && fit P odd) (pair_found P even odd later) (Err Field)
 
 -- RULES 7.12: Single: the zone is 1/2 + reference x Z / turn - count / P, rounded down
 unfoldable pub near_zone : ℕ → ℕ → ℤ → ℕ → ℤ
@@ -166,14 +163,14 @@ near_spot P N r n longitude c =
     }
 
 -- RULES 7.12: with N zones of latitude; NL is the decoded latitude's
-unfoldable pub near_found : ℕ → ℕ → Spot → Counts → Turn → Format → Found
+unfoldable pub near_found : ℕ → ℕ → Spot → Counts → Turn → Format → Result Spot Refusal
 near_found P N s c k f =
     let r = near P N s.latitude c.latitude.0 in
     cond (inside (N * P) r)
-    (At (near_spot P N r (all_round k (longitude_zones f (zone_count (N * P) r))) s.longitude c.longitude.0))
-    (Refused Latitude)
+    (Ok (near_spot P N r (all_round k (longitude_zones f (zone_count (N * P) r))) s.longitude c.longitude.0))
+    (Err Latitude)
 
 -- RULES 7.12 and 7.19: the spot near a reference, or 8, 9 in that order
-abbrev pub singly : ℕ → Spot → Counts → Turn → Format → Found
+abbrev pub singly : ℕ → Spot → Counts → Turn → Format → Result Spot Refusal
 singly P reference c k f =
-    cond (fit P c && pole_to_pole reference.latitude) (near_found P (all_round k (latitude_zones f)) reference c k f) (Refused Field)
+    cond (fit P c && pole_to_pole reference.latitude) (near_found P (all_round k (latitude_zones f)) reference c k f) (Err Field)

@@ -1,5 +1,5 @@
 -- RULES 7.13, 7.15, 7.17 and 7.18: what the theorems speak of: the rounded place of a message, how far apart two places are, the positions near a reference, and how far a longitude is short of a turn.
-use Rattle.std.specs.Prelude.{◌≡◌, cond, ℕ, ◌+◌, ◌-◌, ◌*◌, ◌≤◌, ◌<◌, min, ℤ, pos, nat_abs, ◌+ℤ◌, ◌-ℤ◌, ◌*ℤ◌, eqb}
+use Rattle.std.specs.Prelude.{◌≡◌, cond, ℕ, ◌+◌, ◌-◌, ◌*◌, ◌≤◌, ◌<◌, min, ℤ, pos, nat_abs, ◌+ℤ◌, ◌-ℤ◌, ◌*ℤ◌, eqb, Result, Ok, Err}
 use Rattle.refusals.specs.declared.Refusal.TheVariants.{Zones}
 use Rattle.positions.specs.declared.Spot.{Spot}
 use Rattle.positions.specs.declared.Turn.{Turn}
@@ -9,11 +9,10 @@ use Rattle.positions.specs.declared.Format.TheVariants.{Even, Odd}
 use Rattle.positions.specs.declared.Size.{Size}
 use Rattle.positions.specs.declared.Size.TheVariants.{Fine, Coarse}
 use Rattle.positions.specs.declared.Counts.{Counts}
-use Rattle.positions.specs.declared.Found.{Found}
-use Rattle.positions.specs.declared.Found.TheVariants.{At, Refused}
 use Rattle.positions.specs.Whole.{modulo}
 use Rattle.positions.specs.Zones.{zone_count}
 use Rattle.positions.specs.Positions.{units, latitude_zones, longitude_zones, all_round, whole, rounded, rounded_turn, pair_longitude, pair_nl, near}
+use Rattle.refusals.specs.declared.Refusal.{Refusal}
 
 -- NL of the rounded latitude of the airborne message of format f
 unfoldable pub rounded_nl : ℕ → Format → ℤ → ℕ
@@ -29,9 +28,9 @@ rounded_spot P f s =
     }
 
 -- the rounded place of the later message, or 10 just where the two rounded latitudes differ in NL
-unfoldable pub round_trip : ℕ → Spot → Format → Found
+unfoldable pub round_trip : ℕ → Spot → Format → Result Spot Refusal
 round_trip P s later =
-    cond (eqb (rounded_nl P Even s.latitude) (rounded_nl P Odd s.latitude)) (At (rounded_spot P later s)) (Refused Zones)
+    cond (eqb (rounded_nl P Even s.latitude) (rounded_nl P Odd s.latitude)) (Ok (rounded_spot P later s)) (Err Zones)
 
 -- how far apart two numbers are on a circle of C
 abbrev pub around : ℕ → ℕ → ℕ → ℕ
@@ -63,9 +62,9 @@ pub record Handed (P N r u longitude : ℕ) : Type 0 where
   pub short : longitude + u ≤ units
 
 -- .. in whatever spot is found
-abbrev pub HandedBy : ℕ → ℕ → ℕ → ℕ → Found → Type 0
-HandedBy P N r u (At s) = Handed P N r u s.longitude
-HandedBy P N r u (Refused e) = Unit
+abbrev pub HandedBy : ℕ → ℕ → ℕ → ℕ → Result Spot Refusal → Type 0
+HandedBy P N r u (Ok s) = Handed P N r u s.longitude
+HandedBy P N r u (Err e) = Unit
 
 -- the zones of a pair and its exact longitude, with NL that of both latitudes
 abbrev pub pair_zones : ℕ → Counts → Counts → Format → ℕ

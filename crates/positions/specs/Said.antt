@@ -1,5 +1,5 @@
 -- RULES 7.10, 7.16 and 19.3: what the answers say in the rules' terms: a number, or what is given instead; and when each number is due.
-use Rattle.std.specs.Prelude.{Bool, cond, not, ◌||◌, ltb, eqb, nat_abs, ℕ, ◌*◌}
+use Rattle.std.specs.Prelude.{Bool, cond, not, ◌||◌, ltb, eqb, nat_abs, ℕ, ◌*◌, Result, Ok, Err}
 use Rattle.refusals.specs.Numbers.{number_of}
 use Rattle.refusals.specs.Said.{Said, number, gives}
 use Rattle.positions.specs.declared.Spot.{Spot}
@@ -9,20 +9,17 @@ use Rattle.positions.specs.declared.Format.TheVariants.{Even, Odd}
 use Rattle.positions.specs.declared.Size.{Size}
 use Rattle.positions.specs.declared.Size.TheVariants.{Fine, Coarse}
 use Rattle.positions.specs.declared.Counts.{Counts}
-use Rattle.positions.specs.declared.Encoded.{Encoded}
-use Rattle.positions.specs.declared.Encoded.TheVariants as encode
-use Rattle.positions.specs.declared.Found.{Found}
-use Rattle.positions.specs.declared.Found.TheVariants as find
 use Rattle.positions.specs.Zones.{zone_count}
 use Rattle.positions.specs.Positions.{count_size, latitude_zones, longitude_zones, all_round, counts_of, inside, pair_latitude, pair_nl, pair_spot, near, near_spot}
+use Rattle.refusals.specs.declared.Refusal.{Refusal}
 
-abbrev pub encoded_said : Encoded → Said Counts
-encoded_said (encode.As c) = gives c
-encoded_said (encode.Refused r) = number (number_of r)
+abbrev pub encoded_said : Result Counts Refusal → Said Counts
+encoded_said (Ok c) = gives c
+encoded_said (Err r) = number (number_of r)
 
-abbrev pub found_said : Found → Said Spot
-found_said (find.At s) = gives s
-found_said (find.Refused r) = number (number_of r)
+abbrev pub found_said : Result Spot Refusal → Said Spot
+found_said (Ok s) = gives s
+found_said (Err r) = number (number_of r)
 
 -- ---- the table's "When, exactly"
 

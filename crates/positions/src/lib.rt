@@ -4,19 +4,20 @@
 // a turn is a multiple of every divisor that occurs, so division rounds down and the remainder is right also in the south.
 #![tactic(auto)]
 
-ghost use Rattle.std.specs.Prelude.{◌≡◌, ◌&&◌, ◌+◌, ◌-◌, ◌*◌, ◌%◌, ◌<◌, ◌≤◌, leb, pos};
+ghost use Rattle.std.specs.Prelude.{◌≡◌, ◌&&◌, ◌+◌, ◌-◌, ◌*◌, ◌/◌, ◌%◌, ◌<◌, ◌≤◌, leb, pos};
 ghost use Rattle.std.proofs.Math.IntN.{sub_ℕ};
 ghost use Rattle.positions.specs.Whole.{modulo};
 ghost use Rattle.positions.specs.Zones.{first, zone_count};
 ghost use Rattle.positions.specs.Positions.{count_size, own, latitude_zones, longitude_zones, all_round, whole, counts_of, encoded, rounded, rounded_turn, pair_zone, pair_spot, pair_found, fit, paired, near_zone, near_spot, near_found, singly};
-ghost use Rattle.positions.specs.Code.{factor, times, nearestℕ, edges, Zoned, Polar, Within, Paired};
+ghost use Rattle.positions.specs.Code.{factor, times, IsSize, nearestℕ, edges, Zoned, Polar, Within, Paired};
 
 use counts::{LatitudeCount, LongitudeCount, Zone};
 use refusals::Refusal;
 
 // 58 latitudes, at which the number of longitude zones falls: 59 up to the first, 2 up to the last. The unit is 1/1,855,979,520 of 360 degrees: every
-// latitude that is compared with them is a whole number of it, and so they may be rounded down.
-const LATITUDES: [u64; 58] = [
+// latitude that is compared with them is a whole number of it, and so they may be rounded down. A `static` is read where it lies: a `const` would be
+// written to the stack at each search.
+static LATITUDES: [u64; 58] = [
     53980500, 76446633, 93759257, 108417017, 121386447, 133162648, 144039410, 154207960, 163801004,
     172915086, 181623041, 189981420, 198035174, 205820740, 213368140, 220702464, 227844941,
     234813719, 241624470, 248290833, 254824773, 261236859, 267536481, 273732034, 279831057,
@@ -78,115 +79,87 @@ pub struct Counts {
     pub longitude: LongitudeCount,
 }
 
-#[derive(Clone, Copy)]
-pub enum Encoded {
-    As(Counts),
-    Refused(Refusal),
-}
-
-#[derive(Clone, Copy)]
-pub enum Found {
-    At(Spot),
-    Refused(Refusal),
-}
-
 // The counts of a spot, by the zones at its rounded latitude.
-pub fn encode(size: Size, spot: Spot, turn: Turn, format: Format) -> Encoded
+pub fn encode(size: Size, spot: Spot, turn: Turn, format: Format) -> Result<Counts, Refusal>
     ensures { result ≡ encoded (count_size size) spot turn format }
 {
     let up = signs::raise(spot.latitude);
-    if pole_to_pole(up) {
-        Encoded::As(encode_raised(size, up, spot.longitude, turn, format))
-    } else {
-        Encoded::Refused(Refusal::Field)
+    if !pole_to_pole(up) {
+        return Err(Refusal::Field);
     }
+    Ok(encode_raised(size, up, spot.longitude, turn, format))
 }
 
 // The spot of the later of an even and an odd airborne message.
-pub fn pair(size: Size, even: Counts, odd: Counts, later: Format) -> Found
+pub fn pair(size: Size, even: Counts, odd: Counts, later: Format) -> Result<Spot, Refusal>
     ensures { result ≡ paired (count_size size) even odd later }
 {
     match size {
-        Size::Fine => pair_fine(even, odd, later),
-        Size::Coarse => pair_coarse(even, odd, later),
+        Size::Fine => pair_of::<131072>(even, odd, later),
+        Size::Coarse => pair_of::<4096>(even, odd, later),
     }
 }
 
 // The spot of one message that lies nearest to a reference.
-pub fn single(size: Size, reference: Spot, counts: Counts, turn: Turn, format: Format) -> Found
+pub fn single(
+    size: Size,
+    reference: Spot,
+    counts: Counts,
+    turn: Turn,
+    format: Format,
+) -> Result<Spot, Refusal>
     ensures { result ≡ singly (count_size size) reference counts turn format }
 {
     match size {
-        Size::Fine => single_fine(reference, counts, turn, format),
-        Size::Coarse => single_coarse(reference, counts, turn, format),
+        Size::Fine => single_of::<131072>(reference, counts, turn, format),
+        Size::Coarse => single_of::<4096>(reference, counts, turn, format),
     }
 }
 
-// Each size has functions of its own, so that whoever knows the size pays for no other.
-fn pair_fine(even: Counts, odd: Counts, later: Format) -> Found
-    ensures { result ≡ paired 131072 even odd later }
+// Here P is how many counts a zone has. Each size has code of its own, so that whoever knows the size pays for no other.
+// Counts of 2^12 are tested as such, and read as counts of 2^17.
+fn pair_of<const P: u32>(even: Counts, odd: Counts, later: Format) -> Result<Spot, Refusal>
+    requires { IsSize P }
+    ensures { result ≡ paired P even odd later }
 {
-    if fits(even) & fits(odd) {
-        pair_fitting(even, odd, later)
-    } else {
-        Found::Refused(Refusal::Field)
+    if !(fits::<P>(even) & fits::<P>(odd)) {
+        return Err(Refusal::Field);
     }
+    pair_fitting(finer::<P>(even), finer::<P>(odd), later)
 }
 
-// Coarse counts are tested as such, and read as fine ones.
-fn pair_coarse(even: Counts, odd: Counts, later: Format) -> Found
-    ensures { result ≡ paired 4096 even odd later }
-{
-    if fits_coarse(even) & fits_coarse(odd) {
-        pair_fitting(finer(even), finer(odd), later)
-    } else {
-        Found::Refused(Refusal::Field)
-    }
-}
-
-fn single_fine(reference: Spot, counts: Counts, turn: Turn, format: Format) -> Found
-    ensures { result ≡ singly 131072 reference counts turn format }
+fn single_of<const P: u32>(
+    reference: Spot,
+    counts: Counts,
+    turn: Turn,
+    format: Format,
+) -> Result<Spot, Refusal>
+    requires { IsSize P }
+    ensures { result ≡ singly P reference counts turn format }
 {
     let up = signs::raise(reference.latitude);
-    if fits(counts) & pole_to_pole(up) {
-        single_raised(up, reference.longitude, counts, turn, format)
-    } else {
-        Found::Refused(Refusal::Field)
+    if !(fits::<P>(counts) & pole_to_pole(up)) {
+        return Err(Refusal::Field);
     }
+    single_raised(up, reference.longitude, finer::<P>(counts), turn, format)
 }
 
-fn single_coarse(reference: Spot, counts: Counts, turn: Turn, format: Format) -> Found
-    ensures { result ≡ singly 4096 reference counts turn format }
+// Whether both counts are below P.
+fn fits<const P: u32>(c: Counts) -> bool
+    ensures { result ≡ fit P c }
 {
-    let up = signs::raise(reference.latitude);
-    if fits_coarse(counts) & pole_to_pole(up) {
-        single_raised(up, reference.longitude, finer(counts), turn, format)
-    } else {
-        Found::Refused(Refusal::Field)
-    }
+    (c.latitude.0 < P) & (c.longitude.0 < P)
 }
 
-// Whether both counts have 17 bits; or 12.
-fn fits(c: Counts) -> bool
-    ensures { result ≡ fit 131072 c }
+// Counts of P, as counts of 2^17.
+fn finer<const P: u32>(c: Counts) -> Counts
+    requires { IsSize P × ((c.latitude.0 < P) × (c.longitude.0 < P)) }
+    ensures { (result ≡ times (131072 / P) c) × ((result.latitude.0 < 131072) × (result.longitude.0 < 131072)) }
 {
-    (c.latitude.0 < 131072) & (c.longitude.0 < 131072)
-}
-
-fn fits_coarse(c: Counts) -> bool
-    ensures { result ≡ fit 4096 c }
-{
-    (c.latitude.0 < 4096) & (c.longitude.0 < 4096)
-}
-
-// Counts of 2^12, as counts of 2^17.
-fn finer(c: Counts) -> Counts
-    requires { (c.latitude.0 < 4096) × (c.longitude.0 < 4096) }
-    ensures { (result ≡ times 32 c) × ((result.latitude.0 < 131072) × (result.longitude.0 < 131072)) }
-{
+    let k = 131072 / P;
     Counts {
-        latitude: LatitudeCount(c.latitude.0 * 32),
-        longitude: LongitudeCount(c.longitude.0 * 32),
+        latitude: LatitudeCount(c.latitude.0 * k),
+        longitude: LongitudeCount(c.longitude.0 * k),
     }
 }
 
@@ -214,35 +187,20 @@ fn nearest(a: u64, d: u64) -> u64
 }
 
 // The table: the 58 latitudes of RULES 7.4 in the unit of RULES 7.5, each rounded down.
-fn code_table() -> [u64; 58]
-    ensures { result ≡ edges }
+#[tactic(auto, unfolding(crate::specs::Code::edges, crate::specs::Zones::latitudes))]
+fn code_table() -> &'static [u64; 58]
+    ensures { result.now ≡ edges }
 {
-    LATITUDES
+    &LATITUDES
 }
 
-// NL of a latitude in the table's unit, by halves: entries before `low` are below it, those from `high` on are not.
-fn zone_count(table: &[u64; 58], k: u64) -> u32
-    requires { table.now ≡ edges }
+// NL of a latitude in the table's unit: 59, less one for each entry below it.
+fn zone_count(k: u64) -> u32
     ensures { (result ≡ first 59 edges k 1) × ((0 < result) × (result ≤ 59)) }
 {
-    let mut low: usize = 0;
-    let mut high: usize = 58;
-    while low < high {
-        let middle = (low + high) / 2;
-        if k <= table[middle] {
-            high = middle;
-        } else {
-            low = middle + 1;
-        }
+    match code_table().binary_search(&k) {
+        Ok(i) | Err(i) => 59 - i as u32,
     }
-    59 - low as u32
-}
-
-// How far apart two numbers are.
-fn apart(a: u32, b: u32) -> u32
-    ensures { result ≡ (a - b) + (b - a) }
-{
-    if a < b { b - a } else { a - b }
 }
 
 // The table's units in a count of n zones to 360 degrees: of 14,160 zones a count would be one unit.
@@ -259,14 +217,14 @@ fn units_in(n: u32) -> u32
 }
 
 // NL of a latitude of n zones to 360 degrees, one turn up. Its products are of 32 bits: a small board may have no wider one.
-fn zone_count_at(table: &[u64; 58], up: u64, n: u64) -> u32
-    requires { (table.now ≡ edges) × (Zoned n × Polar (n * 131072) up) }
+fn zone_count_at(up: u64, n: u64) -> u32
+    requires { Zoned n × Polar (n * 131072) up }
     ensures { (result ≡ zone_count (n * 131072) (sub_ℕ up (n * 131072))) × ((0 < result) × (result ≤ 59)) }
 {
     let z = n as u32;
-    let a = apart(up as u32, z * SIZE as u32);
+    let a = (up as u32).abs_diff(z * SIZE as u32);
     let k = a * units_in(z);
-    zone_count(table, k as u64)
+    zone_count(u64::from(k))
 }
 
 // Z, the zones of latitude to a turn.
@@ -291,6 +249,7 @@ fn longitude_zones(format: Format, nl: u32) -> u64
 }
 
 // The zones to 360 degrees.
+#[tactic(auto, unfolding(crate::specs::Positions::all_round))]
 fn all_round(turn: Turn, zones: u64) -> u64
     requires { (0 < zones) × (zones ≤ 60) }
     ensures { (result ≡ all_round turn zones) × ((zones ≤ result) × (result ≤ 240)) }
@@ -369,15 +328,11 @@ fn encode_raised(size: Size, up: u64, longitude: u32, turn: Turn, format: Format
     requires { (3221225472 ≤ up) × (up ≤ 5368709120) }
     ensures { result ≡ counts_of (count_size size) (record { latitude = sub_ℕ up 4294967296; longitude = longitude }) turn format }
 {
-    let table = code_table();
     let q = quarter_of(size);
     let k = factor_of(size);
     let z = all_round(turn, latitude_zones(format));
     let y = latitude_whole(up, z, q);
-    let n = all_round(
-        turn,
-        longitude_zones(format, zone_count_at(&table, y * k, z)),
-    );
+    let n = all_round(turn, longitude_zones(format, zone_count_at(y * k, z)));
     let x = longitude_whole(longitude, n, q);
     Counts {
         latitude: LatitudeCount(count_of(size, y)),
@@ -423,17 +378,8 @@ fn latitude_in(z: u64, zone: Zone, count: LatitudeCount) -> u64
 }
 
 // Of what the two messages of a pair have, what the one of a format has.
-fn own_latitude(format: Format, even: LatitudeCount, odd: LatitudeCount) -> LatitudeCount
-    ensures { result.0 ≡ own format even.0 odd.0 }
-{
-    match format {
-        Format::Even => even,
-        Format::Odd => odd,
-    }
-}
-
-fn own_longitude(format: Format, even: LongitudeCount, odd: LongitudeCount) -> LongitudeCount
-    ensures { result.0 ≡ own format even.0 odd.0 }
+fn own<T: Copy>(format: Format, even: T, odd: T) -> T
+    ensures { result ≡ own format even odd }
 {
     match format {
         Format::Even => even,
@@ -448,7 +394,7 @@ fn pair_latitude(format: Format, even: LatitudeCount, odd: LatitudeCount) -> u64
 {
     let z = latitude_zones(format);
     let zone = pair_latitude_zone(z, even, odd);
-    latitude_in(z, zone, own_latitude(format, even, odd))
+    latitude_in(z, zone, own(format, even, odd))
 }
 
 // The spot of the message of a format, of a pair: its latitude, one turn up, is found already.
@@ -460,7 +406,7 @@ fn pair_spot(format: Format, up: u64, nl: u32, even: LongitudeCount, odd: Longit
     let latitude = latitude_out(up, latitude_zones(format));
     let n = longitude_zones(format, nl);
     let zone = pair_longitude_zone(nl, n, even, odd);
-    let longitude = longitude_out(zone, own_longitude(format, even, odd), n);
+    let longitude = longitude_out(zone, own(format, even, odd), n);
     Spot {
         latitude,
         longitude,
@@ -468,7 +414,7 @@ fn pair_spot(format: Format, up: u64, nl: u32, even: LongitudeCount, odd: Longit
 }
 
 // What counts in range give; 9 is tested before NL is asked, so NL is only asked of a latitude.
-fn pair_fitting(even: Counts, odd: Counts, later: Format) -> Found
+fn pair_fitting(even: Counts, odd: Counts, later: Format) -> Result<Spot, Refusal>
     requires latitude_bound { (even.latitude.0 < 131072) × (even.longitude.0 < 131072) }
     requires latitude_bound_2 { (odd.latitude.0 < 131072) × (odd.longitude.0 < 131072) }
     ensures { result ≡ pair_found 131072 even odd later }
@@ -478,18 +424,17 @@ fn pair_fitting(even: Counts, odd: Counts, later: Format) -> Found
     let r = pair_latitude(Format::Even, a, b);
     let s = pair_latitude(Format::Odd, a, b);
     if (EVEN_NORTH < 4 * r) | (ODD_NORTH < 4 * s) {
-        return Found::Refused(Refusal::Latitude);
+        return Err(Refusal::Latitude);
     }
-    let table = code_table();
-    let nl = zone_count_at(&table, r, 60);
-    if nl != zone_count_at(&table, s, 59) {
-        return Found::Refused(Refusal::Zones);
+    let nl = zone_count_at(r, 60);
+    if nl != zone_count_at(s, 59) {
+        return Err(Refusal::Zones);
     }
     let x = even.longitude;
     let y = odd.longitude;
     match later {
-        Format::Even => Found::At(pair_spot(Format::Even, r, nl, x, y)),
-        Format::Odd => Found::At(pair_spot(Format::Odd, s, nl, x, y)),
+        Format::Even => Ok(pair_spot(Format::Even, r, nl, x, y)),
+        Format::Odd => Ok(pair_spot(Format::Odd, s, nl, x, y)),
     }
 }
 
@@ -526,7 +471,13 @@ fn near_spot(up: u64, z: u64, n: u64, longitude: u32, count: LongitudeCount) -> 
 }
 
 // What counts in range give near a reference whose latitude is one turn up and in range.
-fn single_raised(up: u64, longitude: u32, counts: Counts, turn: Turn, format: Format) -> Found
+fn single_raised(
+    up: u64,
+    longitude: u32,
+    counts: Counts,
+    turn: Turn,
+    format: Format,
+) -> Result<Spot, Refusal>
     requires le_up { (3221225472 ≤ up) × (up ≤ 5368709120) }
     requires latitude_bound { (counts.latitude.0 < 131072) × (counts.longitude.0 < 131072) }
     ensures { result ≡ near_found 131072 (all_round turn (latitude_zones format)) (record { latitude = sub_ℕ up 4294967296; longitude = longitude }) counts turn format }
@@ -537,9 +488,8 @@ fn single_raised(up: u64, longitude: u32, counts: Counts, turn: Turn, format: Fo
     let zone = near_latitude_zone(up, z, a);
     let y = (zone.0 as u64) * SIZE + (a.0 as u64);
     if (4 * y < 3 * m) | (5 * m < 4 * y) {
-        return Found::Refused(Refusal::Latitude);
+        return Err(Refusal::Latitude);
     }
-    let table = code_table();
-    let n = all_round(turn, longitude_zones(format, zone_count_at(&table, y, z)));
-    Found::At(near_spot(y, z, n, longitude, counts.longitude))
+    let n = all_round(turn, longitude_zones(format, zone_count_at(y, z)));
+    Ok(near_spot(y, z, n, longitude, counts.longitude))
 }

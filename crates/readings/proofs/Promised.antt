@@ -1,6 +1,7 @@
 -- What the contracts promise in the rules' terms: whatever meets one says 8 where a code, a sign or a subtype is wider than its bits, and else what RULES 5 gives; of a body 8 where one field is,
 -- or TYPE and subtype are another layout's, and else only readings that are none of them a number. The definitions of specs/Said carry each case of the answer over.
 -- Assumes nothing.
+use Rattle.std.specs.Prelude.{Option, Result, Ok, Err}
 use Prim.Native.Nat.{ℕ, ◌-◌, ◌<◌, ◌^◌}
 use mathlib.Core.Path.{◌≡◌, refl, ap, subst⁻¹, ◌∙◌}
 use mathlib.Core.Bool.{Bool, true, false, cond, ◌&&◌, ◌||◌, not}
@@ -15,24 +16,24 @@ use Rattle.refusals.specs.declared.Refusal.TheVariants.{Field}
 use Rattle.refusals.specs.Said.{Said, number, gives}
 use Rattle.fields.specs.Packing.{wider}
 use Rattle.fields.proofs.Bools.{by_test, through}
-use Rattle.characters.proofs.Promised.{set_says, text_says}
+use Rattle.characters.proofs.Promised.{set_at_says, text_at_says}
 use Rattle.layouts.specs.declared.velocity.Vertical.{Vertical}
 use Rattle.layouts.specs.declared.bodies.Body.{Body}
 use Rattle.layouts.specs.declared.bodies.Body.TheVariants as body
-use Rattle.layouts.specs.declared.bodies.Taken.{Taken}
-use Rattle.layouts.specs.declared.bodies.Taken.TheVariants as read
 use Rattle.layouts.specs.Bodies.{body_fits, taken_as}
 use Rattle.layouts.proofs.BothWays.{fitting}
-use Rattle.readings.specs.Altitude.{bit, hundreds, altitude_of}
-use Rattle.readings.specs.Amounts.{Scale, stepped, amount, speeds, rates, differences, speed_of, rate_of, difference_of}
+use Rattle.readings.specs.Altitude.{bit, hundreds, altitude_at, altitude_of}
+use Rattle.readings.specs.Amounts.{Scale, stepped, amount, speeds, rates, differences, speed_at, speed_of, rate_at, rate_of, difference_at, difference_of}
 use Rattle.readings.specs.Bodies.{height_difference, body_readings, readings_of, readings_in}
-use Rattle.readings.specs.Coarse.{coarse_speed_of}
-use Rattle.readings.specs.Headings.{heading_of}
-use Rattle.readings.specs.Movement.{movement_of}
+use Rattle.readings.specs.Coarse.{coarse_speed_at, coarse_speed_of}
+use Rattle.readings.specs.Headings.{turn_of, heading_of}
+use Rattle.readings.specs.Movement.{movement_at, movement_of}
 use Rattle.readings.specs.Status.{is_published, has_a, has_c, bit_c, version_of, supplement_of}
 use Rattle.readings.specs.Said.{Amount, unknown, over, figure, altitude_said, speed_said, rate_said, difference_said, heading_said, movement_said, coarse_speed_said, version_said, supplement_said, readings_said}
 use Rattle.readings.specs.Said.{altitude_means, speed_means, rate_means, difference_means, height_means, heading_means, movement_means, coarse_speed_means, version_means, supplement_means, body_means, body_said, taken_said, Given, AllGiven, Alone}
-use Rattle.readings.specs.declared.bodies.Readings.TheVariants.{Refused}
+use Rattle.readings.specs.declared.amounts.Speed.TheVariants.{Knots}
+use Rattle.readings.specs.declared.amounts.Rate.TheVariants.{FeetPerMinute}
+use Rattle.readings.specs.declared.amounts.Difference.TheVariants.{Feet}
 use Rattle.readings.proofs.altitude.altitude_of.Kinds as altitude-of-kinds
 use Rattle.readings.proofs.altitude.altitude_of.Reads as altitude-of
 use Rattle.readings.proofs.amounts.speed_of.Kinds as speed-of-kinds
@@ -55,61 +56,88 @@ use Rattle.readings.proofs.bodies.readings_in.Kinds as readings-in-kinds
 use Rattle.readings.proofs.bodies.readings_in.Reads as readings-in
 use Rattle.readings.proofs.bodies.readings_of.Kinds as readings-of-kinds
 use Rattle.readings.proofs.bodies.readings_of.Reads as readings-of
+use Rattle.refusals.specs.declared.Refusal.{Refusal}
 
 -- ---- the definitions say so
 
+-- of a code that fits, or of any code as if it did
+pub altitude_at_says : (code : ℕ) → altitude_said (Ok (altitude_at code)) ≡ gives (altitude_means code)
+unfolding altitude_at
+altitude_at_says code =
+    through (λ a. altitude_said (Ok a)) gives (eqb code 0) refl
+    (through (λ a. altitude_said (Ok a)) gives (eqb (bit 8 code) 1) refl
+    (through (λ a. altitude_said (Ok a)) gives (eqb (hundreds code) 0 || eqb (hundreds code) 5 || eqb (hundreds code) 6) refl refl))
+
 pub altitude_says : (code : ℕ) → altitude_said (altitude_of code) ≡ cond (wider 12 code) (number 8) (gives (altitude_means code))
 unfolding altitude_of
-altitude_says code =
-    through altitude_said (λ s. s) (wider 12 code) refl
-    (through altitude_said gives (eqb code 0) refl
-    (through altitude_said gives (eqb (bit 8 code) 1) refl
-    (through altitude_said gives (eqb (hundreds code) 0 || eqb (hundreds code) 5 || eqb (hundreds code) 6) refl refl)))
+altitude_says code = through altitude_said (λ s. s) (wider 12 code) refl (altitude_at_says code)
 
 -- one law for speeds, rates and differences
-amount_says : {A : Type 0} (said : A → Said Amount) {u o r : A} (v : ℤ → A) (scale : Scale) (sign code : ℕ)
-    → said u ≡ gives unknown → ((z : ℤ) → said (v z) ≡ gives (figure z)) → said o ≡ gives over → said r ≡ number 8
-    → said (amount u v o r scale sign code) ≡ cond (wider 1 sign || wider scale.bits code) (number 8) (gives (stepped unknown figure over scale sign code))
+stepped_says : {A : Type 0} (said : A → Said Amount) {u o : A} (v : ℤ → A) (scale : Scale) (sign code : ℕ)
+    → said u ≡ gives unknown → ((z : ℤ) → said (v z) ≡ gives (figure z)) → said o ≡ gives over
+    → said (stepped u v o scale sign code) ≡ gives (stepped unknown figure over scale sign code)
+stepped_says said v scale sign code eu ev eo =
+    through said gives (eqb code 0) eu
+    (through said gives (eqb code (2 ^ scale.bits - 1)) eo (ev _))
+
+amount_says : {A : Type 0} (said : Result A Refusal → Said Amount) {a : A} {m : Amount} (scale : Scale) (sign code : ℕ)
+    → said (Err Field) ≡ number 8 → said (Ok a) ≡ gives m
+    → said (amount a scale sign code) ≡ cond (wider 1 sign || wider scale.bits code) (number 8) (gives m)
 unfolding amount
-amount_says said v scale sign code eu ev eo er =
-    through said (λ s. s) (wider 1 sign || wider scale.bits code) er
-    (through said gives (eqb code 0) eu
-    (through said gives (eqb code (2 ^ scale.bits - 1)) eo (ev _)))
+amount_says said scale sign code er ea = through said (λ s. s) (wider 1 sign || wider scale.bits code) er ea
+
+speed_at_says : (subtype direction code : ℕ) → speed_said (Ok (speed_at subtype direction code)) ≡ gives (speed_means subtype direction code)
+unfolding speed_at
+speed_at_says subtype direction code = stepped_says (λ a. speed_said (Ok a)) Knots (speeds subtype) direction code refl (λ z. refl) refl
 
 pub speed_says : (subtype direction code : ℕ) → speed_said (speed_of subtype direction code)
     ≡ cond (wider 3 subtype) (number 8) (cond (wider 1 direction || wider 10 code) (number 8) (gives (speed_means subtype direction code)))
 unfolding speed_of
 speed_says subtype direction code =
     through speed_said (λ s. s) (wider 3 subtype) refl
-    (amount_says speed_said _ (speeds subtype) direction code refl (λ z. refl) refl refl)
+    (amount_says speed_said (speeds subtype) direction code refl (speed_at_says subtype direction code))
+
+rate_at_says : (sign code : ℕ) → rate_said (Ok (rate_at sign code)) ≡ gives (rate_means sign code)
+unfolding rate_at
+rate_at_says sign code = stepped_says (λ a. rate_said (Ok a)) FeetPerMinute rates sign code refl (λ z. refl) refl
 
 pub rate_says : (sign code : ℕ) → rate_said (rate_of sign code) ≡ cond (wider 1 sign || wider 9 code) (number 8) (gives (rate_means sign code))
 unfolding rate_of
-rate_says sign code = amount_says rate_said _ rates sign code refl (λ z. refl) refl refl
+rate_says sign code = amount_says rate_said rates sign code refl (rate_at_says sign code)
+
+difference_at_says : (sign code : ℕ) → difference_said (Ok (difference_at sign code)) ≡ gives (difference_means sign code)
+unfolding difference_at
+difference_at_says sign code = stepped_says (λ a. difference_said (Ok a)) Feet differences sign code refl (λ z. refl) refl
 
 pub difference_says : (sign code : ℕ) → difference_said (difference_of sign code) ≡ cond (wider 1 sign || wider 7 code) (number 8) (gives (difference_means sign code))
 unfolding difference_of
-difference_says sign code = amount_says difference_said _ differences sign code refl (λ z. refl) refl refl
+difference_says sign code = amount_says difference_said differences sign code refl (difference_at_says sign code)
 
 pub heading_says : (bits code : ℕ) → heading_said (heading_of bits code) ≡ cond (wider bits code) (number 8) (gives (heading_means bits code))
 heading_says bits code = through heading_said (λ s. s) (wider bits code) refl refl
 
+movement_at_says : (c : ℕ) → movement_said (Ok (movement_at c)) ≡ gives (movement_means c)
+unfolding movement_at
+movement_at_says c =
+    through (λ m. movement_said (Ok m)) gives (eqb c 0) refl
+    (through (λ m. movement_said (Ok m)) gives (eqb c 1) refl
+    (through (λ m. movement_said (Ok m)) gives (leb c 123) refl
+    (through (λ m. movement_said (Ok m)) gives (eqb c 124) refl refl)))
+
 pub movement_says : (c : ℕ) → movement_said (movement_of c) ≡ cond (wider 7 c) (number 8) (gives (movement_means c))
 unfolding movement_of
-movement_says c =
-    through movement_said (λ s. s) (wider 7 c) refl
-    (through movement_said gives (eqb c 0) refl
-    (through movement_said gives (eqb c 1) refl
-    (through movement_said gives (leb c 123) refl
-    (through movement_said gives (eqb c 124) refl refl))))
+movement_says c = through movement_said (λ s. s) (wider 7 c) refl (movement_at_says c)
+
+coarse_speed_at_says : (n : ℕ) → coarse_speed_said (Ok (coarse_speed_at n)) ≡ gives (coarse_speed_means n)
+unfolding coarse_speed_at
+coarse_speed_at_says n =
+    through (λ s. coarse_speed_said (Ok s)) gives (eqb n 0) refl
+    (through (λ s. coarse_speed_said (Ok s)) gives (eqb n 1) refl
+    (through (λ s. coarse_speed_said (Ok s)) gives (leb n 62) refl refl))
 
 pub coarse_speed_says : (n : ℕ) → coarse_speed_said (coarse_speed_of n) ≡ cond (wider 6 n) (number 8) (gives (coarse_speed_means n))
 unfolding coarse_speed_of
-coarse_speed_says n =
-    through coarse_speed_said (λ s. s) (wider 6 n) refl
-    (through coarse_speed_said gives (eqb n 0) refl
-    (through coarse_speed_said gives (eqb n 1) refl
-    (through coarse_speed_said gives (leb n 62) refl refl)))
+coarse_speed_says n = through coarse_speed_said (λ s. s) (wider 6 n) refl (coarse_speed_at_says n)
 
 version_says : (v : ℕ) → version_said (version_of v) ≡ gives (version_means v)
 version_says v = through version_said gives (is_published v) refl refl
@@ -117,82 +145,57 @@ version_says v = through version_said gives (is_published v) refl refl
 supplement_says : (has : Bool) (n : ℕ) → supplement_said (supplement_of has n) ≡ gives (supplement_means has n)
 supplement_says has n = through supplement_said gives has refl refl
 
+height_says : (v : Vertical) (traffic : Bool) → difference_said (Ok (height_difference v.source v.below v.difference traffic)) ≡ gives (height_means v traffic)
+unfolding height_difference
+height_says v traffic =
+    through (λ d. difference_said (Ok d)) gives (traffic && not (eqb v.source 1)) refl (difference_at_says v.below v.difference)
+
 -- ---- a code that fits is not refused
 
-within : {A : Type 0} {s : Said A} {a : A} (bits code : ℕ) → code < 2 ^ bits → s ≡ cond (wider bits code) (number 8) (gives a) → s ≡ gives a
-within bits code h e = rw (lt-leb (2 ^ bits) code h) at e
-
-signed_within : {A : Type 0} {s : Said A} {a : A} (bits sign code : ℕ) → sign < 2 → code < 2 ^ bits
-    → s ≡ cond (wider 1 sign || wider bits code) (number 8) (gives a) → s ≡ gives a
-signed_within bits sign code g h e = rw (lt-leb 2 sign g, lt-leb (2 ^ bits) code h) at e
-
-speed_within : (subtype direction code : ℕ) → subtype < 8 → direction < 2 → code < 1024 → speed_said (speed_of subtype direction code) ≡ gives (speed_means subtype direction code)
-speed_within s d c f g h = rw (lt-leb 8 s f, lt-leb 2 d g, lt-leb 1024 c h) at (speed_says s d c)
-
-height_within : (v : Vertical) (traffic : Bool) → v.below < 2 → v.difference < 128 → difference_said (height_difference v.source v.below v.difference traffic) ≡ gives (height_means v traffic)
-unfolding height_difference
-height_within v traffic g h =
-    through difference_said gives (traffic && not (eqb v.source 1)) refl
-    (signed_within 7 v.below v.difference g h (difference_says v.below v.difference))
+pub altitude_fits : (code : ℕ) → code < 4096 → altitude_of code ≡ Ok (altitude_at code)
+unfolding altitude_of
+altitude_fits code h = rw (lt-leb 4096 code h)
 
 pub altitude_known : (code : ℕ) → code < 4096 → Given (altitude_said (altitude_of code))
-altitude_known code h = subst⁻¹ Given (within 12 code h (altitude_says code)) tt
+altitude_known code h = subst⁻¹ Given (ap altitude_said (altitude_fits code h) ∙ altitude_at_says code) tt
 
 -- ---- of a body
 
-pub fitting_says : (b : Body) (traffic : Bool) → body_fits b ≡ true → readings_said (body_readings b traffic) ≡ gives (body_means b traffic)
-fitting_says (body.Identification b) traffic e =
-    let f = fitting (body.Identification b) e in
-    rw (within 5 b.typecode f.0 (set_says b.typecode), within 48 b.characters f.1.1.0 (text_says b.characters))
-fitting_says (body.Surface b) traffic e =
-    let f = fitting (body.Surface b) e in
-    rw (within 7 b.movement f.1.0 (movement_says b.movement), within 7 b.heading f.1.1.1.0 (heading_says 7 b.heading))
-fitting_says (body.Airborne b) traffic e =
-    let f = fitting (body.Airborne b) e in
-    rw (within 12 b.altitude f.1.1.1.0 (altitude_says b.altitude))
-fitting_says (body.Ground b) traffic e =
-    let f = fitting (body.Ground b) e in
-    let v = f.1.1.1.1.1.1.1.1.1 in
+pub meaning_says : (b : Body) (traffic : Bool) → readings_said (Ok (body_readings b traffic)) ≡ gives (body_means b traffic)
+meaning_says (body.Identification b) traffic = rw (set_at_says b.typecode, text_at_says b.characters)
+meaning_says (body.Surface b) traffic = rw (movement_at_says b.movement)
+meaning_says (body.Airborne b) traffic = rw (altitude_at_says b.altitude)
+meaning_says (body.Ground b) traffic =
     rw (
-      speed_within b.subtype b.west b.eastward f.1.0 f.1.1.1.1.1.0 f.1.1.1.1.1.1.0,
-      speed_within b.subtype b.south b.northward f.1.0 f.1.1.1.1.1.1.1.0 f.1.1.1.1.1.1.1.1.0,
-      signed_within 9 b.vertical.down b.vertical.rate v.1.0 v.1.1.0 (rate_says b.vertical.down b.vertical.rate),
-      height_within b.vertical traffic v.1.1.1.1.0 v.1.1.1.1.1.0,
+      speed_at_says b.subtype b.west b.eastward,
+      speed_at_says b.subtype b.south b.northward,
+      rate_at_says b.vertical.down b.vertical.rate,
+      height_says b.vertical traffic,
     )
-fitting_says (body.Air b) traffic e =
-    let f = fitting (body.Air b) e in
-    let v = f.1.1.1.1.1.1.1.1.1 in
+meaning_says (body.Air b) traffic =
     rw (
-      within 10 b.heading f.1.1.1.1.1.1.0 (heading_says 10 b.heading),
-      speed_within b.subtype 0 b.airspeed f.1.0 (omega arith) f.1.1.1.1.1.1.1.1.0,
-      signed_within 9 b.vertical.down b.vertical.rate v.1.0 v.1.1.0 (rate_says b.vertical.down b.vertical.rate),
-      height_within b.vertical traffic v.1.1.1.1.0 v.1.1.1.1.1.0,
+      speed_at_says b.subtype 0 b.airspeed,
+      rate_at_says b.vertical.down b.vertical.rate,
+      height_says b.vertical traffic,
     )
-fitting_says (body.Status b) traffic e =
+meaning_says (body.Status b) traffic =
     rw (
       version_says b.version,
       supplement_says (has_a b.version) b.supplementa,
       supplement_says (has_c b.version) (bit_c b.subtype b.bit20),
     )
-fitting_says (body.Coarse b) traffic e =
-    let f = fitting (body.Coarse b) e in
-    rw (
-      within 12 b.altitude f.1.1.1.0 (altitude_says b.altitude),
-      within 5 b.angle f.1.1.1.1.1.0 (heading_says 5 b.angle),
-      within 6 b.speed f.1.1.1.1.1.1.0 (coarse_speed_says b.speed),
-    )
+meaning_says (body.Coarse b) traffic = rw (altitude_at_says b.altitude, coarse_speed_at_says b.speed)
+
+pub fitting_says : (b : Body) (traffic : Bool) → body_fits b ≡ true → readings_said (Ok (body_readings b traffic)) ≡ gives (body_means b traffic)
+fitting_says b traffic e = meaning_says b traffic
 
 pub readings_say : (b : Body) (traffic : Bool) → readings_said (readings_of b traffic) ≡ body_said b traffic
 unfolding readings_of
-readings_say b traffic = by_fit (body_fits b) refl
-  where
-    by_fit : (t : Bool) → body_fits b ≡ t → readings_said (cond t (body_readings b traffic) (Refused Field)) ≡ cond t (gives (body_means b traffic)) (number 8)
-    by_fit true e = fitting_says b traffic e
-    by_fit false e = refl
+readings_say b traffic = through readings_said (λ s. s) (body_fits b) (meaning_says b traffic) refl
 
-taken_says : (t : Taken) (traffic : Bool) → readings_said (readings_in t traffic) ≡ taken_said t traffic
-taken_says (read.Body b) traffic = readings_say b traffic
-taken_says (read.Refused r) traffic = refl
+taken_says : (t : Result Body Refusal) (traffic : Bool) → readings_said (readings_in t traffic) ≡ taken_said t traffic
+taken_says (Ok b) traffic = readings_say b traffic
+taken_says (Err r) traffic = refl
 
 -- ---- a refusal stands alone: with no value beside it
 
@@ -206,7 +209,7 @@ all_given (body.Status b) traffic = (tt, tt, tt)
 all_given (body.Coarse b) traffic = (tt, tt, tt)
 
 -- of a body that fits every reading gives something
-pub fitting_given : (b : Body) (traffic : Bool) → body_fits b ≡ true → Alone (readings_said (body_readings b traffic))
+pub fitting_given : (b : Body) (traffic : Bool) → body_fits b ≡ true → Alone (readings_said (Ok (body_readings b traffic)))
 fitting_given b traffic e = subst⁻¹ Alone (fitting_says b traffic e) (all_given b traffic)
 
 pub refused_alone : (b : Body) (traffic : Bool) → Alone (readings_said (readings_of b traffic))

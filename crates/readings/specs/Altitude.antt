@@ -1,9 +1,9 @@
 -- RULES 6.1 to 6.5: altitude and its step. The bits are C1 A1 C2 A2 C4 A4 B1 Q B2 D2 B4 D4.
-use Rattle.std.specs.Prelude.{ℕ, ◌+◌, ◌-◌, ◌*◌, ◌%◌, ◌^◌, List, [], ◌∷◌, cond, ◌||◌, eqb, ℤ, pos, ◌-ℤ◌}
+use Rattle.std.specs.Prelude.{ℕ, ◌+◌, ◌-◌, ◌*◌, ◌%◌, ◌^◌, List, [], ◌∷◌, cond, ◌||◌, eqb, ℤ, pos, ◌-ℤ◌, Option, Some, None, Result, Ok, Err}
 use Rattle.refusals.specs.declared.Refusal.TheVariants.{Field}
 use Rattle.fields.specs.Packing.{field, wider}
 use Rattle.readings.specs.declared.altitude.Altitude.{Altitude}
-use Rattle.readings.specs.declared.altitude.Altitude.TheVariants.{Unknown, Feet, Refused}
+use Rattle.refusals.specs.declared.Refusal.{Refusal}
 
 -- bit k of the code; bit 1 is the highest
 abbrev pub bit : ℕ → ℕ → ℕ
@@ -48,5 +48,12 @@ altitude_by unknown feet code =
     (cond (eqb (bit 8 code) 1) (feet (pos (25 * eleven code) -ℤ pos 1000) 25)
     (hundreds_by unknown feet (five_hundreds code) (hundreds code)))
 
-unfoldable pub altitude_of : ℕ → Altitude
-altitude_of code = cond (wider 12 code) (Refused Field) (altitude_by Unknown Feet code)
+abbrev pub known : ℤ → ℕ → Option Altitude
+known feet step = Some (record { feet = feet; step = step })
+
+unfoldable pub altitude_at : ℕ → Option Altitude
+altitude_at code = altitude_by None known code
+
+-- a code wider than its bits is refused
+unfoldable pub altitude_of : ℕ → Result (Option Altitude) Refusal
+altitude_of code = cond (wider 12 code) (Err Field) (Ok (altitude_at code))

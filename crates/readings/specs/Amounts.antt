@@ -1,6 +1,7 @@
 -- RULES 5.5 to 5.8: speeds, vertical rates and height differences: a code with a sign bit, by one rule.
-use Rattle.std.specs.Prelude.{ℕ, ◌-◌, ◌*◌, ◌^◌, cond, ◌||◌, eqb, ℤ, pos, neg_ℤ}
+use Rattle.std.specs.Prelude.{ℕ, ◌-◌, ◌*◌, ◌^◌, cond, ◌||◌, eqb, ℤ, pos, neg_ℤ, Result, Ok, Err}
 use Rattle.refusals.specs.declared.Refusal.TheVariants.{Field}
+use Rattle.refusals.specs.declared.Refusal.{Refusal}
 use Rattle.fields.specs.Packing.{wider}
 use Rattle.readings.specs.declared.amounts.Speed.{Speed}
 use Rattle.readings.specs.declared.amounts.Speed.TheVariants as speed
@@ -26,8 +27,8 @@ stepped unknown value over scale sign code =
     (value (signed sign (scale.step * (code - 1)))))
 
 -- a sign or a code that is wider than its bits is refused
-unfoldable pub amount : {A : Type 0} → (unknown : A) (value : ℤ → A) (over refused : A) (scale : Scale) (sign code : ℕ) → A
-amount unknown value over refused scale sign code = cond (wider 1 sign || wider scale.bits code) refused (stepped unknown value over scale sign code)
+unfoldable pub amount : {A : Type 0} → (at : A) (scale : Scale) (sign code : ℕ) → Result A Refusal
+amount at scale sign code = cond (wider 1 sign || wider scale.bits code) (Err Field) (Ok at)
 
 -- n is n - 1 knots, times 4 in subtypes 2 and 4; 1023 is over
 unfoldable pub times : ℕ → ℕ
@@ -36,20 +37,28 @@ times subtype = cond (eqb subtype 2 || eqb subtype 4) 4 1
 abbrev pub speeds : ℕ → Scale
 speeds subtype = record { bits = 10; step = times subtype }
 
-unfoldable pub speed_of : ℕ → ℕ → ℕ → Speed
-speed_of subtype sign code =
-    cond (wider 3 subtype) (speed.Refused Field) (amount speed.Unknown speed.Knots speed.Over (speed.Refused Field) (speeds subtype) sign code)
+unfoldable pub speed_at : ℕ → ℕ → ℕ → Speed
+speed_at subtype sign code = stepped speed.Unknown speed.Knots speed.Over (speeds subtype) sign code
+
+unfoldable pub speed_of : ℕ → ℕ → ℕ → Result Speed Refusal
+speed_of subtype sign code = cond (wider 3 subtype) (Err Field) (amount (speed_at subtype sign code) (speeds subtype) sign code)
 
 -- n is 64 (n - 1) feet per minute; 511 is over
 abbrev pub rates : Scale
 rates = record { bits = 9; step = 64 }
 
-unfoldable pub rate_of : ℕ → ℕ → Rate
-rate_of sign code = amount rate.Unknown rate.FeetPerMinute rate.Over (rate.Refused Field) rates sign code
+unfoldable pub rate_at : ℕ → ℕ → Rate
+rate_at sign code = stepped rate.Unknown rate.FeetPerMinute rate.Over rates sign code
+
+unfoldable pub rate_of : ℕ → ℕ → Result Rate Refusal
+rate_of sign code = amount (rate_at sign code) rates sign code
 
 -- n is 25 (n - 1) feet; 127 is over
 abbrev pub differences : Scale
 differences = record { bits = 7; step = 25 }
 
-unfoldable pub difference_of : ℕ → ℕ → Difference
-difference_of sign code = amount difference.Unknown difference.Feet difference.Over (difference.Refused Field) differences sign code
+unfoldable pub difference_at : ℕ → ℕ → Difference
+difference_at sign code = stepped difference.Unknown difference.Feet difference.Over differences sign code
+
+unfoldable pub difference_of : ℕ → ℕ → Result Difference Refusal
+difference_of sign code = amount (difference_at sign code) differences sign code

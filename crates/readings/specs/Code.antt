@@ -1,8 +1,7 @@
 -- What private functions promise to each other: an altitude of a Gray code by its two parts. No public contract cites this file.
-use Rattle.std.specs.Prelude.{ℕ}
+use Rattle.std.specs.Prelude.{ℕ, Option, None}
 use Rattle.readings.specs.declared.altitude.Altitude.{Altitude}
-use Rattle.readings.specs.declared.altitude.Altitude.TheVariants.{Unknown, Feet}
-use Rattle.readings.specs.Altitude.{hundreds_by}
+use Rattle.readings.specs.Altitude.{hundreds_by, known}
 
-unfoldable pub by_hundreds : ℕ → ℕ → Altitude
-by_hundreds f h = hundreds_by Unknown Feet f h
+unfoldable pub by_hundreds : ℕ → ℕ → Option Altitude
+by_hundreds f h = hundreds_by None known f h

@@ -1,9 +1,10 @@
 -- RULES 5.9: movement in 48ths of a knot, lower edge.
-use Rattle.std.specs.Prelude.{ℕ, ◌+◌, ◌-◌, ◌*◌, cond, leb, eqb}
+use Rattle.std.specs.Prelude.{ℕ, ◌+◌, ◌-◌, ◌*◌, cond, leb, eqb, Result, Ok, Err}
 use Rattle.refusals.specs.declared.Refusal.TheVariants.{Field}
 use Rattle.fields.specs.Packing.{wider}
 use Rattle.readings.specs.declared.movement.Movement.{Movement}
-use Rattle.readings.specs.declared.movement.Movement.TheVariants.{Unknown, Stopped, LowerEdge, AndUp, Reserved, Refused}
+use Rattle.readings.specs.declared.movement.Movement.TheVariants.{Unknown, Stopped, LowerEdge, AndUp, Reserved}
+use Rattle.refusals.specs.declared.Refusal.{Refusal}
 
 -- of the codes 2 to 123
 unfoldable pub lower_edge : ℕ → ℕ
@@ -25,5 +26,8 @@ movement_by unknown stopped edge andUp reserved c =
     (cond (eqb c 124) (andUp 8400)
     reserved)))
 
-unfoldable pub movement_of : ℕ → Movement
-movement_of c = cond (wider 7 c) (Refused Field) (movement_by Unknown Stopped LowerEdge AndUp Reserved c)
+unfoldable pub movement_at : ℕ → Movement
+movement_at c = movement_by Unknown Stopped LowerEdge AndUp Reserved c
+
+unfoldable pub movement_of : ℕ → Result Movement Refusal
+movement_of c = cond (wider 7 c) (Err Field) (Ok (movement_at c))

@@ -1,13 +1,11 @@
 -- RULES 5.1, 6.5 and 19.3: what each reading says in the rules' terms: a number, or what the code means.
-use Rattle.std.specs.Prelude.{ℕ, Bool, cond, List, ℤ, pos}
+use Rattle.std.specs.Prelude.{ℕ, Bool, cond, List, ℤ, pos, Option, Some, None, Result, Ok, Err}
 use Rattle.refusals.specs.Numbers.{number_of}
 use Rattle.refusals.specs.Said.{Said, number, gives}
 use Rattle.characters.specs.Said.{SetName, category_set_said, text_said, set_means, text_means}
 use Rattle.layouts.specs.declared.velocity.Vertical.{Vertical}
 use Rattle.layouts.specs.declared.bodies.Body.{Body}
 use Rattle.layouts.specs.declared.bodies.Body.TheVariants as body
-use Rattle.layouts.specs.declared.bodies.Taken.{Taken}
-use Rattle.layouts.specs.declared.bodies.Taken.TheVariants as read
 use Rattle.layouts.specs.Bodies.{body_fits}
 use Rattle.readings.specs.Altitude.{altitude_by}
 use Rattle.readings.specs.Amounts.{stepped, speeds, rates, differences}
@@ -17,7 +15,6 @@ use Rattle.readings.specs.Headings.{turn_of}
 use Rattle.readings.specs.Movement.{movement_by}
 use Rattle.readings.specs.Status.{has_a, has_c, bit_c, version_by, supplement_by}
 use Rattle.readings.specs.declared.altitude.Altitude.{Altitude}
-use Rattle.readings.specs.declared.altitude.Altitude.TheVariants as altitude
 use Rattle.readings.specs.declared.amounts.Speed.{Speed}
 use Rattle.readings.specs.declared.amounts.Speed.TheVariants as speed
 use Rattle.readings.specs.declared.amounts.Rate.{Rate}
@@ -26,16 +23,11 @@ use Rattle.readings.specs.declared.amounts.Difference.{Difference}
 use Rattle.readings.specs.declared.amounts.Difference.TheVariants as difference
 use Rattle.readings.specs.declared.coarse.CoarseSpeed.{CoarseSpeed}
 use Rattle.readings.specs.declared.coarse.CoarseSpeed.TheVariants as coarse_speed
-use Rattle.readings.specs.declared.headings.Heading.{Heading}
-use Rattle.readings.specs.declared.headings.Heading.TheVariants as heading
 use Rattle.readings.specs.declared.movement.Movement.{Movement}
 use Rattle.readings.specs.declared.movement.Movement.TheVariants as movement
-use Rattle.readings.specs.declared.status.Version.{Version}
-use Rattle.readings.specs.declared.status.Version.TheVariants as version
-use Rattle.readings.specs.declared.status.Supplement.{Supplement}
-use Rattle.readings.specs.declared.status.Supplement.TheVariants as supplement
 use Rattle.readings.specs.declared.bodies.Readings.{Readings}
 use Rattle.readings.specs.declared.bodies.Readings.TheVariants as readings
+use Rattle.refusals.specs.declared.Refusal.{Refusal}
 
 -- what a code can mean
 pub data Amount : Type 0 where
@@ -51,54 +43,54 @@ pub data Amount : Type 0 where
 
 -- ---- each answer
 
-abbrev pub altitude_said : Altitude → Said Amount
-altitude_said altitude.Unknown = gives unknown
-altitude_said (altitude.Feet z step) = gives (in_steps z step)
-altitude_said (altitude.Refused r) = number (number_of r)
+abbrev pub altitude_said : Result (Option Altitude) Refusal → Said Amount
+altitude_said (Ok None) = gives unknown
+altitude_said (Ok (Some a)) = gives (in_steps a.feet a.step)
+altitude_said (Err r) = number (number_of r)
 
-abbrev pub speed_said : Speed → Said Amount
-speed_said speed.Unknown = gives unknown
-speed_said (speed.Knots z) = gives (figure z)
-speed_said speed.Over = gives over
-speed_said (speed.Refused r) = number (number_of r)
+abbrev pub speed_said : Result Speed Refusal → Said Amount
+speed_said (Ok speed.Unknown) = gives unknown
+speed_said (Ok (speed.Knots z)) = gives (figure z)
+speed_said (Ok speed.Over) = gives over
+speed_said (Err r) = number (number_of r)
 
-abbrev pub rate_said : Rate → Said Amount
-rate_said rate.Unknown = gives unknown
-rate_said (rate.FeetPerMinute z) = gives (figure z)
-rate_said rate.Over = gives over
-rate_said (rate.Refused r) = number (number_of r)
+abbrev pub rate_said : Result Rate Refusal → Said Amount
+rate_said (Ok rate.Unknown) = gives unknown
+rate_said (Ok (rate.FeetPerMinute z)) = gives (figure z)
+rate_said (Ok rate.Over) = gives over
+rate_said (Err r) = number (number_of r)
 
-abbrev pub difference_said : Difference → Said Amount
-difference_said difference.Unknown = gives unknown
-difference_said (difference.Feet z) = gives (figure z)
-difference_said difference.Over = gives over
-difference_said (difference.Refused r) = number (number_of r)
+abbrev pub difference_said : Result Difference Refusal → Said Amount
+difference_said (Ok difference.Unknown) = gives unknown
+difference_said (Ok (difference.Feet z)) = gives (figure z)
+difference_said (Ok difference.Over) = gives over
+difference_said (Err r) = number (number_of r)
 
-abbrev pub heading_said : Heading → Said Amount
-heading_said (heading.Turn n) = gives (figure (pos n))
-heading_said (heading.Refused r) = number (number_of r)
+abbrev pub heading_said : Result ℕ Refusal → Said Amount
+heading_said (Ok n) = gives (figure (pos n))
+heading_said (Err r) = number (number_of r)
 
-abbrev pub movement_said : Movement → Said Amount
-movement_said movement.Unknown = gives unknown
-movement_said movement.Stopped = gives stopped
-movement_said (movement.LowerEdge n) = gives (edge n)
-movement_said (movement.AndUp n) = gives (andUp n)
-movement_said movement.Reserved = gives reserved
-movement_said (movement.Refused r) = number (number_of r)
+abbrev pub movement_said : Result Movement Refusal → Said Amount
+movement_said (Ok movement.Unknown) = gives unknown
+movement_said (Ok movement.Stopped) = gives stopped
+movement_said (Ok (movement.LowerEdge n)) = gives (edge n)
+movement_said (Ok (movement.AndUp n)) = gives (andUp n)
+movement_said (Ok movement.Reserved) = gives reserved
+movement_said (Err r) = number (number_of r)
 
-abbrev pub coarse_speed_said : CoarseSpeed → Said Amount
-coarse_speed_said coarse_speed.Unknown = gives unknown
-coarse_speed_said (coarse_speed.LowerEdge n) = gives (edge n)
-coarse_speed_said (coarse_speed.AndUp n) = gives (andUp n)
-coarse_speed_said (coarse_speed.Refused r) = number (number_of r)
+abbrev pub coarse_speed_said : Result CoarseSpeed Refusal → Said Amount
+coarse_speed_said (Ok coarse_speed.Unknown) = gives unknown
+coarse_speed_said (Ok (coarse_speed.LowerEdge n)) = gives (edge n)
+coarse_speed_said (Ok (coarse_speed.AndUp n)) = gives (andUp n)
+coarse_speed_said (Err r) = number (number_of r)
 
-abbrev pub version_said : Version → Said Amount
-version_said (version.Number n) = gives (numeral n)
-version_said version.Reserved = gives reserved
+abbrev pub version_said : Option ℕ → Said Amount
+version_said (Some n) = gives (numeral n)
+version_said None = gives reserved
 
-abbrev pub supplement_said : Supplement → Said Amount
-supplement_said supplement.Unknown = gives unknown
-supplement_said (supplement.Bit n) = gives (bit n)
+abbrev pub supplement_said : Option ℕ → Said Amount
+supplement_said None = gives unknown
+supplement_said (Some n) = gives (bit n)
 
 -- ---- and of a whole body
 
@@ -113,15 +105,15 @@ pub data Meaning : Type 0 where
   status : (version a c : Said Amount) → Meaning
   coarse : (altitude angle speed : Said Amount) → Meaning
 
-abbrev pub readings_said : Readings → Said Meaning
-readings_said (readings.Identification r) = gives (identification (category_set_said r.set) (text_said r.text))
-readings_said (readings.Surface r) = gives (surface (movement_said r.movement) (heading_said r.heading))
-readings_said (readings.Airborne r) = gives (airborne (altitude_said r.altitude) r.gnss)
-readings_said (readings.Ground r) = gives (ground (speed_said r.east) (speed_said r.north) (rate_said r.rate) (difference_said r.difference))
-readings_said (readings.Air r) = gives (air (heading_said r.heading) (speed_said r.airspeed) (rate_said r.rate) (difference_said r.difference))
-readings_said (readings.Status r) = gives (status (version_said r.version) (supplement_said r.supplementa) (supplement_said r.supplementc))
-readings_said (readings.Coarse r) = gives (coarse (altitude_said r.altitude) (heading_said r.angle) (coarse_speed_said r.speed))
-readings_said (readings.Refused r) = number (number_of r)
+abbrev pub readings_said : Result Readings Refusal → Said Meaning
+readings_said (Ok (readings.Identification r)) = gives (identification (category_set_said (Ok r.set)) (text_said (Ok r.text)))
+readings_said (Ok (readings.Surface r)) = gives (surface (movement_said (Ok r.movement)) (heading_said (Ok r.heading)))
+readings_said (Ok (readings.Airborne r)) = gives (airborne (altitude_said (Ok r.altitude)) r.gnss)
+readings_said (Ok (readings.Ground r)) = gives (ground (speed_said (Ok r.east)) (speed_said (Ok r.north)) (rate_said (Ok r.rate)) (difference_said (Ok r.difference)))
+readings_said (Ok (readings.Air r)) = gives (air (heading_said (Ok r.heading)) (speed_said (Ok r.airspeed)) (rate_said (Ok r.rate)) (difference_said (Ok r.difference)))
+readings_said (Ok (readings.Status r)) = gives (status (version_said r.version) (supplement_said r.supplementa) (supplement_said r.supplementc))
+readings_said (Ok (readings.Coarse r)) = gives (coarse (altitude_said (Ok r.altitude)) (heading_said (Ok r.angle)) (coarse_speed_said (Ok r.speed)))
+readings_said (Err r) = number (number_of r)
 
 -- ---- what is due of a code that fits its bits
 
@@ -176,9 +168,9 @@ body_means (body.Coarse b) traffic = coarse (gives (altitude_means b.altitude)) 
 abbrev pub body_said : Body → Bool → Said Meaning
 body_said b traffic = cond (body_fits b) (gives (body_means b traffic)) (number 8)
 
-abbrev pub taken_said : Taken → Bool → Said Meaning
-taken_said (read.Body b) traffic = body_said b traffic
-taken_said (read.Refused r) traffic = number (number_of r)
+abbrev pub taken_said : Result Body Refusal → Bool → Said Meaning
+taken_said (Ok b) traffic = body_said b traffic
+taken_said (Err r) traffic = number (number_of r)
 
 -- ---- a refusal stands alone
 

@@ -1,9 +1,5 @@
 -- RULES 5.11 and 16.3: operational status: the version of the standard, and the supplements that a version has. Versions 0 to 2 are published, 3 to 7 are reserved.
-use Rattle.std.specs.Prelude.{ℕ, Bool, cond, ◌&&◌, leb, eqb}
-use Rattle.readings.specs.declared.status.Version.{Version}
-use Rattle.readings.specs.declared.status.Version.TheVariants as version
-use Rattle.readings.specs.declared.status.Supplement.{Supplement}
-use Rattle.readings.specs.declared.status.Supplement.TheVariants as supplement
+use Rattle.std.specs.Prelude.{ℕ, Bool, cond, ◌&&◌, leb, eqb, Option, Some, None}
 
 abbrev pub is_published : ℕ → Bool
 is_published v = leb v 2
@@ -26,8 +22,9 @@ version_by number reserved v = cond (is_published v) (number v) reserved
 abbrev pub supplement_by : {A : Type 0} → (unknown : A) (bit : ℕ → A) → Bool → ℕ → A
 supplement_by unknown bit has n = cond has (bit n) unknown
 
-abbrev pub version_of : ℕ → Version
-version_of v = version_by version.Number version.Reserved v
+-- a version that is reserved has no number
+abbrev pub version_of : ℕ → Option ℕ
+version_of v = version_by Some None v
 
-abbrev pub supplement_of : Bool → ℕ → Supplement
-supplement_of has n = supplement_by supplement.Unknown supplement.Bit has n
+abbrev pub supplement_of : Bool → ℕ → Option ℕ
+supplement_of has n = supplement_by None Some has n

@@ -1,6 +1,6 @@
 // The speed of a coarse message, in knots.
 ghost use Rattle.std.specs.Prelude.{◌≡◌};
-ghost use Rattle.readings.specs.Coarse.{coarse_speed_of};
+ghost use Rattle.readings.specs.Coarse.{coarse_speed_at, coarse_speed_of};
 
 use refusals::Refusal;
 
@@ -11,25 +11,28 @@ pub enum CoarseSpeed {
     LowerEdge(u32),
     // the speed is from here up
     AndUp(u32),
-    Refused(Refusal),
 }
 
 // The speed of a code of 6 bits.
-pub fn coarse_speed_of(code: u8) -> CoarseSpeed
+#[tactic(auto, unfolding(crate::specs::Coarse::coarse_speed_at))]
+pub(crate) fn coarse_speed_at(code: u8) -> CoarseSpeed
+    ensures { result ≡ coarse_speed_at code }
+{
+    match code {
+        0 => CoarseSpeed::Unknown,
+        1 => CoarseSpeed::LowerEdge(0),
+        2..=62 => CoarseSpeed::LowerEdge(32 * u32::from(code) - 48),
+        _ => CoarseSpeed::AndUp(1968),
+    }
+}
+
+// The same; a code wider than its bits is refused.
+#[tactic(auto, unfolding(crate::specs::Coarse::coarse_speed_of))]
+pub fn coarse_speed_of(code: u8) -> Result<CoarseSpeed, Refusal>
     ensures { result ≡ coarse_speed_of code }
 {
-    let n = code as u32;
-    if 64 <= n {
-        return CoarseSpeed::Refused(Refusal::Field);
+    if 64 <= code {
+        return Err(Refusal::Field);
     }
-    if n == 0 {
-        return CoarseSpeed::Unknown;
-    }
-    if n == 1 {
-        return CoarseSpeed::LowerEdge(0);
-    }
-    if n <= 62 {
-        return CoarseSpeed::LowerEdge(32 * n - 48);
-    }
-    CoarseSpeed::AndUp(1968)
+    Ok(coarse_speed_at(code))
 }

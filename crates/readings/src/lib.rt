@@ -17,6 +17,5 @@ pub use bodies::{
     Readings, StatusReadings, SurfaceReadings, readings_in, readings_of,
 };
 pub use coarse::{CoarseSpeed, coarse_speed_of};
-pub use headings::{Heading, angle_of, heading_of, surface_heading_of};
+pub use headings::{angle_of, heading_of, surface_heading_of};
 pub use movement::{Movement, movement_of};
-pub use status::{Supplement, Version};

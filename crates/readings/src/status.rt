@@ -2,53 +2,30 @@
 ghost use Rattle.std.specs.Prelude.{◌≡◌};
 ghost use Rattle.readings.specs.Status.{has_a, has_c, bit_c, version_of, supplement_of};
 
-#[derive(Clone, Copy)]
-pub enum Version {
-    Number(u8),
-    // 3 to 7
-    Reserved,
-}
-
-// One bit, or none where the version has no such supplement.
-#[derive(Clone, Copy)]
-pub enum Supplement {
-    Unknown,
-    Bit(u8),
-}
-
-pub(crate) fn version_of(code: u8) -> Version
+// The version; 3 to 7 are reserved.
+pub(crate) fn version_of(code: u8) -> Option<u8>
     ensures { result ≡ version_of code }
 {
-    if code <= 2 {
-        Version::Number(code)
-    } else {
-        Version::Reserved
-    }
+    if code <= 2 { Some(code) } else { None }
 }
 
-fn supplement_of(has: bool, bit: u8) -> Supplement
+fn supplement_of(has: bool, bit: u8) -> Option<u8>
     ensures { result ≡ supplement_of has bit }
 {
-    if has {
-        Supplement::Bit(bit)
-    } else {
-        Supplement::Unknown
-    }
+    if has { Some(bit) } else { None }
 }
 
 // Supplement A, of versions 1 and 2.
-pub(crate) fn supplement_a_of(version: u8, bit: u8) -> Supplement
+pub(crate) fn supplement_a_of(version: u8, bit: u8) -> Option<u8>
     ensures { result ≡ supplement_of (has_a version) bit }
 {
     supplement_of((1 <= version) & (version <= 2), bit)
 }
 
 // Supplement C, of version 2: bit 20 where the subtype is 1, else 0.
-pub(crate) fn supplement_c_of(version: u8, subtype: u8, bit20: u8) -> Supplement
+pub(crate) fn supplement_c_of(version: u8, subtype: u8, bit20: u8) -> Option<u8>
     ensures { result ≡ supplement_of (has_c version) (bit_c subtype bit20) }
 {
-    if subtype == 1 {
-        return supplement_of(version == 2, bit20);
-    }
-    supplement_of(version == 2, 0)
+    let bit = if subtype == 1 { bit20 } else { 0 };
+    supplement_of(version == 2, bit)
 }

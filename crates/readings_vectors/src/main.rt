@@ -1,13 +1,13 @@
 // Runs `readings` on each question of standard input, five bytes each, and writes the answers, a line each. Behind a question of a whole body stand its fields, eight bytes each.
 #![tactic(auto)]
 
-use characters::{CategorySet, Character, Text};
+use characters::CategorySet;
 use counts::{LatitudeCount, LongitudeCount};
 use layouts::{Air, Airborne, Body, Coarse, Ground, Identification, Status, Surface, Vertical};
 use readings::{
     AirReadings, AirborneReadings, Altitude, CoarseReadings, CoarseSpeed, Difference,
-    GroundReadings, Heading, IdentificationReadings, Movement, Rate, Readings, Speed,
-    StatusReadings, Supplement, SurfaceReadings, Version,
+    GroundReadings, IdentificationReadings, Movement, Rate, Readings, Speed, StatusReadings,
+    SurfaceReadings,
 };
 use refusals::Refusal;
 use std::io::{self, Read};
@@ -24,150 +24,143 @@ fn say_refused(out: &impl Print, r: Refusal) -> io::Result<()> {
     print!(out; "refused {}", refusals::number(r))
 }
 
-fn say_altitude(out: &impl Print, a: Altitude) -> io::Result<()> {
+fn say_altitude(out: &impl Print, a: Result<Option<Altitude>, Refusal>) -> io::Result<()> {
     match a {
-        Altitude::Unknown => out.print("unknown"),
-        Altitude::Feet { feet, step } => {
-            say_signed(out, feet)?;
-            print!(out; " step {step}")
+        Ok(Some(a)) => {
+            say_signed(out, a.feet)?;
+            print!(out; " step {}", a.step)
         }
-        Altitude::Refused(r) => say_refused(out, r),
+        Ok(None) => out.print("unknown"),
+        Err(r) => say_refused(out, r),
     }
 }
 
-fn say_category_set(out: &impl Print, s: CategorySet) -> io::Result<()> {
+fn say_category_set(out: &impl Print, s: Result<Option<CategorySet>, Refusal>) -> io::Result<()> {
     match s {
-        CategorySet::A => out.print("A"),
-        CategorySet::B => out.print("B"),
-        CategorySet::C => out.print("C"),
-        CategorySet::D => out.print("D"),
-        CategorySet::NoSet => out.print("none"),
-        CategorySet::Refused(r) => say_refused(out, r),
+        Ok(Some(CategorySet::A)) => out.print("A"),
+        Ok(Some(CategorySet::B)) => out.print("B"),
+        Ok(Some(CategorySet::C)) => out.print("C"),
+        Ok(Some(CategorySet::D)) => out.print("D"),
+        Ok(None) => out.print("none"),
+        Err(r) => say_refused(out, r),
     }
 }
 
-fn say_speed(out: &impl Print, s: Speed) -> io::Result<()> {
+fn say_speed(out: &impl Print, s: Result<Speed, Refusal>) -> io::Result<()> {
     match s {
-        Speed::Unknown => out.print("unknown"),
-        Speed::Knots(z) => say_signed(out, z),
-        Speed::Over => out.print("over"),
-        Speed::Refused(r) => say_refused(out, r),
+        Ok(Speed::Unknown) => out.print("unknown"),
+        Ok(Speed::Knots(z)) => say_signed(out, z),
+        Ok(Speed::Over) => out.print("over"),
+        Err(r) => say_refused(out, r),
     }
 }
 
-fn say_rate(out: &impl Print, s: Rate) -> io::Result<()> {
+fn say_rate(out: &impl Print, s: Result<Rate, Refusal>) -> io::Result<()> {
     match s {
-        Rate::Unknown => out.print("unknown"),
-        Rate::FeetPerMinute(z) => say_signed(out, z),
-        Rate::Over => out.print("over"),
-        Rate::Refused(r) => say_refused(out, r),
+        Ok(Rate::Unknown) => out.print("unknown"),
+        Ok(Rate::FeetPerMinute(z)) => say_signed(out, z),
+        Ok(Rate::Over) => out.print("over"),
+        Err(r) => say_refused(out, r),
     }
 }
 
-fn say_difference(out: &impl Print, d: Difference) -> io::Result<()> {
+fn say_difference(out: &impl Print, d: Result<Difference, Refusal>) -> io::Result<()> {
     match d {
-        Difference::Unknown => out.print("unknown"),
-        Difference::Feet(z) => say_signed(out, z),
-        Difference::Over => out.print("over"),
-        Difference::Refused(r) => say_refused(out, r),
+        Ok(Difference::Unknown) => out.print("unknown"),
+        Ok(Difference::Feet(z)) => say_signed(out, z),
+        Ok(Difference::Over) => out.print("over"),
+        Err(r) => say_refused(out, r),
     }
 }
 
-fn say_heading(out: &impl Print, h: Heading) -> io::Result<()> {
+fn say_heading(out: &impl Print, h: Result<u32, Refusal>) -> io::Result<()> {
     match h {
-        Heading::Turn(n) => out.print(n),
-        Heading::Refused(r) => say_refused(out, r),
+        Ok(n) => out.print(n),
+        Err(r) => say_refused(out, r),
     }
 }
 
-fn say_movement(out: &impl Print, m: Movement) -> io::Result<()> {
+fn say_movement(out: &impl Print, m: Result<Movement, Refusal>) -> io::Result<()> {
     match m {
-        Movement::Unknown => out.print("unknown"),
-        Movement::Stopped => out.print("stopped"),
-        Movement::LowerEdge(n) => print!(out; "from {n}"),
-        Movement::AndUp(n) => print!(out; "{n} and up"),
-        Movement::Reserved => out.print("reserved"),
-        Movement::Refused(r) => say_refused(out, r),
+        Ok(Movement::Unknown) => out.print("unknown"),
+        Ok(Movement::Stopped) => out.print("stopped"),
+        Ok(Movement::LowerEdge(n)) => print!(out; "from {n}"),
+        Ok(Movement::AndUp(n)) => print!(out; "{n} and up"),
+        Ok(Movement::Reserved) => out.print("reserved"),
+        Err(r) => say_refused(out, r),
     }
 }
 
-fn say_coarse_speed(out: &impl Print, s: CoarseSpeed) -> io::Result<()> {
+fn say_coarse_speed(out: &impl Print, s: Result<CoarseSpeed, Refusal>) -> io::Result<()> {
     match s {
-        CoarseSpeed::Unknown => out.print("unknown"),
-        CoarseSpeed::LowerEdge(n) => print!(out; "from {n}"),
-        CoarseSpeed::AndUp(n) => print!(out; "{n} and up"),
-        CoarseSpeed::Refused(r) => say_refused(out, r),
+        Ok(CoarseSpeed::Unknown) => out.print("unknown"),
+        Ok(CoarseSpeed::LowerEdge(n)) => print!(out; "from {n}"),
+        Ok(CoarseSpeed::AndUp(n)) => print!(out; "{n} and up"),
+        Err(r) => say_refused(out, r),
     }
 }
 
-fn say_character(out: &impl Print, c: Character) -> io::Result<()> {
+fn say_character(out: &impl Print, c: Result<u8, Refusal>) -> io::Result<()> {
     match c {
-        Character::Shown(b) => out.print(b),
-        Character::Refused(r) => say_refused(out, r),
-    }
-}
-
-fn say_text(out: &impl Print, t: Text) -> io::Result<()> {
-    match t {
-        Text::Shown(n) => out.print(n),
-        Text::Refused(r) => say_refused(out, r),
+        Ok(b) => out.print(b),
+        Err(r) => say_refused(out, r),
     }
 }
 
 fn say_identification(out: &impl Print, m: IdentificationReadings) -> io::Result<()> {
     out.print("identification ")?;
-    say_category_set(out, m.set)?;
+    say_category_set(out, Ok(m.set))?;
     out.print(", ")?;
-    say_text(out, m.text)
+    out.print(m.text)
 }
 
 fn say_surface(out: &impl Print, m: SurfaceReadings) -> io::Result<()> {
     out.print("surface ")?;
-    say_movement(out, m.movement)?;
+    say_movement(out, Ok(m.movement))?;
     out.print(", ")?;
-    say_heading(out, m.heading)
+    out.print(m.heading)
 }
 
 fn say_airborne(out: &impl Print, m: AirborneReadings) -> io::Result<()> {
     out.print("airborne ")?;
-    say_altitude(out, m.altitude)?;
+    say_altitude(out, Ok(m.altitude))?;
     out.print(if m.gnss { ", GNSS" } else { ", pressure" })
 }
 
 fn say_vertical(out: &impl Print, rate: Rate, difference: Difference) -> io::Result<()> {
     out.print(", ")?;
-    say_rate(out, rate)?;
+    say_rate(out, Ok(rate))?;
     out.print(", ")?;
-    say_difference(out, difference)
+    say_difference(out, Ok(difference))
 }
 
 fn say_ground(out: &impl Print, m: GroundReadings) -> io::Result<()> {
     out.print("ground ")?;
-    say_speed(out, m.east)?;
+    say_speed(out, Ok(m.east))?;
     out.print(", ")?;
-    say_speed(out, m.north)?;
+    say_speed(out, Ok(m.north))?;
     say_vertical(out, m.rate, m.difference)
 }
 
 fn say_air(out: &impl Print, m: AirReadings) -> io::Result<()> {
     out.print("air ")?;
-    say_heading(out, m.heading)?;
+    out.print(m.heading)?;
     out.print(", ")?;
-    say_speed(out, m.airspeed)?;
+    say_speed(out, Ok(m.airspeed))?;
     say_vertical(out, m.rate, m.difference)
 }
 
-fn say_version(out: &impl Print, v: Version) -> io::Result<()> {
+fn say_version(out: &impl Print, v: Option<u8>) -> io::Result<()> {
     match v {
-        Version::Number(n) => out.print(n),
-        Version::Reserved => out.print("reserved"),
+        Some(n) => out.print(n),
+        None => out.print("reserved"),
     }
 }
 
-fn say_supplement(out: &impl Print, s: Supplement) -> io::Result<()> {
+fn say_supplement(out: &impl Print, s: Option<u8>) -> io::Result<()> {
     match s {
-        Supplement::Unknown => out.print("unknown"),
-        Supplement::Bit(n) => out.print(n),
+        None => out.print("unknown"),
+        Some(n) => out.print(n),
     }
 }
 
@@ -182,23 +175,23 @@ fn say_status(out: &impl Print, m: StatusReadings) -> io::Result<()> {
 
 fn say_coarse(out: &impl Print, m: CoarseReadings) -> io::Result<()> {
     out.print("coarse ")?;
-    say_altitude(out, m.altitude)?;
+    say_altitude(out, Ok(m.altitude))?;
     out.print(", ")?;
-    say_heading(out, m.angle)?;
+    out.print(m.angle)?;
     out.print(", ")?;
-    say_coarse_speed(out, m.speed)
+    say_coarse_speed(out, Ok(m.speed))
 }
 
-fn say_readings(out: &impl Print, r: Readings) -> io::Result<()> {
+fn say_readings(out: &impl Print, r: Result<Readings, Refusal>) -> io::Result<()> {
     match r {
-        Readings::Identification(m) => say_identification(out, m),
-        Readings::Surface(m) => say_surface(out, m),
-        Readings::Airborne(m) => say_airborne(out, m),
-        Readings::Ground(m) => say_ground(out, m),
-        Readings::Air(m) => say_air(out, m),
-        Readings::Status(m) => say_status(out, m),
-        Readings::Coarse(m) => say_coarse(out, m),
-        Readings::Refused(n) => say_refused(out, n),
+        Ok(Readings::Identification(m)) => say_identification(out, m),
+        Ok(Readings::Surface(m)) => say_surface(out, m),
+        Ok(Readings::Airborne(m)) => say_airborne(out, m),
+        Ok(Readings::Ground(m)) => say_ground(out, m),
+        Ok(Readings::Air(m)) => say_air(out, m),
+        Ok(Readings::Status(m)) => say_status(out, m),
+        Ok(Readings::Coarse(m)) => say_coarse(out, m),
+        Err(r) => say_refused(out, r),
     }
 }
 

@@ -1,65 +1,56 @@
-// The numbers that come back: one case for each reason to refuse, and its number in RULES 3.2.
+// The numbers that come back: one case for each reason to refuse, with its number in RULES 3.2.
 #![tactic(auto)]
 
 ghost use Rattle.std.specs.Prelude.{◌≡◌};
 ghost use Rattle.refusals.specs.Numbers.{number_of};
 
-#[derive(Clone, Copy)]
+#[derive(Clone, Copy, Debug, PartialEq, Eq)]
 pub enum Refusal {
     // a message or an output buffer that is not of 14 bytes
-    Length,
+    Length = 1,
     // a time below the clock
-    Late,
+    Late = 2,
     // a parity remainder that is not 0
-    Parity,
+    Parity = 3,
     // a DF or CF that is not taken
-    Format,
+    Format = 4,
     // a TYPE or subtype that is not taken
-    TypeCode,
+    TypeCode = 5,
     // a key that is not held, and no place is free
-    Full,
+    Full = 6,
     // a table of 0 or more than 1,024 places, or not of whole places
-    Places,
+    Places = 7,
     // a field wider than its bits, fields that no taken message has, a latitude beyond a pole
-    Field,
+    Field = 8,
     // a decoded latitude outside -90..90 degrees
-    Latitude,
+    Latitude = 9,
     // two latitudes in different longitude zones
-    Zones,
+    Zones = 10,
     // a capture block that fails its rules
-    Block,
+    Block = 11,
     // a key that is not held, and a message that starts no track
-    NoTrack,
+    NoTrack = 12,
     // a stamp whose time would pass 2^64 - 1
-    Overrun,
+    Overrun = 13,
     // a log of more than 2,900 records, or not of whole ones, or a capture of more than 2,900
-    Log,
+    Log = 14,
     // a double that is no place's figure in degrees
-    Degrees,
+    Degrees = 15,
     // a text that is not in the form of a listing
-    Form,
+    Form = 16,
+}
+
+impl From<Refusal> for u32 {
+    ghost from_gives = { λ r n. n ≡ number_of r };
+
+    fn from(r: Refusal) -> u32 {
+        r as u32
+    }
 }
 
 // The number of a refusal.
 pub fn number(r: Refusal) -> u32
     ensures { result ≡ number_of r }
 {
-    match r {
-        Refusal::Length => 1,
-        Refusal::Late => 2,
-        Refusal::Parity => 3,
-        Refusal::Format => 4,
-        Refusal::TypeCode => 5,
-        Refusal::Full => 6,
-        Refusal::Places => 7,
-        Refusal::Field => 8,
-        Refusal::Latitude => 9,
-        Refusal::Zones => 10,
-        Refusal::Block => 11,
-        Refusal::NoTrack => 12,
-        Refusal::Overrun => 13,
-        Refusal::Log => 14,
-        Refusal::Degrees => 15,
-        Refusal::Form => 16,
-    }
+    u32::from(r)
 }

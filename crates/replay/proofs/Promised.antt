@@ -1,10 +1,10 @@
 -- What the contract of `replay` promises in the rules' terms: whatever meets it says 14 or 8 exactly when they are due, or the track, held or absent. By the tests.
 -- Assumes nothing.
+use Rattle.std.specs.Prelude.{Option, Some, None, Err, Ok}
 use Prim.Native.Nat.{ℕ, ◌/◌}
 use mathlib.Core.Path.{◌≡◌, refl, ap, ◌∙◌}
 use mathlib.Core.Bool.{Bool, true, false, cond}
 use mathlib.Core.List.{List}
-use mathlib.Core.Option.{Option, some, none}
 use lib.ListN.{length}
 use contract.Lifetimes.{Lfts}
 use denote.Triple.Clauses.{AtExit}
@@ -15,18 +15,17 @@ use Rattle.keys.specs.Keys.{key_for}
 use Rattle.keys.specs.declared.Kind.{Kind}
 use Rattle.whereabouts.specs.declared.Site.{Site}
 use Rattle.track.specs.declared.Track.{Track}
-use Rattle.track.specs.Held.{looked_as, not_looked}
 use Rattle.track.specs.Said.{looked_said}
 use Rattle.replay.specs.Replay.{unheard, own_at, sited, replayed}
 use Rattle.replay.specs.Said.{earns14, earns8, replay_table}
 use Rattle.replay.proofs.replay.Kinds as replay-kinds
 use Rattle.replay.proofs.replay.Reads as replay
 
-looked : (v : Option Track) → looked_said (looked_as v) ≡ gives v
-looked none = refl
-looked (some t) = refl
+looked : (v : Option Track) → looked_said (Ok v) ≡ gives v
+looked None = refl
+looked (Some t) = refl
 
-by_tests : (a b : Bool) (v : Option Track) → looked_said (cond a (not_looked Log) (cond b (not_looked Field) (looked_as v))) ≡ cond a (number 14) (cond b (number 8) (gives v))
+by_tests : (a b : Bool) (v : Option Track) → looked_said (cond a (Err Log) (cond b (Err Field) (Ok v))) ≡ cond a (number 14) (cond b (number 8) (gives v))
 by_tests true b v = refl
 by_tests false true v = refl
 by_tests false false v = looked v

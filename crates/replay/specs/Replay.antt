@@ -1,6 +1,5 @@
 -- RULES 13.1 and 13.2: a track worked out again from a log. The method takes the records in order, knows no table, and applies the rules of tracks to that key alone, the clock moving at each record.
-use Rattle.std.specs.Prelude.{ℕ, zero, suc, ◌*◌, ◌/◌, ◌%◌, Bool, false, cond, not, ◌&&◌, ◌||◌, List, eqb, leb, length, take, drop}
-use Rattle.std.proofs.Math.Option.{none}
+use Rattle.std.specs.Prelude.{ℕ, zero, suc, ◌*◌, ◌/◌, ◌%◌, Bool, false, cond, not, ◌&&◌, ◌||◌, List, eqb, leb, length, take, drop, Option, None, Result, Err, Ok}
 use Rattle.refusals.specs.declared.Refusal.TheVariants.{Field, Log}
 use Rattle.refusals.specs.Numbers.{most_records}
 use Rattle.fields.specs.Bytes.{number}
@@ -10,9 +9,10 @@ use Rattle.keys.specs.declared.Kind.TheVariants.{I, O, T, M, N, C}
 use Rattle.positions.specs.Positions.{pole_to_pole}
 use Rattle.whereabouts.specs.declared.Site.{Site}
 use Rattle.whereabouts.specs.Located.{no_site}
-use Rattle.track.specs.declared.held.Looked.{Looked}
-use Rattle.track.specs.Held.{looked_as, not_looked}
-use Rattle.replay.specs.Alone.{Heard, heard_in, Own, own_after}
+use Rattle.replay.specs.Alone.{Heard, heard_in, own_after}
+use Rattle.replay.specs.declared.Own.{Own}
+use Rattle.refusals.specs.declared.Refusal.{Refusal}
+use Rattle.track.specs.declared.Track.{Track}
 
 -- ---- the log
 
@@ -32,7 +32,7 @@ heard_at key r = heard_in key (drop 8 r) (number (take 8 r))
 
 -- from clock 0, with nobody held
 abbrev pub unheard : Own
-unheard = record { clock = 0; track = none }
+unheard = record { clock = 0; track = None }
 
 -- after the first n records, from what was seen before them
 abbrev pub own_at : Site → ℕ → Own → List ℕ → ℕ → Own
@@ -57,8 +57,8 @@ abbrev pub bad_site : Site → Bool
 bad_site site = site.known && not (pole_to_pole site.spot.latitude)
 
 -- 14, then 8 for an address over 24 bits, a flag or a station that is too wide or a bad site; else what all records leave of the key
-unfoldable pub replayed : List ℕ → Kind → ℕ → Site → Looked
+unfoldable pub replayed : List ℕ → Kind → ℕ → Site → Result (Option Track) Refusal
 replayed log kind address site =
-    cond (not (is_log (length log))) (not_looked Log)
-    (cond (leb addresses address || is_wide kind || bad_site site) (not_looked Field)
-    (looked_as (own_at (sited site) (key_for kind address) unheard log (length log / 22)).track))
+    cond (not (is_log (length log))) (Err Log)
+    (cond (leb addresses address || is_wide kind || bad_site site) (Err Field)
+    (Ok (own_at (sited site) (key_for kind address) unheard log (length log / 22)).track))

@@ -1,6 +1,5 @@
 -- RULES 13.4 and 19.3: what the answer says in the rules' terms: 14 or 8, or the track of the key, held or absent.
-use Rattle.std.specs.Prelude.{ℕ, ◌/◌, Bool, cond, not, ◌||◌, List, leb, length}
-use Rattle.std.proofs.Math.Option.{Option}
+use Rattle.std.specs.Prelude.{ℕ, ◌/◌, Bool, cond, not, ◌||◌, List, leb, length, Option}
 use Rattle.refusals.specs.Said.{Said, number, gives}
 use Rattle.keys.specs.Keys.{addresses, key_for}
 use Rattle.keys.specs.declared.Kind.{Kind}

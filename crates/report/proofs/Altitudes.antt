@@ -1,12 +1,12 @@
 -- How coarse an altitude is, from a message to its line: the track keeps the code, from which feet and step are read, so both are the message's; and no line has one without the other. Each by the rules of a track.
 -- Assumes nothing.
+use Rattle.std.specs.Prelude.{None, Result, Ok, Err, Option, Some}
 use Prim.Native.Nat.{ℕ, ◌^◌, ◌≤◌, ◌<◌}
 use native.Mathlib.Omega.{arith}
 use mathlib.Core.Path.{◌≡◌, refl, sym, ap, ap₂, subst, ◌∙◌}
 use mathlib.Core.Bool.{Bool, true, false, cond, ◌&&◌}
 use mathlib.Core.List.{List}
 use mathlib.Core.Logic.{⊎_elim, ◌↔◌}
-use mathlib.Core.Option.{Option, some, none}
 use lib.Dec.{leb, eqb}
 use contract.Lifetimes.{Lfts}
 use denote.Triple.Clauses.{AtExit}
@@ -22,13 +22,12 @@ use Rattle.layouts.specs.declared.bodies.Body.TheVariants as body
 use Rattle.layouts.specs.Layouts.{is_airborne}
 use Rattle.layouts.specs.Bodies.{body_widths, body_fields, body_me, body_fits}
 use Rattle.messages.specs.declared.Message.{Message}
-use Rattle.messages.specs.declared.Decoded.{Decoded}
-use Rattle.messages.specs.declared.Decoded.TheVariants as decode
 use Rattle.messages.specs.Message.{decoded, key_of}
-use Rattle.readings.specs.Altitude.{altitude_of}
+use Rattle.readings.specs.Altitude.{altitude_at, altitude_of}
+use Rattle.readings.proofs.Promised.{altitude_fits}
+use Rattle.layouts.proofs.BothWays.{fitting}
 use Rattle.readings.specs.Bodies.{is_gnss}
 use Rattle.readings.specs.declared.altitude.Altitude.{Altitude}
-use Rattle.readings.specs.declared.altitude.Altitude.TheVariants as altitude
 use Rattle.whereabouts.specs.declared.Site.{Site}
 use Rattle.track.specs.declared.Track.{Track}
 use Rattle.track.specs.Track.{step_body}
@@ -44,21 +43,21 @@ use Rattle.table.specs.Bytes.{bytes}
 use Rattle.table.proofs.Lawful.{bytes_lawful, all_fit}
 use Rattle.table.proofs.receive.Kinds as receive-kinds
 use Rattle.table.proofs.receive.Reads as receive
-use Rattle.text.specs.declared.Figure.TheVariants.{Unknown}
 use Rattle.report.specs.Listing.{feet, step_in, row_of}
 use Rattle.report.specs.Told.{altitude_in, left_out, Tells, in_the_air, coarsely, Kept}
+use Rattle.refusals.specs.declared.Refusal.{Refusal}
 
 -- ---- the listing
 
 -- a line has a step just when it has an altitude
-pub unknown_no_step : (key : ℕ) (t : Track) → (row_of key t).altitude ≡ Unknown ↔ (row_of key t).step ≡ Unknown
+pub unknown_no_step : (key : ℕ) (t : Track) → (row_of key t).altitude ≡ None ↔ (row_of key t).step ≡ None
 unfolding row_of feet step_in
 unknown_no_step key t = together (altitude_of t.groups.pressure)
   where
-    together : (a : Altitude) → feet a ≡ Unknown ↔ step_in a ≡ Unknown
-    together altitude.Unknown = (λ e. refl, λ e. refl)
-    together (altitude.Feet z step) = (λ e. cc, λ e. cc)
-    together (altitude.Refused r) = (λ e. refl, λ e. refl)
+    together : (a : Result (Option Altitude) Refusal) → feet a ≡ None ↔ step_in a ≡ None
+    together (Ok None) = (λ e. refl, λ e. refl)
+    together (Ok (Some a)) = (λ e. cc, λ e. cc)
+    together (Err r) = (λ e. refl, λ e. refl)
 
 -- what a line says is decided by when the track was last heard, its position and its pressure altitude: no GNSS height, and no step of one
 pub row_by_pressure : (key : ℕ) (t u : Track) → t.heard ≡ u.heard → t.position ≡ u.position → t.groups.pressure ≡ u.groups.pressure → row_of key t ≡ row_of key u
@@ -105,56 +104,58 @@ module _ (t : Track) (b : Airborne) (me : ℕ) (site : Site) (time : ℕ) where
       rw (after.height, pressure)
 
 -- the step of a body that fits leaves the altitude that it tells
-stepped_tells : (t : Track) (b : Body) (me : ℕ) (site : Site) (time : ℕ) {gnss : Bool} {a : Altitude} → body_fits b ≡ true → Tells b gnss a → altitude_in gnss (step_body t b me site time) ≡ a
+stepped_tells : (t : Track) (b : Body) (me : ℕ) (site : Site) (time : ℕ) {gnss : Bool} {a : Option Altitude} → body_fits b ≡ true → Tells b gnss a → altitude_in gnss (step_body t b me site time) ≡ Ok a
 stepped_tells t b me site time f (in_the_air {b = x} told) =
     by_type t x me site time (and_right (fits (body_widths (body.Airborne x)) (body_fields (body.Airborne x))) (is_airborne x.typecode) f) told
-stepped_tells t b me site time f (coarsely {b = x}) = ap altitude_of (coarse_replaces t me site time x).pressure
+    ∙ altitude_fits x.altitude (fitting (body.Airborne x) f).1.1.1.0
+stepped_tells t b me site time f (coarsely {b = x}) =
+    ap altitude_of (coarse_replaces t me site time x).pressure ∙ altitude_fits x.altitude (fitting (body.Coarse x) f).1.1.1.0
 
 module _ {S : Type 0} (F : Form S) (L : Lawful F) (s : S) (message : List ℕ) (time : ℕ) where
-  abbrev call : After S Decoded
+  abbrev call : After S (Result Message Refusal)
   call = received F s message time
 
   -- a message that is accepted is the decoder's, and in time
-  delivered_is : (d : Decoded) → decoded message ≡ d → (m : Message) → (delivered F (F.moved s time) d time).answer ≡ decode.Message m → decoded message ≡ decode.Message m
+  delivered_is : (d : Result Message Refusal) → decoded message ≡ d → (m : Message) → (delivered F (F.moved s time) d time).answer ≡ Ok m → decoded message ≡ Ok m
   unfolding delivered
-  delivered_is (decode.Refused r) e m a = absurd (not_refused (sym a))
-  delivered_is (decode.Message n) e m a =
+  delivered_is (Err r) e m a = absurd (not_refused (sym a))
+  delivered_is (Ok n) e m a =
       ⊎_elim
       (λ y. e ∙ sym y ∙ a)
-      (λ y. absurd (not_refused (sym a ∙ ap (λ (x : After S Decoded). x.answer) y.1.1)))
+      (λ y. absurd (not_refused (sym a ∙ ap (λ (x : After S (Result Message Refusal)). x.answer) y.1.1)))
       (sorted F time (F.moved s time) n (decoded_fits message n e))
 
-  accepted_by : (m : Message) {x : After S Decoded} → Way F s message time x → x.answer ≡ decode.Message m → (F.whole s ≡ true) × (F.clock s ≤ time) × (decoded message ≡ decode.Message m)
+  accepted_by : (m : Message) {x : After S (Result Message Refusal)} → Way F s message time x → x.answer ≡ Ok m → (F.whole s ≡ true) × (F.clock s ≤ time) × (decoded message ≡ Ok m)
   accepted_by m (short l) a = absurd (not_refused (sym a))
   accepted_by m (uneven l w) a = absurd (not_refused (sym a))
   accepted_by m (late l w h) a = absurd (not_refused (sym a))
   accepted_by m (timely l w h) a = (w, h, delivered_is (decoded message) refl m a)
 
-  module _ (fit : AllFit F s) (small : time < 2 ^ 64) (m : Message) {gnss : Bool} {told : Altitude} (tells : Tells m.body gnss told) where
-    by_found : (v w : Option Track) (site : Site) → body_fits m.body ≡ true → decode.Message m ≡ answered_from m v → w ≡ stepped_from m site time v → Kept gnss told w
-    by_found none w site f a e = absurd (not_refused a)
-    by_found (some x) w site f a e = (step_body x m.body (body_me m.body) site time, e, stepped_tells x m.body (body_me m.body) site time f tells)
+  module _ (fit : AllFit F s) (small : time < 2 ^ 64) (m : Message) {gnss : Bool} {told : Option Altitude} (tells : Tells m.body gnss told) where
+    by_found : (v w : Option Track) (site : Site) → body_fits m.body ≡ true → Ok m ≡ answered_from m v → w ≡ stepped_from m site time v → Kept gnss told w
+    by_found None w site f a e = absurd (not_refused a)
+    by_found (Some x) w site f a e = (step_body x m.body (body_me m.body) site time, e, stepped_tells x m.body (body_me m.body) site time f tells)
 
     -- after an accepted message the track's reading is the message's, step included, though a key be held twice
-    pub step_kept : call.answer ≡ decode.Message m → Kept gnss told (view F call.table (key_of m))
+    pub step_kept : call.answer ≡ Ok m → Kept gnss told (view F call.table (key_of m))
     step_kept a =
         let by = accepted_by m (way F s message time) a in
         let l = decoded_14 message m by.2 in
         let moved = F.moved s time in
-        let is : call ≡ delivered F moved (decode.Message m) time = received_in_time F s message time l by.0 by.1 ∙ ap (λ (d : Decoded). delivered F moved d time) by.2 in
+        let is : call ≡ delivered F moved (Ok m) time = received_in_time F s message time l by.0 by.1 ∙ ap (λ (d : Result Message Refusal). delivered F moved d time) by.2 in
         let clock : F.clock call.table ≡ time = clock_after F L s message time by.0 small l ∙ ap (λ (b : Bool). cond b (F.clock s) time) (le-ltb time (F.clock s) by.1) in
-        let answer = sym a ∙ ap (λ (r : After S Decoded). r.answer) is in
+        let answer = sym a ∙ ap (λ (r : After S (Result Message Refusal)). r.answer) is in
         let done = effect F L s message time fit small by.0 m by.2 in
-        let un : (delivered F moved (decode.Message m) time).answer ≡ decode.Refused Full → ⊥ = λ full. not_refused (answer ∙ full) in
+        let un : (delivered F moved (Ok m) time).answer ≡ Err Full → ⊥ = λ full. not_refused (answer ∙ full) in
         by_found (found m (view_at F time moved (key_of m))) _ (F.site moved) (decoded_fits message m by.2) (answer ∙ done.told un)
-        (ap₂ (λ (c : ℕ) (r : After S Decoded). view_at F c r.table (key_of m)) clock is ∙ done.own un)
+        (ap₂ (λ (c : ℕ) (r : After S (Result Message Refusal)). view_at F c r.table (key_of m)) clock is ∙ done.own un)
 
 -- and so of whatever meets the contract of `table::receive`
 pub step_kept_promised : (κs : Lfts 2) (args : Dens κs receive-kinds.ps) (x : (res_t receive-kinds.r κs).Denot)
     (left : AtExit (ended_of 2 receive-kinds.ps receive-kinds.r) κs) → receive.Post κs args x left
-    → Bytes args.0.now → args.1.1.0 < 2 ^ 64 → (m : Message) {gnss : Bool} {told : Altitude} → Tells m.body gnss told
-    → x ≡ decode.Message m → Kept gnss told (view bytes left.0.now (key_of m))
+    → Bytes args.0.now → args.1.1.0 < 2 ^ 64 → (m : Message) {gnss : Bool} {told : Option Altitude} → Tells m.body gnss told
+    → x ≡ Ok m → Kept gnss told (view bytes left.0.now (key_of m))
 step_kept_promised κs args x left p b small m {gnss} {told} tells e =
-    let answer = ap (λ (r : After (List ℕ) Decoded). r.answer) p in
-    subst (λ (r : After (List ℕ) Decoded). Kept gnss told (view bytes r.table (key_of m))) (sym p)
+    let answer = ap (λ (r : After (List ℕ) (Result Message Refusal)). r.answer) p in
+    subst (λ (r : After (List ℕ) (Result Message Refusal)). Kept gnss told (view bytes r.table (key_of m))) (sym p)
     (step_kept bytes bytes_lawful args.0.now args.1.0.now args.1.1.0 (all_fit args.0.now b) small m tells (sym answer ∙ e))

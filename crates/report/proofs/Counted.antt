@@ -1,5 +1,6 @@
 -- The rows of a table, counted by its places: a key that has a row has one place that is the first of its key, and a place is the first of one key. So the sum over the keys is a sum over keys and places, and in the other order one over the places.
 -- Assumes nothing.
+use Rattle.std.specs.Prelude.{Some, None}
 use Prim.Native.Nat.{ℕ, zero, suc, ◌+◌, ◌≤◌, ◌<◌}
 use native.Mathlib.Omega.{arith}
 use native.Mathlib.Nat.{eq-or-lt_of_le, add-zero}
@@ -7,7 +8,6 @@ use native.Mathlib.Numerals.{add-one}
 use mathlib.Core.Bool.{Bool, true, false, cond, ◌&&◌}
 use mathlib.Core.List.{List}
 use mathlib.Core.Logic.{⊎_elim}
-use mathlib.Core.Option.{some, none}
 use mathlib.Core.Path.{◌≡◌, refl, sym, ap, ap₂, ◌∙◌}
 use lib.Dec.{eqb, ltb}
 use lib.ListN.{length, length-append}
@@ -93,7 +93,7 @@ module _ (all : Bool) (s : List ℕ) where
   unfolding row_for view_at
   key_row k = by_tests (ltb (first s k) (places_in s)) (listed all s (first s k)) refl
     where
-      by_tests : (a b : Bool) → listed all s (first s k) ≡ b → length (as_list (row_for all k (track_in (cond a (some (bytes.cell s (first s k))) none)))) ≡ one (a && listed all s (first s k))
+      by_tests : (a b : Bool) → listed all s (first s k) ≡ b → length (as_list (row_for all k (track_in (cond a (Some (bytes.cell s (first s k))) None)))) ≡ one (a && listed all s (first s k))
       by_tests true true e = rw e
       by_tests true false e = rw e
       by_tests false b e = refl

@@ -1,10 +1,10 @@
 -- What the view shows of a key: a track just where some place holds the key, and then it is a key. By the search for the lowest place.
 -- Assumes nothing.
+use Rattle.std.specs.Prelude.{Some, None}
 use Prim.Native.Nat.{ℕ}
 use mathlib.Core.Bool.{Bool, true, false, cond, true≢false}
 use mathlib.Core.List.{List}
 use mathlib.Core.Logic.{◌⊎◌, inl, inr, ⊎_elim}
-use mathlib.Core.Option.{some, none}
 use mathlib.Core.Path.{◌≡◌, refl, sym, ◌∙◌}
 use lib.Dec.{eqb, ltb}
 use borrow.Author.Tests.{ltb-true, eqb-true}
@@ -25,7 +25,7 @@ use Rattle.table.specs.View.{view, HeldKey}
 
 module _ (s : List ℕ) (key : ℕ) where
   -- some place holds it and a track is seen, or neither
-  seen : (HeldKey s key × ((t : Track) × (view s key ≡ some t))) ⊎ ((HeldKey s key → ⊥) × (view s key ≡ none))
+  seen : (HeldKey s key × ((t : Track) × (view s key ≡ Some t))) ⊎ ((HeldKey s key → ⊥) × (view s key ≡ None))
   unfolding view_at
   seen = by_test (ltb (lowest test (places_in s)) (places_in s)) refl
     where
@@ -33,18 +33,18 @@ module _ (s : List ℕ) (key : ℕ) where
       test i = holds (clock_of s) key (bytes.cell s i)
 
       by_test : (b : Bool) → ltb (lowest test (places_in s)) (places_in s) ≡ b
-          → (HeldKey s key × ((t : Track) × (track_in (cond b (some (bytes.cell s (lowest test (places_in s)))) none) ≡ some t))) ⊎ ((HeldKey s key → ⊥) × (track_in (cond b (some (bytes.cell s (lowest test (places_in s)))) none) ≡ none))
+          → (HeldKey s key × ((t : Track) × (track_in (cond b (Some (bytes.cell s (lowest test (places_in s)))) None) ≡ Some t))) ⊎ ((HeldKey s key → ⊥) × (track_in (cond b (Some (bytes.cell s (lowest test (places_in s)))) None) ≡ None))
       by_test true e =
           let l = ltb-true (lowest test (places_in s)) (places_in s) e in
           inl ((lowest test (places_in s), (l, lowest_passes test (places_in s) l)), (_, refl))
       by_test false e =
           inr (λ w. absurd (true≢false (sym w.1.1 ∙ none_passes test (places_in s) e w.0 w.1.0)), refl)
 
-  pub held_seen : HeldKey s key → (t : Track) × (view s key ≡ some t)
-  held_seen w = ⊎_elim (λ (h : HeldKey s key × ((t : Track) × (view s key ≡ some t))). h.1) (λ (h : (HeldKey s key → ⊥) × (view s key ≡ none)). absurd (h.0 w)) seen
+  pub held_seen : HeldKey s key → (t : Track) × (view s key ≡ Some t)
+  held_seen w = ⊎_elim (λ (h : HeldKey s key × ((t : Track) × (view s key ≡ Some t))). h.1) (λ (h : (HeldKey s key → ⊥) × (view s key ≡ None)). absurd (h.0 w)) seen
 
-  pub unheld_unseen : (HeldKey s key → ⊥) → view s key ≡ none
-  unheld_unseen w = ⊎_elim (λ (h : HeldKey s key × ((t : Track) × (view s key ≡ some t))). absurd (w h.0)) (λ (h : (HeldKey s key → ⊥) × (view s key ≡ none)). h.1) seen
+  pub unheld_unseen : (HeldKey s key → ⊥) → view s key ≡ None
+  unheld_unseen w = ⊎_elim (λ (h : HeldKey s key × ((t : Track) × (view s key ≡ Some t))). absurd (w h.0)) (λ (h : (HeldKey s key → ⊥) × (view s key ≡ None)). h.1) seen
 
   ranged : (k : ℕ) (body : List ℕ) → holds (clock_of s) key (cell_of k body) ≡ true → is_key key ≡ true
   unfolding holds is_held in_range

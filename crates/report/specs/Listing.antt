@@ -1,14 +1,12 @@
 -- RULES 12.1 to 12.6: the listing of a table: the header, then the lines of a list of rows, those of the keys held, in the order of the kinds, then by address, each once; of all, or of those with a known position.
-use Rattle.std.specs.Prelude.{ℕ, zero, suc, Bool, cond, not, ◌||◌, List, [], ◌∷◌, ◌++◌, eqb, ltb, pos, length}
-use Rattle.std.proofs.Math.Option.{Option, some, none}
+use Rattle.std.specs.Prelude.{ℕ, zero, suc, Bool, cond, not, ◌||◌, List, [], ◌∷◌, ◌++◌, eqb, ltb, pos, length, Option, Some, None, Result, Ok, Err, ℤ}
 use Rattle.refusals.specs.declared.Refusal.TheVariants.{Places}
+use Rattle.refusals.specs.declared.Refusal.{Refusal}
 use Rattle.readings.specs.declared.altitude.Altitude.{Altitude}
-use Rattle.readings.specs.declared.altitude.Altitude.TheVariants as altitude
 use Rattle.readings.specs.Altitude.{altitude_of}
 use Rattle.whereabouts.specs.declared.Position.{Position}
 use Rattle.track.specs.declared.Track.{Track}
-use Rattle.text.specs.declared.Figure.{Figure}
-use Rattle.text.specs.declared.Figure.TheVariants.{Unknown, Known}
+use Rattle.text.specs.declared.Line.{Line}
 use Rattle.text.specs.declared.Row.{Row}
 use Rattle.text.specs.Lines.{header_text, row_text, line_of}
 use Rattle.memory.specs.Offsets.{whole_places, places_in}
@@ -16,30 +14,27 @@ use Rattle.rules.specs.Form.{is_held}
 use Rattle.table_bytes.specs.Layout.{clock_of, key_at}
 use Rattle.table.specs.Bytes.{bytes}
 use Rattle.table.specs.View.{view}
-use Rattle.report.specs.declared.Printed.{Printed}
-use Rattle.report.specs.declared.Printed.TheVariants.{Text, Nothing, Refused}
-use Rattle.report.specs.declared.Report.{Report}
 
 -- ---- what a line says of a track
 
 -- RULES 7.6: latitude signed, longitude from 0
-unfoldable pub latitude_in : Position → Figure
-latitude_in p = cond p.known (Known p.spot.latitude) Unknown
+unfoldable pub latitude_in : Position → Option ℤ
+latitude_in p = cond p.known (Some p.spot.latitude) None
 
-unfoldable pub longitude_in : Position → Figure
-longitude_in p = cond p.known (Known (pos p.spot.longitude)) Unknown
+unfoldable pub longitude_in : Position → Option ℤ
+longitude_in p = cond p.known (Some (pos p.spot.longitude)) None
 
 -- RULES 12.5: in feet; a code wider than 12 bits, which no body of a table has, is unknown
-unfoldable pub feet : Altitude → Figure
-feet (altitude.Feet z step) = Known z
-feet altitude.Unknown = Unknown
-feet (altitude.Refused r) = Unknown
+unfoldable pub feet : Result (Option Altitude) Refusal → Option ℤ
+feet (Ok (Some a)) = Some a.feet
+feet (Ok None) = None
+feet (Err r) = None
 
 -- RULES 6.6 and 12.5: how coarse it is, in feet; unknown has no step
-unfoldable pub step_in : Altitude → Figure
-step_in (altitude.Feet z step) = Known (pos step)
-step_in altitude.Unknown = Unknown
-step_in (altitude.Refused r) = Unknown
+unfoldable pub step_in : Result (Option Altitude) Refusal → Option ℤ
+step_in (Ok (Some a)) = Some (pos a.step)
+step_in (Ok None) = None
+step_in (Err r) = None
 
 -- last heard, latitude, longitude, pressure altitude and its step
 abbrev pub row_from : ℕ → ℕ → Position → ℕ → Row
@@ -79,12 +74,12 @@ shown all p = all || p.known
 
 -- RULES 12.2: a key's row, if it is held and shown
 unfoldable pub row_for : Bool → ℕ → Option Track → Option Row
-row_for all key none = none
-row_for all key (some t) = cond (shown all t.position) (some (row_of key t)) none
+row_for all key None = None
+row_for all key (Some t) = cond (shown all t.position) (Some (row_of key t)) None
 
 abbrev pub as_list : Option Row → List Row
-as_list none = []
-as_list (some r) = r ∷ []
+as_list None = []
+as_list (Some r) = r ∷ []
 
 -- the rows of some keys, one key after the other
 unfoldable pub rows_of : Bool → List ℕ → List ℕ → List Row
@@ -102,8 +97,8 @@ texts (r ∷ rs) = row_text r ++ texts rs
 
 -- a key's line, empty if it has no row
 abbrev pub line_text : Option Row → List ℕ
-line_text none = []
-line_text (some r) = row_text r
+line_text None = []
+line_text (Some r) = row_text r
 
 abbrev pub line_for : Bool → ℕ → Option Track → List ℕ
 line_for all key v = line_text (row_for all key v)
@@ -117,21 +112,15 @@ listing all s bad = header_for all s bad ++ texts (rows_in all s)
 
 -- ---- what is answered, line by line
 
-abbrev pub without : Printed → Report
-without answer = record { answer = answer; line = line_of [] }
-
-abbrev pub with : List ℕ → Report
-with text = record { answer = Text; line = line_of text }
-
 -- 7, or the header
-unfoldable pub header_in : Bool → List ℕ → ℕ → Report
-header_in all s bad = cond (not (whole_places (length s))) (without (Refused Places)) (with (header_for all s bad))
+unfoldable pub header_in : Bool → List ℕ → ℕ → Result Line Refusal
+header_in all s bad = cond (not (whole_places (length s))) (Err Places) (Ok (line_of (header_for all s bad)))
 
--- the line of a row; nothing where there is none
-abbrev pub reported : Option Row → Report
-reported none = without Nothing
-reported (some r) = with (row_text r)
+-- the line of a row; none where there is no row
+abbrev pub reported : Option Row → Option Line
+reported None = None
+reported (Some r) = Some (line_of (row_text r))
 
--- 7, or the line of a key; nothing for one that is not held or not shown
-unfoldable pub line_in : Bool → List ℕ → ℕ → Report
-line_in all s key = cond (not (whole_places (length s))) (without (Refused Places)) (reported (row_for all key (view s key)))
+-- 7, or the line of a key; none for one that is not held or not shown
+unfoldable pub line_in : Bool → List ℕ → ℕ → Result (Option Line) Refusal
+line_in all s key = cond (not (whole_places (length s))) (Err Places) (Ok (reported (row_for all key (view s key))))

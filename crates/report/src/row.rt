@@ -4,47 +4,50 @@ ghost use Rattle.report.specs.Listing.{latitude_in, longitude_in, row_from, row_
 ghost use Rattle.report.specs.Listing.{feet as feet_of, step_in};
 
 use readings::Altitude;
-use text::{Figure, Row};
+use refusals::Refusal;
+use text::Row;
 use track::Track;
 use whereabouts::Position;
 
-fn latitude_in(p: Position) -> Figure
+#[tactic(auto, unfolding(crate::specs::Listing::latitude_in))]
+fn latitude_in(p: Position) -> Option<i64>
     ensures { result ≡ latitude_in p }
 {
     if p.known {
-        Figure::Known(p.spot.latitude as i64)
+        Some(i64::from(p.spot.latitude))
     } else {
-        Figure::Unknown
+        None
     }
 }
 
-fn longitude_in(p: Position) -> Figure
+#[tactic(auto, unfolding(crate::specs::Listing::longitude_in))]
+fn longitude_in(p: Position) -> Option<i64>
     ensures { result ≡ longitude_in p }
 {
     if p.known {
-        Figure::Known(p.spot.longitude as i64)
+        Some(i64::from(p.spot.longitude))
     } else {
-        Figure::Unknown
+        None
     }
 }
 
-fn feet(a: Altitude) -> Figure
+#[tactic(auto, unfolding(crate::specs::Listing::feet))]
+fn feet(a: Result<Option<Altitude>, Refusal>) -> Option<i64>
     ensures { result ≡ feet_of a }
 {
     match a {
-        Altitude::Feet { feet, step: _ } => Figure::Known(feet as i64),
-        Altitude::Unknown => Figure::Unknown,
-        Altitude::Refused(_) => Figure::Unknown,
+        Ok(Some(a)) => Some(i64::from(a.feet)),
+        Ok(None) | Err(_) => None,
     }
 }
 
-fn step_in(a: Altitude) -> Figure
+#[tactic(auto, unfolding(crate::specs::Listing::step_in))]
+fn step_in(a: Result<Option<Altitude>, Refusal>) -> Option<i64>
     ensures { result ≡ step_in a }
 {
     match a {
-        Altitude::Feet { feet: _, step } => Figure::Known(step as i64),
-        Altitude::Unknown => Figure::Unknown,
-        Altitude::Refused(_) => Figure::Unknown,
+        Ok(Some(a)) => Some(i64::from(a.step)),
+        Ok(None) | Err(_) => None,
     }
 }
 
@@ -54,8 +57,8 @@ pub fn row_from(key: u32, heard: u64, p: Position, pressure: u16) -> Row
 {
     let altitude = readings::altitude_of(pressure);
     Row {
-        key: key,
-        heard: heard,
+        key,
+        heard,
         latitude: latitude_in(p),
         longitude: longitude_in(p),
         altitude: feet(altitude),
@@ -63,10 +66,10 @@ pub fn row_from(key: u32, heard: u64, p: Position, pressure: u16) -> Row
     }
 }
 
+#[tactic(auto, unfolding(crate::specs::Listing::row_of))]
 pub(crate) fn row_of(key: u32, t: Track) -> Row
     ensures { result ≡ row_of key t }
 {
-    let p = t.position;
     let g = t.groups;
-    row_from(key, t.heard, p, g.pressure)
+    row_from(key, t.heard, t.position, g.pressure)
 }

@@ -1,5 +1,6 @@
 -- Both ways between a message and its row: fields that fit are packed to the ME that they were cut from, which has their layout.
 -- Assumes nothing.
+use Rattle.std.specs.Prelude.{Ok}
 use Prim.Native.Nat.{ℕ}
 use mathlib.Core.Path.{◌≡◌, refl, sym, ap, ◌∙◌}
 use mathlib.Core.Bool.{Bool, true}
@@ -11,12 +12,9 @@ use Rattle.layouts.specs.declared.bodies.Body.{Body}
 use Rattle.layouts.specs.declared.bodies.Body.TheVariants as body
 use Rattle.layouts.specs.declared.bodies.Layout.{Layout}
 use Rattle.layouts.specs.declared.bodies.Layout.TheVariants as layout
-use Rattle.layouts.specs.declared.bodies.Taken.TheVariants as read
-use Rattle.layouts.specs.declared.bodies.Written.TheVariants as write
 use Rattle.layouts.specs.Bodies.{taken_by, body_layout, body_fields, body_widths, type_agrees, body_me, body_fits}
 use Rattle.layouts.proofs.BothWays.{read_back, fields_read}
 use Rattle.messages.specs.declared.Message.{Message}
-use Rattle.messages.specs.declared.Decoded.TheVariants as decode
 use Rattle.messages.specs.Message.{coarse_by, key_of, message_fits, message_bytes}
 use Rattle.messages.proofs.BothWays.{encoded_decoded}
 use Rattle.messages.proofs.Keys.{coarse_by_its_own}
@@ -43,7 +41,7 @@ fields_fit b e = and_left (fits (body_widths b) (body_fields b)) (type_agrees b)
 
 -- the fields in a row are packed to the ME of the body
 packs : (b : Body) (format control address key : ℕ) (four : Four) → body_fits b ≡ true
-    → packed_as (body_layout b) (row_of (body_layout b) (format ∷ control ∷ address ∷ key ∷ []) (body_fields b) four) ≡ write.Me (body_me b)
+    → packed_as (body_layout b) (row_of (body_layout b) (format ∷ control ∷ address ∷ key ∷ []) (body_fields b) four) ≡ Ok (body_me b)
 unfolding packed_as packed_by row_of
 packs (body.Identification b) format control address key four e = chosen _ _ _ (fields_fit (body.Identification b) e)
 packs (body.Surface b) format control address key four e = chosen _ _ _ (fields_fit (body.Surface b) e)
@@ -61,13 +59,13 @@ module _ (m : Message) (e : message_fits m ≡ true) where
   coarse = coarse_by m.format m.control
 
   -- it is read as the body that it was packed of, which is coarse just where DF and CF say so
-  says : taken_by coarse n ≡ read.Body m.body
+  says : taken_by coarse n ≡ Ok m.body
   says =
       ap (λ (t : Bool). taken_by t n) (sym (coarse_by_its_own (message_bytes m) m (encoded_decoded m e)).1)
       ∙ read_back m.body (fits_body m e)
 
   -- so a row is the message that it was made of
-  pub from_row : message_from (message_row m) ≡ decode.Message m
+  pub from_row : message_from (message_row m) ≡ Ok m
   unfolding message_from message_by head_with layout_with row_of
   from_row =
       ap (λ (l : Layout). message_by (message_row m) (packed_as l (message_row m))) (numbered (body_layout m.body))

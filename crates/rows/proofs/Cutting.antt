@@ -1,5 +1,6 @@
 -- Cutting and packing a field at a time, over any list of widths: each turn of a loop does one field, and what is left is the same of the widths behind it.
 -- Assumes nothing.
+use Rattle.std.specs.Prelude.{Result, Ok, Err}
 use Prim.Native.Nat.{ℕ, zero, suc, ◌+◌, ◌-◌, ◌*◌, ◌/◌, ◌%◌, ◌^◌, ◌<◌, ◌≤◌}
 use mathlib.Core.Path.{◌≡◌, refl, sym, ap, ap₂, subst, ◌∙◌}
 use mathlib.Core.Bool.{Bool, true, false, cond}
@@ -16,10 +17,9 @@ use lib.Seq.{drop-cons, drop-length, take-length}
 use Rattle.refusals.specs.declared.Refusal.TheVariants.{Field}
 use Rattle.fields.specs.Packing.{wider, total, pack, unpack, fits_and, fits}
 use Rattle.entries.specs.Arrays.{filled}
-use Rattle.layouts.specs.declared.bodies.Written.{Written}
-use Rattle.layouts.specs.declared.bodies.Written.TheVariants as write
 use Rattle.rows.specs.Same.{entries}
 use Rattle.rows.specs.From.{packed_by}
+use Rattle.refusals.specs.declared.Refusal.{Refusal}
 
 -- 1 moved up by fewer than 64 bits does not wrap
 pub one_up : (k : ℕ) → k < 64 → 1 * 2 ^ k % 2 ^ 64 ≡ 2 ^ k
@@ -100,15 +100,15 @@ never (w ∷ ws) (d ∷ ds) = never ws ds
 
 module _ (l : List ℕ) where
   -- what is left to pack behind the bits a, from an entry on
-  abbrev pub left : ℕ → ℕ → List ℕ → Written
-  left a from ws = cond (fits ws (entries from (length ws) l)) (write.Me (a * 2 ^ total ws + pack ws (entries from (length ws) l))) (write.Refused Field)
+  abbrev pub left : ℕ → ℕ → List ℕ → Result ℕ Refusal
+  left a from ws = cond (fits ws (entries from (length ws) l)) (Ok (a * 2 ^ total ws + pack ws (entries from (length ws) l))) (Err Field)
 
   pub left_first : (ws : List ℕ) → packed_by ws l ≡ left 0 5 ws
   unfolding packed_by
-  left_first ws = ap (λ (n : ℕ). cond (fits ws (entries 5 (length ws) l)) (write.Me n) (write.Refused Field)) (omega arith)
+  left_first ws = ap (λ (n : ℕ). cond (fits ws (entries 5 (length ws) l)) (Ok n) (Err Field)) (omega arith)
 
-  pub left_last : (a from : ℕ) → left a from [] ≡ write.Me a
-  left_last a from = ap write.Me (omega arith)
+  pub left_last : (a from : ℕ) → left a from [] ≡ Ok a
+  left_last a from = ap Ok (omega arith)
 
   shifted : (a d w t p : ℕ) → a * 2 ^ (w + t) + (d * 2 ^ t + p) ≡ (a * 2 ^ w + d) * 2 ^ t + p
   shifted a d w t p =
@@ -120,14 +120,14 @@ module _ (l : List ℕ) where
   pub left_next : (a from w : ℕ) (ws : List ℕ) → ltb (get_or l from 0) (2 ^ w) ≡ true → left a from (w ∷ ws) ≡ left (a * 2 ^ w + get_or l from 0) (suc from) ws
   left_next a from w ws e =
       let ds : List ℕ = entries (suc from) (length ws) l in
-      ap (λ (b : Bool). cond (fits_and b ws ds) (write.Me (a * 2 ^ total (w ∷ ws) + pack (w ∷ ws) (get_or l from 0 ∷ ds))) (write.Refused Field)) e
-      ∙ ap (λ (n : ℕ). cond (fits ws ds) (write.Me n) (write.Refused Field)) (shifted a (get_or l from 0) w (total ws) (pack ws ds))
+      ap (λ (b : Bool). cond (fits_and b ws ds) (Ok (a * 2 ^ total (w ∷ ws) + pack (w ∷ ws) (get_or l from 0 ∷ ds))) (Err Field)) e
+      ∙ ap (λ (n : ℕ). cond (fits ws ds) (Ok n) (Err Field)) (shifted a (get_or l from 0) w (total ws) (pack ws ds))
 
-  pub left_wide : (a from w : ℕ) (ws : List ℕ) → ltb (get_or l from 0) (2 ^ w) ≡ false → left a from (w ∷ ws) ≡ write.Refused Field
+  pub left_wide : (a from w : ℕ) (ws : List ℕ) → ltb (get_or l from 0) (2 ^ w) ≡ false → left a from (w ∷ ws) ≡ Err Field
   left_wide a from w ws e =
       let ds : List ℕ = entries (suc from) (length ws) l in
-      ap (λ (b : Bool). cond (fits_and b ws ds) (write.Me (a * 2 ^ total (w ∷ ws) + pack (w ∷ ws) (get_or l from 0 ∷ ds))) (write.Refused Field)) e
-      ∙ ap (λ (b : Bool). cond b (write.Me (a * 2 ^ total (w ∷ ws) + pack (w ∷ ws) (get_or l from 0 ∷ ds))) (write.Refused Field)) (never ws ds)
+      ap (λ (b : Bool). cond (fits_and b ws ds) (Ok (a * 2 ^ total (w ∷ ws) + pack (w ∷ ws) (get_or l from 0 ∷ ds))) (Err Field)) e
+      ∙ ap (λ (b : Bool). cond b (Ok (a * 2 ^ total (w ∷ ws) + pack (w ∷ ws) (get_or l from 0 ∷ ds))) (Err Field)) (never ws ds)
 
 -- a field that fits behind bits that fit
 pub behind_lt : (a u w d : ℕ) → a < 2 ^ u → d < 2 ^ w → a * 2 ^ w + d < 2 ^ (u + w)
@@ -147,7 +147,7 @@ module _ (ws l : List ℕ) (i a w d : ℕ) (h : i < length ws) (p : w ≡ get_or
   pub total_next : total (drop (i + 1) ws) ≤ 56
   total_next = omega (arith, next_total)
 
-  pub refuses : wider w d ≡ true → packed_by ws l ≡ left l a (5 + i) (drop i ws) → write.Refused Field ≡ packed_by ws l
+  pub refuses : wider w d ≡ true → packed_by ws l ≡ left l a (5 + i) (drop i ws) → Err Field ≡ packed_by ws l
   refuses f e =
       let wide : 2 ^ w ≤ get_or l (5 + i) 0 = subst (λ (x : ℕ). 2 ^ w ≤ x) q (leb-true (2 ^ w) d f) in
       sym (e ∙ ap (left l a (5 + i)) drops ∙ left_wide l a (5 + i) w (drop (i + 1) ws) (le-ltb (get_or l (5 + i) 0) (2 ^ w) wide))
@@ -168,5 +168,5 @@ module _ (ws l : List ℕ) (i a w d : ℕ) (h : i < length ws) (p : w ≡ get_or
         e ∙ ap (left l a (5 + i)) drops ∙ left_next l a (5 + i) w (drop (i + 1) ws) (lt-ltb (get_or l (5 + i) 0) (2 ^ w) fit)
         ∙ ap₂ (λ (x m : ℕ). left l (a * 2 ^ w + x) m (drop (i + 1) ws)) (sym q) n
 
-pub left_none : (ws l : List ℕ) (i a : ℕ) → i ≡ length ws → packed_by ws l ≡ left l a (5 + i) (drop i ws) → write.Me a ≡ packed_by ws l
+pub left_none : (ws l : List ℕ) (i a : ℕ) → i ≡ length ws → packed_by ws l ≡ left l a (5 + i) (drop i ws) → Ok a ≡ packed_by ws l
 left_none ws l i a h e = sym (e ∙ ap (left l a (5 + i)) (ap (λ (m : ℕ). drop m ws) h ∙ drop-length ws) ∙ left_last l a (5 + i))

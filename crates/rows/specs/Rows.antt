@@ -1,10 +1,9 @@
 -- RULES 20.3 and 20.4: a message as 28 numbers: the layout, DF, CA or CF, AA and the key; then its ME fields in the order of their bits, 15 with zeros behind them; then up to four readings. An ME by itself has zeros for what is not its own.
-use Rattle.std.specs.Prelude.{ℕ, ◌+◌, ◌<◌, Bool, cond, List, [], ◌∷◌, ◌++◌, eqb, length, get_or}
+use Rattle.std.specs.Prelude.{ℕ, ◌+◌, ◌<◌, Bool, cond, List, [], ◌∷◌, ◌++◌, eqb, length, get_or, Result, Ok, Err}
 use Rattle.entries.specs.Arrays.{filled}
 use Rattle.fields.specs.Packing.{unpack}
 use Rattle.layouts.specs.declared.bodies.Layout.{Layout}
 use Rattle.layouts.specs.declared.bodies.Layout.TheVariants as layout
-use Rattle.layouts.specs.declared.bodies.Taken.{Taken}
 use Rattle.layouts.specs.Bodies.{layout_widths, taken_as, body_layout, body_fields}
 use Rattle.readings.specs.declared.bodies.IdentificationReadings.{IdentificationReadings}
 use Rattle.readings.specs.declared.bodies.SurfaceReadings.{SurfaceReadings}
@@ -20,6 +19,8 @@ use Rattle.messages.specs.declared.Message.{Message}
 use Rattle.messages.specs.Message.{head_fields, key_of, traffic}
 use Rattle.rows.specs.declared.message.Four.{Four}
 use Rattle.entries.specs.Means.{reading, bit, altitude_reading, step_reading, speed_reading, rate_reading, difference_reading, heading_reading, movement_reading, coarse_speed_reading, set_reading, text_reading, version_reading, supplement_reading}
+use Rattle.layouts.specs.declared.bodies.Body.{Body}
+use Rattle.refusals.specs.declared.Refusal.{Refusal}
 
 -- ---- the readings of each layout
 
@@ -27,8 +28,8 @@ use Rattle.entries.specs.Means.{reading, bit, altitude_reading, step_reading, sp
 abbrev pub identification_four : IdentificationReadings → Four
 identification_four m =
     record {
-      first = set_reading m.set;
-      second = text_reading m.text;
+      first = set_reading (Ok m.set);
+      second = text_reading (Ok m.text);
       third = reading 0 0;
       fourth = reading 0 0;
     }
@@ -37,8 +38,8 @@ identification_four m =
 abbrev pub surface_four : SurfaceReadings → Four
 surface_four m =
     record {
-      first = movement_reading m.movement;
-      second = heading_reading m.heading;
+      first = movement_reading (Ok m.movement);
+      second = heading_reading (Ok m.heading);
       third = reading 0 0;
       fourth = reading 0 0;
     }
@@ -47,9 +48,9 @@ surface_four m =
 abbrev pub airborne_four : AirborneReadings → Four
 airborne_four m =
     record {
-      first = altitude_reading m.altitude;
+      first = altitude_reading (Ok m.altitude);
       second = reading 1 (bit m.gnss);
-      third = step_reading m.altitude;
+      third = step_reading (Ok m.altitude);
       fourth = reading 0 0;
     }
 
@@ -57,20 +58,20 @@ airborne_four m =
 abbrev pub ground_four : GroundReadings → Four
 ground_four m =
     record {
-      first = speed_reading m.east;
-      second = speed_reading m.north;
-      third = rate_reading m.rate;
-      fourth = difference_reading m.difference;
+      first = speed_reading (Ok m.east);
+      second = speed_reading (Ok m.north);
+      third = rate_reading (Ok m.rate);
+      fourth = difference_reading (Ok m.difference);
     }
 
 -- heading, airspeed, vertical rate, difference
 abbrev pub air_four : AirReadings → Four
 air_four m =
     record {
-      first = heading_reading m.heading;
-      second = speed_reading m.airspeed;
-      third = rate_reading m.rate;
-      fourth = difference_reading m.difference;
+      first = heading_reading (Ok m.heading);
+      second = speed_reading (Ok m.airspeed);
+      third = rate_reading (Ok m.rate);
+      fourth = difference_reading (Ok m.difference);
     }
 
 -- version, supplement A, supplement C
@@ -87,25 +88,25 @@ status_four m =
 abbrev pub coarse_four : CoarseReadings → Four
 coarse_four m =
     record {
-      first = altitude_reading m.altitude;
-      second = step_reading m.altitude;
-      third = heading_reading m.angle;
-      fourth = coarse_speed_reading m.speed;
+      first = altitude_reading (Ok m.altitude);
+      second = step_reading (Ok m.altitude);
+      third = heading_reading (Ok m.angle);
+      fourth = coarse_speed_reading (Ok m.speed);
     }
 
 -- of a body that is refused
 abbrev pub refused_four : Four
 refused_four = record { first = reading 5 0; second = reading 5 0; third = reading 5 0; fourth = reading 5 0 }
 
-abbrev pub four_of : Readings → Four
-four_of (readings.Identification m) = identification_four m
-four_of (readings.Surface m) = surface_four m
-four_of (readings.Airborne m) = airborne_four m
-four_of (readings.Ground m) = ground_four m
-four_of (readings.Air m) = air_four m
-four_of (readings.Status m) = status_four m
-four_of (readings.Coarse m) = coarse_four m
-four_of (readings.Refused r) = refused_four
+abbrev pub four_of : Result Readings Refusal → Four
+four_of (Ok (readings.Identification m)) = identification_four m
+four_of (Ok (readings.Surface m)) = surface_four m
+four_of (Ok (readings.Airborne m)) = airborne_four m
+four_of (Ok (readings.Ground m)) = ground_four m
+four_of (Ok (readings.Air m)) = air_four m
+four_of (Ok (readings.Status m)) = status_four m
+four_of (Ok (readings.Coarse m)) = coarse_four m
+four_of (Err r) = refused_four
 
 abbrev pub four_values : Four → List ℕ
 four_values f =
@@ -113,7 +114,7 @@ four_values f =
     f.third.what ∷ f.third.value ∷ f.fourth.what ∷ f.fourth.value ∷ []
 
 -- of what the 56 bits say, in a traffic service's message or in another
-abbrev pub four_in : Taken → Bool → Four
+abbrev pub four_in : Result Body Refusal → Bool → Four
 four_in taken traffic = four_of (readings_in taken traffic)
 
 -- ---- the whole row

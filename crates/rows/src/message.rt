@@ -29,11 +29,9 @@ pub struct Four {
 fn identification_four(m: IdentificationReadings) -> Four
     ensures { result ≡ identification_four m }
 {
-    let set = m.set;
-    let text = m.text;
     Four {
-        first: set_reading(set),
-        second: text_reading(text),
+        first: set_reading(Ok(m.set)),
+        second: text_reading(Ok(m.text)),
         third: only(0),
         fourth: only(0),
     }
@@ -42,11 +40,9 @@ fn identification_four(m: IdentificationReadings) -> Four
 fn surface_four(m: SurfaceReadings) -> Four
     ensures { result ≡ surface_four m }
 {
-    let movement = m.movement;
-    let heading = m.heading;
     Four {
-        first: movement_reading(movement),
-        second: heading_reading(heading),
+        first: movement_reading(Ok(m.movement)),
+        second: heading_reading(Ok(m.heading)),
         third: only(0),
         fourth: only(0),
     }
@@ -55,14 +51,13 @@ fn surface_four(m: SurfaceReadings) -> Four
 fn airborne_four(m: AirborneReadings) -> Four
     ensures { result ≡ airborne_four m }
 {
-    let altitude = m.altitude;
     Four {
-        first: altitude_reading(altitude),
+        first: altitude_reading(Ok(m.altitude)),
         second: Reading {
             what: 1,
             value: bit(m.gnss),
         },
-        third: step_reading(altitude),
+        third: step_reading(Ok(m.altitude)),
         fourth: only(0),
     }
 }
@@ -70,43 +65,32 @@ fn airborne_four(m: AirborneReadings) -> Four
 fn ground_four(m: GroundReadings) -> Four
     ensures { result ≡ ground_four m }
 {
-    let east = m.east;
-    let north = m.north;
-    let rate = m.rate;
-    let difference = m.difference;
     Four {
-        first: speed_reading(east),
-        second: speed_reading(north),
-        third: rate_reading(rate),
-        fourth: difference_reading(difference),
+        first: speed_reading(Ok(m.east)),
+        second: speed_reading(Ok(m.north)),
+        third: rate_reading(Ok(m.rate)),
+        fourth: difference_reading(Ok(m.difference)),
     }
 }
 
 fn air_four(m: AirReadings) -> Four
     ensures { result ≡ air_four m }
 {
-    let heading = m.heading;
-    let airspeed = m.airspeed;
-    let rate = m.rate;
-    let difference = m.difference;
     Four {
-        first: heading_reading(heading),
-        second: speed_reading(airspeed),
-        third: rate_reading(rate),
-        fourth: difference_reading(difference),
+        first: heading_reading(Ok(m.heading)),
+        second: speed_reading(Ok(m.airspeed)),
+        third: rate_reading(Ok(m.rate)),
+        fourth: difference_reading(Ok(m.difference)),
     }
 }
 
 fn status_four(m: StatusReadings) -> Four
     ensures { result ≡ status_four m }
 {
-    let version = m.version;
-    let a = m.supplementa;
-    let c = m.supplementc;
     Four {
-        first: version_reading(version),
-        second: supplement_reading(a),
-        third: supplement_reading(c),
+        first: version_reading(m.version),
+        second: supplement_reading(m.supplementa),
+        third: supplement_reading(m.supplementc),
         fourth: only(0),
     }
 }
@@ -114,14 +98,11 @@ fn status_four(m: StatusReadings) -> Four
 fn coarse_four(m: CoarseReadings) -> Four
     ensures { result ≡ coarse_four m }
 {
-    let altitude = m.altitude;
-    let angle = m.angle;
-    let speed = m.speed;
     Four {
-        first: altitude_reading(altitude),
-        second: step_reading(altitude),
-        third: heading_reading(angle),
-        fourth: coarse_speed_reading(speed),
+        first: altitude_reading(Ok(m.altitude)),
+        second: step_reading(Ok(m.altitude)),
+        third: heading_reading(Ok(m.angle)),
+        fourth: coarse_speed_reading(Ok(m.speed)),
     }
 }
 
@@ -140,16 +121,15 @@ fn refused_four() -> Four
 fn four_in(layout: Layout, me: u64, traffic: bool) -> Four
     ensures { result ≡ four_in (taken_as layout me) traffic }
 {
-    let m = readings::readings_in(layout, me, traffic);
-    match m {
-        Readings::Identification(x) => identification_four(x),
-        Readings::Surface(x) => surface_four(x),
-        Readings::Airborne(x) => airborne_four(x),
-        Readings::Ground(x) => ground_four(x),
-        Readings::Air(x) => air_four(x),
-        Readings::Status(x) => status_four(x),
-        Readings::Coarse(x) => coarse_four(x),
-        Readings::Refused(_) => refused_four(),
+    match readings::readings_in(layout, me, traffic) {
+        Ok(Readings::Identification(x)) => identification_four(x),
+        Ok(Readings::Surface(x)) => surface_four(x),
+        Ok(Readings::Airborne(x)) => airborne_four(x),
+        Ok(Readings::Ground(x)) => ground_four(x),
+        Ok(Readings::Air(x)) => air_four(x),
+        Ok(Readings::Status(x)) => status_four(x),
+        Ok(Readings::Coarse(x)) => coarse_four(x),
+        Err(_) => refused_four(),
     }
 }
 

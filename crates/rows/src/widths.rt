@@ -10,7 +10,7 @@ use crate::{
     LAYOUT_AIR, LAYOUT_AIRBORNE, LAYOUT_COARSE, LAYOUT_GROUND, LAYOUT_IDENTIFICATION, LAYOUT_NONE,
     LAYOUT_STATUS, LAYOUT_SURFACE,
 };
-use layouts::{Layout, Written};
+use layouts::Layout;
 use refusals::Refusal;
 
 const IDENTIFICATION: [u8; 3] = [5, 3, 48];
@@ -25,6 +25,7 @@ const STATUS: [u8; 14] = [5, 3, 11, 1, 4, 16, 3, 1, 4, 2, 2, 1, 1, 2];
 
 const COARSE: [u8; 10] = [1, 2, 4, 12, 1, 5, 6, 1, 12, 12];
 
+// No `From` and no `TryFrom`: neither `Layout` nor `u64` is of this crate.
 pub(crate) fn number_of(layout: Layout) -> u64
     ensures { result ≡ layout_number layout }
 {
@@ -41,37 +42,20 @@ pub(crate) fn number_of(layout: Layout) -> u64
 }
 
 // The layout of a number; that of a number that no layout has is none.
+#[tactic(auto, unfolding(crate::specs::From::layout_numbered))]
 pub(crate) fn layout_at(number: u64) -> Layout
     ensures { result ≡ layout_numbered number }
 {
-    if number == LAYOUT_IDENTIFICATION {
-        return Layout::Identification;
+    match number {
+        LAYOUT_IDENTIFICATION => Layout::Identification,
+        LAYOUT_SURFACE => Layout::Surface,
+        LAYOUT_AIRBORNE => Layout::Airborne,
+        LAYOUT_GROUND => Layout::Ground,
+        LAYOUT_AIR => Layout::Air,
+        LAYOUT_STATUS => Layout::Status,
+        LAYOUT_COARSE => Layout::Coarse,
+        _ => Layout::NotTaken,
     }
-    if number == LAYOUT_SURFACE {
-        return Layout::Surface;
-    }
-    if number == LAYOUT_AIRBORNE {
-        return Layout::Airborne;
-    }
-    if number == LAYOUT_GROUND {
-        return Layout::Ground;
-    }
-    if number == LAYOUT_AIR {
-        return Layout::Air;
-    }
-    if number == LAYOUT_STATUS {
-        return Layout::Status;
-    }
-    if number == LAYOUT_COARSE {
-        return Layout::Coarse;
-    }
-    Layout::NotTaken
-}
-
-fn wide(x: u8) -> u64
-    ensures { result ≡ x }
-{
-    x as u64
 }
 
 // So many bits, above as many others.
@@ -91,7 +75,7 @@ fn cut(widths: &[u8], me: u64) -> [u64; 15]
     let mut below: u64 = 56;
     let mut i: usize = 0;
     while i < widths.len() {
-        let width = wide(widths[i]);
+        let width = u64::from(widths[i]);
         below -= width;
         out[i] = field_at(me, below, width);
         i += 1;
@@ -140,36 +124,36 @@ fn behind(me: u64, width: u64, code: u64) -> u64
 }
 
 // The 56 bits that hold the fields from the entry 5 on; one that is wider than its bits is refused.
-fn packed(widths: &[u8], fields: &[u64]) -> Written
+fn packed(widths: &[u8], fields: &[u64]) -> Result<u64, Refusal>
     requires { (length widths.now ≤ 15) × (total widths.now ≡ 56) }
     ensures { result ≡ packed_by widths.now fields.now }
 {
     let mut me: u64 = 0;
     let mut i: usize = 0;
     while i < widths.len() {
-        let width = wide(widths[i]);
+        let width = u64::from(widths[i]);
         let code = entries::entry(fields, 5 + i);
         if is_wider(width, code) {
-            return Written::Refused(Refusal::Field);
+            return Err(Refusal::Field);
         }
         me = behind(me, width, code);
         i += 1;
     }
-    Written::Me(me)
+    Ok(me)
 }
 
 // Those of a layout.
-pub(crate) fn packed_as(layout: Layout, fields: &[u64]) -> Written
+#[tactic(auto, unfolding(crate::specs::From::packed_as))]
+pub(crate) fn packed_as(layout: Layout, fields: &[u64]) -> Result<u64, Refusal>
     ensures { result ≡ packed_as layout fields.now }
 {
     match layout {
         Layout::Identification => packed(&IDENTIFICATION, fields),
         Layout::Surface => packed(&SURFACE, fields),
         Layout::Airborne => packed(&AIRBORNE, fields),
-        Layout::Ground => packed(&VELOCITY, fields),
-        Layout::Air => packed(&VELOCITY, fields),
+        Layout::Ground | Layout::Air => packed(&VELOCITY, fields),
         Layout::Status => packed(&STATUS, fields),
         Layout::Coarse => packed(&COARSE, fields),
-        Layout::NotTaken => Written::Refused(Refusal::Field),
+        Layout::NotTaken => Err(Refusal::Field),
     }
 }

@@ -1,5 +1,6 @@
 -- Two forms of the table take the same calls alike: the clock moves in both, both searches find the same numbers, and the same track is stored at one of them.
 -- Assumes nothing.
+use Rattle.std.specs.Prelude.{Result, Ok, Err, Option, Some}
 use Prim.Native.Nat.{ℕ, zero, suc, ◌^◌, ◌≤◌, ◌<◌}
 use native.Mathlib.Nat.{le_refl}
 use native.Mathlib.Omega.{arith}
@@ -13,13 +14,9 @@ use borrow.Author.Tests.{ltb-true, ltb-false, not-false}
 use Rattle.fields.proofs.Bools.{and_left, and_right, and-false}
 use Rattle.positions.specs.Positions.{pole_to_pole}
 use Rattle.messages.specs.declared.Message.{Message}
-use Rattle.messages.specs.declared.Decoded.{Decoded}
-use Rattle.messages.specs.declared.Decoded.TheVariants as decode
 use Rattle.messages.specs.Message.{decoded, key_of, starts}
 use Rattle.whereabouts.specs.declared.Site.{Site}
 use Rattle.track.specs.declared.Track.{Track}
-use Rattle.track.specs.declared.held.Looked.{Looked}
-use Rattle.track.specs.declared.held.Holding.TheVariants as holding
 use Rattle.track.specs.Track.{new_track, stepped}
 use Rattle.place.specs.Place.{Fits}
 use Rattle.place.proofs.Steps.{new_fits, stepped_fits}
@@ -33,6 +30,7 @@ use Rattle.rules.proofs.Search.{clash, alike, lowest_passes, lowest_same}
 use Rattle.rules.proofs.Steps.{held_later, moved_fit, stored_fit}
 use Rattle.messages.proofs.Keys.{key_range}
 use Rattle.rules.proofs.Laws.{not_done, site_fits}
+use Rattle.refusals.specs.declared.Refusal.{Refusal}
 
 -- ---- two places
 
@@ -176,23 +174,23 @@ module _ {S T : Type 0} (F : Form S) (G : Form T) (s : S) (t : T) (a : Agree F G
 
     -- two steps from one track, stored at one number
     step_agrees : (m : Message) (i j : ℕ) (x y : Track) → i ≡ j → x ≡ y → j < G.count t → Fits y
-        → Alike F G (placed F s i (key_of m) (stepped x (decode.Message m) (F.site s) c)) (placed G t j (key_of m) (stepped y (decode.Message m) (G.site t) c))
+        → Alike F G (placed F s i (key_of m) (stepped x (Ok m) (F.site s) c)) (placed G t j (key_of m) (stepped y (Ok m) (G.site t) c))
     step_agrees m i j x y e p h f =
-        subst (λ (k : ℕ). Alike F G (placed F s k (key_of m) (stepped x (decode.Message m) (F.site s) c)) after_it) (sym e)
-        (subst (λ (z : Track). Alike F G (placed F s j (key_of m) (stepped z (decode.Message m) (F.site s) c)) after_it) (sym p)
-        (subst (λ (z : Site). Alike F G (placed F s j (key_of m) (stepped y (decode.Message m) z c)) after_it) (sym a.site)
-        (record { answer = refl; left = stored_agrees m j h (stepped y (decode.Message m) (G.site t) c).track (stepped_fits y f (G.site t) c fits (decode.Message m)) })))
+        subst (λ (k : ℕ). Alike F G (placed F s k (key_of m) (stepped x (Ok m) (F.site s) c)) after_it) (sym e)
+        (subst (λ (z : Track). Alike F G (placed F s j (key_of m) (stepped z (Ok m) (F.site s) c)) after_it) (sym p)
+        (subst (λ (z : Site). Alike F G (placed F s j (key_of m) (stepped y (Ok m) z c)) after_it) (sym a.site)
+        (record { answer = refl; left = stored_agrees m j h (stepped y (Ok m) (G.site t) c).track (stepped_fits y f (G.site t) c fits (Ok m)) })))
       where
-        after_it : After T Decoded
-        after_it = placed G t j (key_of m) (stepped y (decode.Message m) (G.site t) c)
+        after_it : After T (Result Message Refusal)
+        after_it = placed G t j (key_of m) (stepped y (Ok m) (G.site t) c)
 
     tests_same : (i j : ℕ) → i ≡ j → ltb i (F.count s) ≡ ltb j (G.count t)
     tests_same i j e = rw (e, a.count)
 
-    delivered_agrees : (d : Decoded) → Alike F G (delivered F s d c) (delivered G t d c)
+    delivered_agrees : (d : Result Message Refusal) → Alike F G (delivered F s d c) (delivered G t d c)
     unfolding delivered
-    delivered_agrees (decode.Refused r) = record { answer = refl; left = a }
-    delivered_agrees (decode.Message m) =
+    delivered_agrees (Err r) = record { answer = refl; left = a }
+    delivered_agrees (Ok m) =
         both_ways (Alike F G) _ _ _ _ (tests_same _ _ (own_same (key_of m)))
         (λ e. let h : place_of G t c (key_of m) < G.count t = ltb-true _ _ e in step_agrees m _ _ _ _ (own_same (key_of m)) (own_track (key_of m) h) h (own_fits (key_of m) h))
         (λ _. both_ways (Alike F G) _ _ _ _ (ap (λ (b : Bool). starts m && b) (tests_same _ _ free_same))
@@ -216,7 +214,7 @@ module _ {S T : Type 0} (F : Form S) (G : Form T) (L : Lawful F) (M : Lawful G) 
       }
 
   module _ (s : S) (t : T) (a : Agree F G s t) where
-    at_time : (time : ℕ) → G.whole t ≡ true → G.clock t ≤ time → time < 2 ^ 64 → (d : Decoded) → Alike F G (delivered F (F.moved s time) d time) (delivered G (G.moved t time) d time)
+    at_time : (time : ℕ) → G.whole t ≡ true → G.clock t ≤ time → time < 2 ^ 64 → (d : Result Message Refusal) → Alike F G (delivered F (F.moved s time) d time) (delivered G (G.moved t time) d time)
     at_time time w h f d =
         let e : G.clock (G.moved t time) ≡ time = M.moved_clock t time w f in
         subst (λ (x : ℕ). Alike F G (delivered F (F.moved s time) d x) (delivered G (G.moved t time) d x)) e
@@ -246,8 +244,8 @@ module _ {S T : Type 0} (F : Form S) (G : Form T) (L : Lawful F) (M : Lawful G) 
         tests_at : {i j : ℕ} → i ≡ j → ltb i (F.count s) ≡ ltb j (G.count t)
         tests_at e = rw (e, a.count)
 
-        held : Track → Looked
-        held x = record { answer = holding.Held; track = x }
+        held : Track → Result (Option Track) Refusal
+        held x = Ok (Some x)
 
         track_at_lem : place_of G t (G.clock t) key < G.count t → (F.cell s (place_of F s (F.clock s) key)).track ≡ (G.cell t (place_of G t (G.clock t) key)).track
         track_at_lem h = ap (λ (c : ℕ). (F.cell s (place_of F s c key)).track) a.clock ∙ own_track F G s t a key h
@@ -263,8 +261,11 @@ module _ {S T : Type 0} (F : Form S) (G : Form T) (L : Lawful F) (M : Lawful G) 
     pub next_agrees : (above : ℕ) → next_above F s above ≡ next_above G t above
     unfolding next_above
     next_agrees above = both_ways ◌≡◌ _ _ _ _ (ap not a.size) (λ _. refl)
-        (λ _. ap key_or_end least)
+        (λ _. ap answered least)
       where
+        answered : ℕ → Result (Option ℕ) Refusal
+        answered k = Ok (key_or_end k)
+
         least : least_above F s above ≡ least_above G t above
         least = rw (a.clock, a.count) (least_same above (G.count t) (le_refl (G.count t)))
 

@@ -1,10 +1,10 @@
 -- What the delivery of a message does to a table whose clock is at its time: by the two searches, for a place of its key and for a free one.
 -- Assumes nothing.
+use Rattle.std.specs.Prelude.{Result, Ok, Err, Some, None}
 use Prim.Native.Nat.{ℕ, ◌^◌, ◌<◌}
 use native.Mathlib.Omega.{arith}
 use mathlib.Core.Bool.{Bool, true, false, cond, not, ◌&&◌}
 use mathlib.Core.Logic.{◌⊎◌, inl, inr, ⊎_elim}
-use mathlib.Core.Option.{some, none}
 use mathlib.Core.Path.{◌≡◌, refl, ap, sym, ◌∙◌, subst}
 use lib.Dec.{eqb, ltb}
 use borrow.Author.Tests.{ltb-true, eqb-true, not-true, not-false}
@@ -13,8 +13,6 @@ use Rattle.refusals.specs.declared.Refusal.TheVariants.{Full, NoTrack}
 use Rattle.fields.proofs.Bools.{by_test, and_left, and_right, and-false}
 use Rattle.layouts.specs.Bodies.{body_me, body_fits}
 use Rattle.messages.specs.declared.Message.{Message}
-use Rattle.messages.specs.declared.Decoded.{Decoded}
-use Rattle.messages.specs.declared.Decoded.TheVariants as decode
 use Rattle.messages.specs.Message.{key_of, starts}
 use Rattle.track.specs.declared.Track.{Track}
 use Rattle.track.specs.declared.Stepped.{Stepped}
@@ -33,13 +31,13 @@ use Rattle.rules.proofs.Steps.{Single, stored_fit, put_other, once_other, put_ow
 
 -- what a track stored at any place keeps, a delivery keeps
 pub delivered_keeps : {S : Type 0} (F : Form S) (P : S → Type 0) (s : S) → P s → ((i key : ℕ) (x : Track) → P (F.stored s i key x))
-    → (d : Decoded) (t : ℕ) → P (delivered F s d t).table
+    → (d : Result Message Refusal) (t : ℕ) → P (delivered F s d t).table
 unfolding delivered
-delivered_keeps F P s p f (decode.Refused r) t = p
-delivered_keeps {S} F P s p f (decode.Message m) t =
-    by_test (λ (r : After S Decoded). P r.table) (ltb (place_of F s t (key_of m)) (F.count s)) _ _
+delivered_keeps F P s p f (Err r) t = p
+delivered_keeps {S} F P s p f (Ok m) t =
+    by_test (λ (r : After S (Result Message Refusal)). P r.table) (ltb (place_of F s t (key_of m)) (F.count s)) _ _
     (λ _. f _ _ _)
-    (λ _. by_test (λ (r : After S Decoded). P r.table) (starts m && ltb (free_place F s t) (F.count s)) _ _ (λ _. f _ _ _) (λ _. p))
+    (λ _. by_test (λ (r : After S (Result Message Refusal)). P r.table) (starts m && ltb (free_place F s t) (F.count s)) _ _ (λ _. f _ _ _) (λ _. p))
 
 -- ---- the two searches, at the time t, for the key of a message that fits
 
@@ -69,7 +67,7 @@ module _ {S : Type 0} (F : Form S) (t : ℕ) (s : S) (m : Message) (fit : body_f
   abbrev next : Track → Track
   next x = step_body x m.body (body_me m.body) (F.site s) t
 
-  step_is : (x : Track) → stepped x (decode.Message m) (F.site s) t ≡ record { answer = decode.Message m; track = next x }
+  step_is : (x : Track) → stepped x (Ok m) (F.site s) t ≡ record { answer = Ok m; track = next x }
   step_is x = accepted x m (F.site s) t fit
 
   -- when 6 is due: the message may start a track, and all places are taken; and 12: it may not, and no place holds its key
@@ -79,18 +77,18 @@ module _ {S : Type 0} (F : Form S) (t : ℕ) (s : S) (m : Message) (fit : body_f
   abbrev pub NoneDue : Type 0
   NoneDue = (starts m ≡ false) × Unheld F t (key_of m) s
 
-  abbrev Turned : After S Decoded → Type 0
-  Turned r = ((r ≡ after (decode.Refused Full) s) × FullDue) ⊎ ((r ≡ after (decode.Refused NoTrack) s) × NoneDue)
+  abbrev Turned : After S (Result Message Refusal) → Type 0
+  Turned r = ((r ≡ after (Err Full) s) × FullDue) ⊎ ((r ≡ after (Err NoTrack) s) × NoneDue)
 
   -- the answer is the message, or one of the two, exactly where it is due
-  abbrev pub Answered : After S Decoded → Type 0
-  Answered r = ((r.answer ≡ decode.Message m) × ((FullDue → ⊥) × (NoneDue → ⊥))) ⊎ Turned r
+  abbrev pub Answered : After S (Result Message Refusal) → Type 0
+  Answered r = ((r.answer ≡ Ok m) × ((FullDue → ⊥) × (NoneDue → ⊥))) ⊎ Turned r
 
-  turned : ltb here n ≡ false → starts m && ltb free n ≡ false → (b : Bool) → starts m ≡ b → Turned (after (decode.Refused (turned_away (starts m))) s)
-  turned e f true k = inl (ap (λ (b : Bool). after (decode.Refused (turned_away b)) s) k, (k, all_taken e (ap (λ (b : Bool). b && ltb free n) (sym k) ∙ f)))
-  turned e f false k = inr (ap (λ (b : Bool). after (decode.Refused (turned_away b)) s) k, (k, none_passes (λ j. holds t (key_of m) (F.cell s j)) n e))
+  turned : ltb here n ≡ false → starts m && ltb free n ≡ false → (b : Bool) → starts m ≡ b → Turned (after (Err (turned_away (starts m))) s)
+  turned e f true k = inl (ap (λ (b : Bool). after (Err (turned_away b)) s) k, (k, all_taken e (ap (λ (b : Bool). b && ltb free n) (sym k) ∙ f)))
+  turned e f false k = inr (ap (λ (b : Bool). after (Err (turned_away b)) s) k, (k, none_passes (λ j. holds t (key_of m) (F.cell s j)) n e))
 
-  pub answered : Answered (delivered F s (decode.Message m) t)
+  pub answered : Answered (delivered F s (Ok m) t)
   unfolding delivered place_of free_place
   answered =
       by_test Answered (ltb here n) _ _
@@ -106,43 +104,43 @@ module _ {S : Type 0} (F : Form S) (t : ℕ) (s : S) (m : Message) (fit : body_f
       (λ f. inr (turned e f (starts m) refl)))
 
   -- so it is the message, or 6 or 12 and the table as it was
-  abbrev pub Sorted : After S Decoded → Type 0
-  Sorted r = (r.answer ≡ decode.Message m) ⊎ ((q : Refusal) × (Unplaced q × (r ≡ after (decode.Refused q) s)))
+  abbrev pub Sorted : After S (Result Message Refusal) → Type 0
+  Sorted r = (r.answer ≡ Ok m) ⊎ ((q : Refusal) × (Unplaced q × (r ≡ after (Err q) s)))
 
-  sorted_by : {r : After S Decoded} → Answered r → Sorted r
+  sorted_by : {r : After S (Result Message Refusal)} → Answered r → Sorted r
   sorted_by (inl y) = inl y.0
   sorted_by (inr (inl y)) = inr (Full, (inl refl, y.0))
   sorted_by (inr (inr y)) = inr (NoTrack, (inr refl, y.0))
 
-  pub sorted : Sorted (delivered F s (decode.Message m) t)
+  pub sorted : Sorted (delivered F s (Ok m) t)
   sorted = sorted_by answered
 
   -- ---- what it leaves
 
   -- the track that the message finds is stepped, and no other key's view changes, though a key be held twice; each that was held once still is
-  pub record Effect (r : After S Decoded) : Type 0 where
+  pub record Effect (r : After S (Result Message Refusal)) : Type 0 where
     pub single : Single F t s → Single F t r.table
     pub fits : AllFit F r.table
-    pub told : (r.answer ≡ decode.Refused Full → ⊥) → r.answer ≡ answered_from m (found m (view_at F t s (key_of m)))
-    pub own : (r.answer ≡ decode.Refused Full → ⊥) → view_at F t r.table (key_of m) ≡ stepped_from m (F.site s) t (found m (view_at F t s (key_of m)))
+    pub told : (r.answer ≡ Err Full → ⊥) → r.answer ≡ answered_from m (found m (view_at F t s (key_of m)))
+    pub own : (r.answer ≡ Err Full → ⊥) → view_at F t r.table (key_of m) ≡ stepped_from m (F.site s) t (found m (view_at F t s (key_of m)))
     pub other : (k : ℕ) → (k ≡ key_of m → ⊥) → view_at F t r.table k ≡ view_at F t s k
 
   module _ (L : Lawful F) (all_fit : AllFit F s) (size : F.whole s ≡ true) (fits : t < 2 ^ 64) where
     next_fits : (x : Track) → Fits x → Fits (next x)
-    next_fits x f = subst Fits (ap (λ (y : Stepped). y.track) (step_is x)) (stepped_fits x f (F.site s) t fits (decode.Message m))
+    next_fits x f = subst Fits (ap (λ (y : Stepped). y.track) (step_is x)) (stepped_fits x f (F.site s) t fits (Ok m))
 
     -- one place is written
-    written : (i : ℕ) → i < n → (x : Track) → Fits x → found m (view_at F t s (key_of m)) ≡ some x
+    written : (i : ℕ) → i < n → (x : Track) → Fits x → found m (view_at F t s (key_of m)) ≡ Some x
         → ((j : ℕ) → j < i → holds t (key_of m) (F.cell s j) ≡ false)
         → (Single F t s → (j : ℕ) → j < n → (j ≡ i → ⊥) → holds t (key_of m) (F.cell s j) ≡ false)
         → ((k : ℕ) → (k ≡ key_of m → ⊥) → holds t k (F.cell s i) ≡ false)
-        → Effect (placed F s i (key_of m) (stepped x (decode.Message m) (F.site s) t))
+        → Effect (placed F s i (key_of m) (stepped x (Ok m) (F.site s) t))
     written i h x f v lower only clear =
         let is_key = key_range m in
         let g : Fits (next x) = next_fits x f in
         let its : (next x).heard ≡ t = heard_at_its_time x m.body (body_me m.body) (F.site s) t in
         let r : S = F.stored s i (key_of m) (next x) in
-        let e : Effect (after (decode.Message m) r)
+        let e : Effect (after (Ok m) r)
         = record {
           single = λ u k. ⊎_elim
               (λ (y : k ≡ key_of m). subst (λ (k : ℕ). Once (holds t k) (F.cell r) (F.count r)) (sym y) (once_own F L t s size i h (key_of m) is_key (next x) g its (only u)))
@@ -154,9 +152,9 @@ module _ {S : Type 0} (F : Form S) (t : ℕ) (s : S) (m : Message) (fit : body_f
         } in
         subst (λ (y : Stepped). Effect (placed F s i (key_of m) y)) (sym (step_is x)) e
 
-    seen : (b : Bool) → ltb here n ≡ b → view_at F t s (key_of m) ≡ track_in (cond b (some (F.cell s here)) none)
+    seen : (b : Bool) → ltb here n ≡ b → view_at F t s (key_of m) ≡ track_in (cond b (Some (F.cell s here)) None)
     unfolding view_at
-    seen b e = ap (λ (b : Bool). track_in (cond b (some (F.cell s here)) none)) e
+    seen b e = ap (λ (b : Bool). track_in (cond b (Some (F.cell s here)) None)) e
 
     -- a place that holds the key holds no other
     key_only : (p : Cell) → holds t (key_of m) p ≡ true → (k : ℕ) → (k ≡ key_of m → ⊥) → holds t k p ≡ false
@@ -174,23 +172,23 @@ module _ {S : Type 0} (F : Form S) (t : ℕ) (s : S) (m : Message) (fit : body_f
     no_key p h k = ap (λ (b : Bool). eqb p.key k && b) h ∙ and-false (eqb p.key k)
 
     -- no place holds the key: the message finds a new track, or none
-    unseen : ltb here n ≡ false → (b : Bool) → starts m ≡ b → found m (view_at F t s (key_of m)) ≡ cond b (some new_track) none
-    unseen e b k = ap (found m) (seen false e) ∙ ap (λ (b : Bool). cond b (some new_track) none) k
+    unseen : ltb here n ≡ false → (b : Bool) → starts m ≡ b → found m (view_at F t s (key_of m)) ≡ cond b (Some new_track) None
+    unseen e b k = ap (found m) (seen false e) ∙ ap (λ (b : Bool). cond b (Some new_track) None) k
 
-    turned_effect : ltb here n ≡ false → Effect (after (decode.Refused (turned_away (starts m))) s)
+    turned_effect : ltb here n ≡ false → Effect (after (Err (turned_away (starts m))) s)
     turned_effect e =
         record {
           single = λ u. u;
           fits = all_fit;
-          told = λ un. ap (λ (b : Bool). decode.Refused (turned_away b)) (unstarted un) ∙ sym (ap (answered_from m) (unseen e false (unstarted un)));
+          told = λ un. ap (λ (b : Bool). Err (turned_away b)) (unstarted un) ∙ sym (ap (answered_from m) (unseen e false (unstarted un)));
           own = λ un. seen false e ∙ sym (ap (stepped_from m (F.site s) t) (unseen e false (unstarted un)));
           other = λ k ne. refl;
         }
       where
-        unstarted : (decode.Refused (turned_away (starts m)) ≡ decode.Refused Full → ⊥) → starts m ≡ false
-        unstarted un = fails (starts m) (λ k. un (ap (λ (b : Bool). decode.Refused (turned_away b)) k))
+        unstarted : (◌≡◌ {A = Result Message Refusal} (Err (turned_away (starts m))) (Err Full) → ⊥) → starts m ≡ false
+        unstarted un = fails (starts m) (λ k. un (ap (λ (b : Bool). Err (turned_away b)) k))
 
-    pub delivery : Effect (delivered F s (decode.Message m) t)
+    pub delivery : Effect (delivered F s (Ok m) t)
     unfolding delivered place_of free_place
     delivery =
         by_test Effect (ltb here n) _ _

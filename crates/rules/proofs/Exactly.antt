@@ -1,6 +1,7 @@
 -- The answer to a received message is the table of RULES 3.2, in the order of RULES 3.3, for any table of any form and any message. The definition's first three tests are the table's; what is delivered says what the decoder says,
 -- which is the table of messages, and 6 or 12 in the place of a message for which there is no room or no track.
 -- Assumes nothing.
+use Rattle.std.specs.Prelude.{Result, Ok, Err}
 use Prim.Native.Nat.{ℕ}
 use mathlib.Core.Bool.{Bool, true, false, cond, not, ◌&&◌}
 use mathlib.Core.Logic.{◌↔◌}
@@ -13,8 +14,6 @@ use Rattle.refusals.specs.Said.{Said, number, gives}
 use Rattle.fields.proofs.Bools.{and_left, and_right}
 use Rattle.layouts.specs.Said.{Values}
 use Rattle.messages.specs.declared.Message.{Message}
-use Rattle.messages.specs.declared.Decoded.{Decoded}
-use Rattle.messages.specs.declared.Decoded.TheVariants as decode
 use Rattle.messages.specs.Message.{decoded, key_of, starts}
 use Rattle.messages.specs.Said.{said, earns1, earns3, earns4, earns5, key_in, starts_in, values_in, table}
 use Rattle.messages.proofs.Exactly as decoder
@@ -33,6 +32,7 @@ use Rattle.rules.specs.Said.{key_held, place_free, earns2, earns6, earns7, earns
 use Rattle.rules.proofs.Search.{clash, fails, lowest_passes, none_passes}
 use Rattle.rules.proofs.Steps.{as_moved}
 use Rattle.rules.proofs.Ways.{decoded_fits}
+use Rattle.refusals.specs.declared.Refusal.{Refusal}
 
 -- ---- 6 and 12
 
@@ -96,7 +96,7 @@ module _ {S : Type 0} (F : Form S) (L : Lawful F) (s : S) (message : List ℕ) (
 
 -- ---- what is delivered
 
-abbrev said_after : {S : Type 0} → After S Decoded → Said Values
+abbrev said_after : {S : Type 0} → After S (Result Message Refusal) → Said Values
 said_after x = said x.answer
 
 -- 6 or 12 in the place of a message's values
@@ -104,36 +104,36 @@ abbrev unless : Bool → Bool → Said Values → Said Values
 unless six twelve (number n) = number n
 unless six twelve (gives v) = cond six (number 6) (cond twelve (number 12) (gives v))
 
-module _ (message : List ℕ) (m : Message) (d : decoded message ≡ decode.Message m) where
-  stepped_answer : (x : Track) (site : Site) (t : ℕ) → (stepped x (decode.Message m) site t).answer ≡ decode.Message m
+module _ (message : List ℕ) (m : Message) (d : decoded message ≡ Ok m) where
+  stepped_answer : (x : Track) (site : Site) (t : ℕ) → (stepped x (Ok m) site t).answer ≡ Ok m
   stepped_answer x site t = ap (λ (y : Stepped). y.answer) (accepted x m site t (decoded_fits message m d))
 
-  by_room : {S : Type 0} (held starts free : Bool) (s : S) (x y : After S Decoded) → x.answer ≡ decode.Message m → y.answer ≡ decode.Message m
-      → said_after (cond held x (cond (starts && free) y (after (decode.Refused (turned_away starts)) s)))
-      ≡ unless (not held && (starts && not free)) (not held && not starts) (said (decode.Message m))
+  by_room : {S : Type 0} (held starts free : Bool) (s : S) (x y : After S (Result Message Refusal)) → x.answer ≡ Ok m → y.answer ≡ Ok m
+      → said_after (cond held x (cond (starts && free) y (after (Err (turned_away starts)) s)))
+      ≡ unless (not held && (starts && not free)) (not held && not starts) (said (Ok m))
   by_room true starts free s x y e f = ap said e
   by_room false true true s x y e f = ap said f
   by_room false true false s x y e f = refl
   by_room false false free s x y e f = refl
 
   message_says : {S : Type 0} (F : Form S) (s : S) (t : ℕ)
-      → said_after (delivered F s (decode.Message m) t) ≡ unless (earns6 F s message t) (earns12 F s message t) (said (decode.Message m))
+      → said_after (delivered F s (Ok m) t) ≡ unless (earns6 F s message t) (earns12 F s message t) (said (Ok m))
   unfolding delivered
   message_says F s t =
       by_room (key_held F s t (key_of m)) (starts m) (place_free F s t) s _ _ (stepped_answer _ _ t) (stepped_answer _ _ t)
-      ∙ ap₂ (λ (k : ℕ) (b : Bool). unless (not (key_held F s t k) && (b && not (place_free F s t))) (not (key_held F s t k) && not b) (said (decode.Message m)))
+      ∙ ap₂ (λ (k : ℕ) (b : Bool). unless (not (key_held F s t k) && (b && not (place_free F s t))) (not (key_held F s t k) && not b) (said (Ok m)))
       (decoded_key message m d) (decoded_starts message m d)
 
-delivered_says : {S : Type 0} (F : Form S) (s : S) (message : List ℕ) (t : ℕ) (d : Decoded) → decoded message ≡ d
+delivered_says : {S : Type 0} (F : Form S) (s : S) (message : List ℕ) (t : ℕ) (d : Result Message Refusal) → decoded message ≡ d
     → said_after (delivered F s d t) ≡ unless (earns6 F s message t) (earns12 F s message t) (said d)
 unfolding delivered
-delivered_says F s message t (decode.Refused r) e = refl
-delivered_says F s message t (decode.Message m) e = message_says message m e F s t
+delivered_says F s message t (Err r) e = refl
+delivered_says F s message t (Ok m) e = message_says message m e F s t
 
 -- ---- the whole
 
-said_first : {S : Type 0} (a b c : Bool) (s : S) (x : After S Decoded)
-    → said_after (cond a (after (decode.Refused Length) s) (cond b (after (decode.Refused Places) s) (cond c (after (decode.Refused Late) s) x)))
+said_first : {S : Type 0} (a b c : Bool) (s : S) (x : After S (Result Message Refusal))
+    → said_after (cond a (after (Err Length) s) (cond b (after (Err Places) s) (cond c (after (Err Late) s) x)))
     ≡ cond a (number 1) (cond b (number 7) (cond c (number 2) (said_after x)))
 said_first true b c s x = refl
 said_first false true c s x = refl

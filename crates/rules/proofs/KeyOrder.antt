@@ -1,5 +1,6 @@
 -- The walk in the order of the keys: what `next` answers is held, above, and nothing held lies between, and at the end nothing held is above. By induction over the places: the best of n places and one more.
 -- Assumes nothing.
+use Rattle.std.specs.Prelude.{Some, None, Ok}
 use Prim.Native.Nat.{ℕ, suc, zero, ◌≤◌, ◌<◌}
 use native.Mathlib.Omega.{arith}
 use native.Mathlib.Nat.{eq-or-lt_of_le}
@@ -10,7 +11,6 @@ use lib.Dec.{eqb, ltb}
 use borrow.Author.Tests.{ltb-true, ltb-false, eqb-true, eqb-false, eq-eqb}
 use Rattle.fields.proofs.Bools.{and_left, and_right, both}
 use Rattle.rules.specs.Form.{Cell, is_held, holds, Form}
-use Rattle.rules.specs.declared.answers.NextKey.TheVariants as next
 use Rattle.rules.specs.View.{HeldKey, Follows}
 use Rattle.rules.specs.Search.{better, smallest}
 use Rattle.rules.specs.Rules.{least_above, next_above}
@@ -88,7 +88,7 @@ module _ {S : Type 0} (F : Form S) (s : S) (above : ℕ) where
   abbrev held : ℕ → Bool
   held i = is_held (F.clock s) (F.cell s i)
 
-  follows : (k : ℕ) → Best keys held above (F.count s) k → Follows F s above (key_or_end k)
+  follows : (k : ℕ) → Best keys held above (F.count s) k → Follows F s above (Ok (key_or_end k))
   follows k h = by_test (eqb k 0) refl
     where
       less : (other : ℕ) → above < other → HeldKey F s other → (k ≡ 0 → ⊥) × (k ≤ other)
@@ -97,7 +97,7 @@ module _ {S : Type 0} (F : Form S) (s : S) (above : ℕ) where
           let l = h.none_less w.0 w.1.0 (rw e.0 a, e.1) in
           (l.0, rw e.0 at l.1)
 
-      by_test : (b : Bool) → eqb k 0 ≡ b → Follows F s above (cond b next.End (next.Key k))
+      by_test : (b : Bool) → eqb k 0 ≡ b → Follows F s above (Ok (cond b None (Some k)))
       by_test true e = λ other a w. (less other a w).0 (eqb-true k 0 e)
       by_test false e =
           ⊎_elim

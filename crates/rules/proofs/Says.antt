@@ -1,27 +1,24 @@
 -- What the rules answer, in the rules' terms: 7, for a set-up then 8, or what the table holds. Each by its tests; of a received message it is Exactly that says it.
 -- Assumes nothing.
+use Rattle.std.specs.Prelude.{Ok, Err, Option, Some, None, Result}
 use Prim.Native.Nat.{ℕ}
 use mathlib.Core.Bool.{Bool, true, false, cond, not}
-use mathlib.Core.Option.{Option, some, none}
 use mathlib.Core.Path.{◌≡◌, refl, ap, ◌∙◌}
 use lib.Dec.{eqb, ltb}
 use Rattle.refusals.specs.declared.Refusal.TheVariants.{Places, Field}
 use Rattle.refusals.specs.Said.{number, gives}
 use Rattle.whereabouts.specs.declared.Site.{Site}
 use Rattle.track.specs.declared.Track.{Track}
-use Rattle.track.specs.declared.held.Holding.TheVariants as holding
-use Rattle.track.specs.declared.held.Looked.{Looked}
 use Rattle.track.specs.Track.{new_track}
 use Rattle.track.specs.Meaning.{NothingForeign}
-use Rattle.rules.specs.declared.answers.SetUp.TheVariants as setting
-use Rattle.track.specs.Held.{looked_as}
+use Rattle.track.specs.Held.{track_or_new}
 use Rattle.track.specs.Said.{looked_said}
-use Rattle.rules.specs.declared.answers.NextKey.TheVariants as following
 use Rattle.rules.specs.Form.{Form}
 use Rattle.rules.specs.Rules.{after, set_up, place_of, looked_up, least_above, next_above}
 use Rattle.rules.specs.View.{view}
 use Rattle.rules.specs.Said.{done, set_up_said, next_said, key_above, earns7, earns8, set_up_table}
 use Rattle.rules.proofs.Laws.{looked_up_lem}
+use Rattle.refusals.specs.declared.Refusal.{Refusal}
 
 module _ {S : Type 0} (F : Form S) (s : S) where
   pub set_up_says : (o : Site) → set_up_said (set_up F s o).answer ≡ set_up_table F s o
@@ -29,14 +26,14 @@ module _ {S : Type 0} (F : Form S) (s : S) where
   set_up_says o = by_tests (earns7 F s) (earns8 o) (F.emptied s o)
     where
       by_tests : (a b : Bool) (z : S)
-          → set_up_said (cond a (after (setting.Refused Places) s) (cond b (after (setting.Refused Field) s) (after setting.Done z))).answer ≡ cond a (number 7) (cond b (number 8) done)
+          → set_up_said (cond a (after (Err Places) s) (cond b (after (Err Field) s) (after (Ok tt) z))).answer ≡ cond a (number 7) (cond b (number 8) done)
       by_tests true b z = refl
       by_tests false true z = refl
       by_tests false false z = refl
 
-  viewed : (v : Option Track) → looked_said (looked_as v) ≡ gives v
-  viewed none = refl
-  viewed (some t) = refl
+  viewed : (v : Option Track) → looked_said (Ok v) ≡ gives v
+  viewed None = refl
+  viewed (Some t) = refl
 
   look_refused : (key : ℕ) → F.whole s ≡ false → looked_said (looked_up F s key) ≡ number 7
   unfolding looked_up
@@ -53,7 +50,7 @@ module _ {S : Type 0} (F : Form S) (s : S) where
   unfolding next_above
   next_says above = by_tests (earns7 F s) (eqb (least_above F s above) 0) (least_above F s above)
     where
-      by_tests : (a b : Bool) (k : ℕ) → next_said (cond a (following.Refused Places) (cond b following.End (following.Key k))) ≡ cond a (number 7) (gives (cond b none (some k)))
+      by_tests : (a b : Bool) (k : ℕ) → next_said (cond a (Err Places) (Ok (cond b None (Some k)))) ≡ cond a (number 7) (gives (cond b None (Some k)))
       by_tests true b k = refl
       by_tests false true k = refl
       by_tests false false k = refl
@@ -64,14 +61,14 @@ new_nothing_foreign : NothingForeign new_track
 new_nothing_foreign =
     record { identification = λ e. refl; velocity = λ e. refl; surface = λ e. refl; status = λ e. refl; position = λ e. refl; even = λ e. refl; odd = λ e. refl }
 
-pub looked_nothing_foreign : {S : Type 0} (F : Form S) (s : S) (key : ℕ) → ((i : ℕ) → NothingForeign (F.cell s i).track) → NothingForeign (looked_up F s key).track
+pub looked_nothing_foreign : {S : Type 0} (F : Form S) (s : S) (key : ℕ) → ((i : ℕ) → NothingForeign (F.cell s i).track) → NothingForeign (track_or_new (looked_up F s key))
 unfolding looked_up
 looked_nothing_foreign F s key all = by_cases (not (F.whole s)) (ltb (place_of F s (F.clock s) key) (F.count s))
   where
     by_cases : (a b : Bool)
-        → let x : Looked = cond a (record { answer = holding.Refused Places; track = new_track })
-        (cond b (record { answer = holding.Held; track = (F.cell s (place_of F s (F.clock s) key)).track }) (record { answer = holding.Unheld; track = new_track })) in
-        NothingForeign x.track
+        → let x : Result (Option Track) Refusal = cond a (Err Places)
+        (cond b (Ok (Some ((F.cell s (place_of F s (F.clock s) key)).track))) (Ok None)) in
+        NothingForeign (track_or_new x)
     by_cases true b = new_nothing_foreign
     by_cases false true = all (place_of F s (F.clock s) key)
     by_cases false false = new_nothing_foreign

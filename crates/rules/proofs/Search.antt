@@ -1,11 +1,11 @@
 -- The lowest number that passes a test, and the thing found by it: what passes, and no lower one does; where at most one of n things passes, it is that one.
 -- Assumes nothing.
+use Rattle.std.specs.Prelude.{Option, Some, None}
 use Prim.Native.Nat.{ℕ, suc, zero, ◌≤◌, ◌<◌}
 use native.Mathlib.Omega.{arith}
 use native.Mathlib.Nat.{eq-or-lt_of_le}
 use mathlib.Core.Bool.{Bool, true, false, cond, ◌&&◌, true≢false}
 use mathlib.Core.Logic.{◌⊎◌, inl, inr, ⊎_elim}
-use mathlib.Core.Option.{Option, some, none}
 use mathlib.Core.Path.{◌≡◌, refl, ap, sym, ◌∙◌}
 use lib.Dec.{ltb, eqb}
 use borrow.Author.Tests.{lt-ltb, ltb-true, ltb-false, eqb-true, eqb-false}
@@ -68,8 +68,8 @@ none_passes p n e i h = fails (p i) (λ f. omega (arith, ltb-false (lowest p n) 
 
 -- what is left of a thing found that must pass a second test
 abbrev pub keep : {C : Type 0} → (C → Bool) → Option C → Option C
-keep young none = none
-keep young (some c) = cond (young c) (some c) none
+keep young None = None
+keep young (Some c) = cond (young c) (Some c) None
 
 module _ {C : Type 0} (is : C → Bool) where
   module _ (f : ℕ → C) (n : ℕ) where
@@ -83,19 +83,19 @@ module _ {C : Type 0} (is : C → Bool) where
     Miss = (i : ℕ) → i < n → is (f i) ≡ false
 
     -- one passes, and none below it
-    pub look_first : (i : ℕ) → i < n → is (f i) ≡ true → ((j : ℕ) → j < i → is (f j) ≡ false) → look is f n ≡ some (f i)
+    pub look_first : (i : ℕ) → i < n → is (f i) ≡ true → ((j : ℕ) → j < i → is (f j) ≡ false) → look is f n ≡ Some (f i)
     look_first i h t lower =
         let l : at ≤ i = lowest_least (λ j. is (f j)) n i h t in
         let e : at ≡ i = ⊎_elim (λ (e : at ≡ i). e) (λ (l : at < i). absurd (clash (lowest_passes (λ j. is (f j)) n (omega arith)) (lower at l))) (eq-or-lt_of_le l) in
         rw (e, lt-ltb i n h)
 
-    look_hit : Once is f n → (i : ℕ) → i < n → is (f i) ≡ true → look is f n ≡ some (f i)
+    look_hit : Once is f n → (i : ℕ) → i < n → is (f i) ≡ true → look is f n ≡ Some (f i)
     look_hit u i h t = look_first i h t (λ j l. fails (is (f j)) (λ p. omega (arith, u j i (omega arith) h p t)))
 
-    pub look_miss : Miss → look is f n ≡ none
+    pub look_miss : Miss → look is f n ≡ None
     look_miss a = by_cases (ltb at n) refl
       where
-        by_cases : (b : Bool) → ltb at n ≡ b → cond b (some (f at)) none ≡ none
+        by_cases : (b : Bool) → ltb at n ≡ b → cond b (Some (f at)) None ≡ None
         by_cases true e = let m : at < n = ltb-true _ _ e in absurd (clash (lowest_passes (λ j. is (f j)) n m) (a at m))
         by_cases false e = refl
 
@@ -114,11 +114,11 @@ module _ {C : Type 0} (is : C → Bool) where
     -- and are the same there
     pub look_same : ((i : ℕ) → i < n → is (f i) ≡ true → g i ≡ f i) → look is g n ≡ look is f n
     look_same e =
-        ap (λ (l : ℕ). cond (ltb l n) (some (g l)) none) (lowest_same (λ i. is (g i)) (λ i. is (f i)) n same)
+        ap (λ (l : ℕ). cond (ltb l n) (Some (g l)) None) (lowest_same (λ i. is (g i)) (λ i. is (f i)) n same)
         ∙ by_cases (ltb (at f n) n) refl
       where
-        by_cases : (b : Bool) → ltb (at f n) n ≡ b → cond b (some (g (at f n))) none ≡ cond b (some (f (at f n))) none
-        by_cases true h = let m : at f n < n = ltb-true _ _ h in ap some (e (at f n) m (lowest_passes (λ i. is (f i)) n m))
+        by_cases : (b : Bool) → ltb (at f n) n ≡ b → cond b (Some (g (at f n))) None ≡ cond b (Some (f (at f n))) None
+        by_cases true h = let m : at f n < n = ltb-true _ _ h in ap Some (e (at f n) m (lowest_passes (λ i. is (f i)) n m))
         by_cases false h = refl
 
   -- one thing passes the test, and no other
@@ -143,7 +143,7 @@ module _ {C : Type 0} (was is young : C → Bool) (e : (c : C) → is c ≡ was 
       at_miss w = look_miss is f n (λ i h. e (f i) ∙ ap (λ (b : Bool). b && young (f i)) (w i h)) ∙ sym (ap (keep young) (look_miss was f n w))
 
       at_hit : (i : ℕ) → i < n → was (f i) ≡ true → (b : Bool) → young (f i) ≡ b → look is f n ≡ keep young (look was f n)
-      at_hit i h t true y = look_hit is f n once_aged i h (e (f i) ∙ rw (t, y)) ∙ sym (ap (keep young) (look_hit was f n u i h t) ∙ ap (λ (b : Bool). cond b (some (f i)) none) y)
+      at_hit i h t true y = look_hit is f n once_aged i h (e (f i) ∙ rw (t, y)) ∙ sym (ap (keep young) (look_hit was f n u i h t) ∙ ap (λ (b : Bool). cond b (Some (f i)) None) y)
       at_hit i h t false y =
           look_miss is f n (λ j k. fails (is (f j)) (λ p. clash (still (f j) p).1 (ap (λ (m : ℕ). young (f m)) (u j i k h (still (f j) p).0 t) ∙ y)))
-          ∙ sym (ap (keep young) (look_hit was f n u i h t) ∙ ap (λ (b : Bool). cond b (some (f i)) none) y)
+          ∙ sym (ap (keep young) (look_hit was f n u i h t) ∙ ap (λ (b : Bool). cond b (Some (f i)) None) y)

@@ -1,10 +1,10 @@
 -- What a move of the clock, and a track stored at a place, do to the views of a table and to each key being held once: of any form that keeps the laws.
 -- Assumes nothing.
+use Rattle.std.specs.Prelude.{Option, Some, None}
 use Prim.Native.Nat.{ℕ, ◌-◌, ◌≤◌, ◌<◌}
 use native.Mathlib.Omega.{arith}
 use mathlib.Core.Bool.{Bool, true, false, cond, ◌&&◌, and_assoc}
 use mathlib.Core.Logic.{⊎_elim, ◌↔◌}
-use mathlib.Core.Option.{Option, some, none}
 use mathlib.Core.Path.{◌≡◌, refl, ap, sym, ◌∙◌, subst, fun_ext}
 use lib.Dec.{eqb, ltb}
 use borrow.Author.Tests.{eq-eqb, ne_eqb, lt-ltb, ltb-true}
@@ -44,10 +44,10 @@ holds_later c t key h p =
     ∙ sym (and_assoc (eqb p.key key) (is_held c p) (young t p))
 
 track_later : (t : ℕ) (o : Option Cell) → track_in (keep (young t) o) ≡ later_at t (track_in o)
-track_later t none = refl
-track_later t (some p) = by_cases (ltb (t - p.track.heard) 125000)
+track_later t None = refl
+track_later t (Some p) = by_cases (ltb (t - p.track.heard) 125000)
   where
-    by_cases : (b : Bool) → track_in (cond b (some p) none) ≡ cond b (some p.track) none
+    by_cases : (b : Bool) → track_in (cond b (Some p) None) ≡ cond b (Some p.track) None
     by_cases true = refl
     by_cases false = refl
 
@@ -64,11 +64,11 @@ module _ {S : Type 0} (F : Form S) (s : S) (c t : ℕ) (single : Single F c s) (
 
 -- ---- the clock moves
 
-abbrev None : ℕ → ℕ → (ℕ → Cell) → ℕ → Type 0
-None c k f n = (i : ℕ) → i < n → holds c k (f i) ≡ false
+abbrev NoneHolds : ℕ → ℕ → (ℕ → Cell) → ℕ → Type 0
+NoneHolds c k f n = (i : ℕ) → i < n → holds c k (f i) ≡ false
 
 abbrev Taken : ℕ → ℕ → (ℕ → Cell) → ℕ → Type 0
-Taken c k f n = None c k f n × ((i : ℕ) → i < n → is_held c (f i) ≡ true)
+Taken c k f n = NoneHolds c k f n × ((i : ℕ) → i < n → is_held c (f i) ≡ true)
 
 module _ {S : Type 0} (F : Form S) (L : Lawful F) (s : S) (t : ℕ) where
   moved_places : F.cell (F.moved s t) ≡ F.cell s
@@ -87,7 +87,7 @@ module _ {S : Type 0} (F : Form S) (L : Lawful F) (s : S) (t : ℕ) where
   moved_view c k = as_moved (λ (f : ℕ → Cell) (n : ℕ). track_in (look (holds c k) f n) ≡ track_in (look (holds c k) (F.cell s) (F.count s))) refl
 
   pub moved_unheld : (c k : ℕ) → Unheld F c k (F.moved s t) ↔ Unheld F c k s
-  moved_unheld c k = (as_before (None c k), as_moved (None c k))
+  moved_unheld c k = (as_before (NoneHolds c k), as_moved (NoneHolds c k))
 
   pub moved_taken : (c k : ℕ) → AllTaken F c k (F.moved s t) ↔ AllTaken F c k s
   moved_taken c k = (
@@ -151,12 +151,12 @@ module _ {S : Type 0} (F : Form S) (L : Lawful F) (t : ℕ) (s : S) (size : F.wh
     once_other u = subst (Once (holds t k) (F.cell r)) (sym put_count) (once_same (holds t k) (F.cell s) (F.cell r) (F.count s) same u)
 
   -- no lower place holds the key: it is found there
-  pub put_own : ((j : ℕ) → j < i → holds t key (F.cell s j) ≡ false) → view_at F t r key ≡ some x
+  pub put_own : ((j : ℕ) → j < i → holds t key (F.cell s j) ≡ false) → view_at F t r key ≡ Some x
   unfolding view_at
   put_own lower =
       let own : holds t key (F.cell r i) ≡ true = ap (holds t key) there ∙ holds_stored key ∙ ap (λ (b : Bool). b && true) (eq-eqb key key refl) in
       ap (λ (n : ℕ). track_in (look (holds t key) (F.cell r) n)) put_count
-      ∙ ap track_in (look_first (holds t key) (F.cell r) (F.count s) i h own (λ j l. ap (holds t key) (elsewhere j (omega arith) (λ e. omega arith)) ∙ lower j l) ∙ ap some there)
+      ∙ ap track_in (look_first (holds t key) (F.cell r) (F.count s) i h own (λ j l. ap (holds t key) (elsewhere j (omega arith) (λ e. omega arith)) ∙ lower j l) ∙ ap Some there)
 
   -- no other place holds the key: it is the one place of it
   pub once_own : ((j : ℕ) → j < F.count s → (j ≡ i → ⊥) → holds t key (F.cell s j) ≡ false) → Once (holds t key) (F.cell r) (F.count r)

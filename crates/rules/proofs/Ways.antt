@@ -1,5 +1,6 @@
 -- The ways through a call, and what the decoder can refuse: by the tests in their order.
 -- Assumes nothing.
+use Rattle.std.specs.Prelude.{Result, Ok, Err}
 use Prim.Native.Nat.{ℕ, ◌/◌, ◌^◌, ◌≤◌, ◌<◌}
 use native.Mathlib.Nat.{mod-lt}
 use native.Mathlib.Omega.{arith}
@@ -19,32 +20,29 @@ use Rattle.parity.specs.Parity.{remainder}
 use Rattle.layouts.specs.Bodies.{layout_by, taken_as, taken_by, body_fits}
 use Rattle.layouts.specs.declared.bodies.Layout.{Layout}
 use Rattle.layouts.specs.declared.bodies.Layout.TheVariants as layout
-use Rattle.layouts.specs.declared.bodies.Taken.{Taken}
-use Rattle.layouts.specs.declared.bodies.Taken.TheVariants as read
 use Rattle.layouts.proofs.BothWays.{read_good}
 use Rattle.messages.specs.declared.Message.{Message}
-use Rattle.messages.specs.declared.Decoded.{Decoded}
-use Rattle.messages.specs.declared.Decoded.TheVariants as decode
 use Rattle.messages.specs.Message.{bits, format_taken, coarse_by, reserved_in, with_body, opened, decoded}
 use Rattle.messages.proofs.Keys.{decoded_from}
 use Rattle.rules.specs.Form.{Form}
 use Rattle.rules.specs.Rules.{After, after, delivered, received}
 use Rattle.rules.specs.View.{Early, Undecoded, Unplaced, Later}
+use Rattle.layouts.specs.declared.bodies.Body.{Body}
 
 -- ---- answers apart
 
-abbrev is_refused : Decoded → Bool
-is_refused (decode.Message m) = false
-is_refused (decode.Refused r) = true
+abbrev is_refused : Result Message Refusal → Bool
+is_refused (Ok m) = false
+is_refused (Err r) = true
 
-pub not_refused : {m : Message} {r : Refusal} → decode.Message m ≡ decode.Refused r → ⊥
+pub not_refused : {m : Message} {r : Refusal} → Ok m ≡ Err r → ⊥
 not_refused e = false≢true (ap is_refused e)
 
-abbrev reason : Decoded → Refusal
-reason (decode.Message m) = Length
-reason (decode.Refused r) = r
+abbrev reason : Result Message Refusal → Refusal
+reason (Ok m) = Length
+reason (Err r) = r
 
-pub refused_as : {q r : Refusal} → decode.Refused q ≡ decode.Refused r → q ≡ r
+pub refused_as : {q r : Refusal} → ◌≡◌ {A = Result Message Refusal} (Err q) (Err r) → q ≡ r
 refused_as e = ap reason e
 
 -- 3, 4 and 5 are none of 6 and 12
@@ -70,9 +68,9 @@ not_both r (inr (inr e)) h = let n = ap number_of e in omega (arith, (later_numb
 
 -- ---- the decoder
 
-abbrev ByBody : Taken → Type 0
-ByBody (read.Body b) = Unit
-ByBody (read.Refused r) = r ≡ TypeCode
+abbrev ByBody : Result Body Refusal → Type 0
+ByBody (Ok b) = Unit
+ByBody (Err r) = r ≡ TypeCode
 
 body_refuses : (l : Layout) (n : ℕ) → ByBody (taken_as l n)
 body_refuses layout.Identification n = tt
@@ -84,13 +82,13 @@ body_refuses layout.Status n = tt
 body_refuses layout.Coarse n = tt
 body_refuses layout.NotTaken n = refl
 
-abbrev ByDecoder : Decoded → Type 0
-ByDecoder (decode.Message m) = Unit
-ByDecoder (decode.Refused r) = Undecoded r
+abbrev ByDecoder : Result Message Refusal → Type 0
+ByDecoder (Ok m) = Unit
+ByDecoder (Err r) = Undecoded r
 
-with_body_lem : (format control address : ℕ) (b : Taken) → ByBody b → ByDecoder (with_body format control address b)
-with_body_lem format control address (read.Body b) e = tt
-with_body_lem format control address (read.Refused r) e = inr (inr e)
+with_body_lem : (format control address : ℕ) (b : Result Body Refusal) → ByBody b → ByDecoder (with_body format control address b)
+with_body_lem format control address (Ok b) e = tt
+with_body_lem format control address (Err r) e = inr (inr e)
 
 module _ (message : List ℕ) where
   opened_refuses : ByDecoder (opened (bits 1 5 message) (bits 6 8 message) (bits 9 32 message) (bits 33 88 message))
@@ -102,29 +100,29 @@ module _ (message : List ℕ) where
       (λ _. by_test ByDecoder (reserved_in (bits 1 5 message) (bits 6 8 message) n) _ _ (λ _. inr (inr refl))
       (λ _. with_body_lem (bits 1 5 message) (bits 6 8 message) (bits 9 32 message) (taken_by coarse n) (body_refuses (layout_by coarse n) n)))
 
-  pub decoder_refuses : (r : Refusal) → length message ≡ 14 → decoded message ≡ decode.Refused r → Undecoded r
+  pub decoder_refuses : (r : Refusal) → length message ≡ 14 → decoded message ≡ Err r → Undecoded r
   decoder_refuses r l d =
       subst ByDecoder d
       (by_test ByDecoder (not (eqb (length message) 14)) _ _ (λ e. absurd (eqb-false (length message) 14 (not-true _ e) l))
       (λ _. by_test ByDecoder (not (eqb (remainder message) 0)) _ _ (λ _. inl refl) (λ _. opened_refuses)))
 
-  pub decoded_14 : (m : Message) → decoded message ≡ decode.Message m → length message ≡ 14
+  pub decoded_14 : (m : Message) → decoded message ≡ Ok m → length message ≡ 14
   decoded_14 m d = by_cases (eqb (length message) 14) refl
     where
       by_cases : (b : Bool) → eqb (length message) 14 ≡ b → length message ≡ 14
       by_cases true e = eqb-true _ _ e
-      by_cases false e = let short : decoded message ≡ decode.Refused Length = rw e in absurd (not_refused (sym d ∙ short))
+      by_cases false e = let short : decoded message ≡ Err Length = rw e in absurd (not_refused (sym d ∙ short))
 
   -- what it takes fits: each field is cut from its bits
-  pub decoded_fits : (m : Message) → decoded message ≡ decode.Message m → body_fits m.body ≡ true
+  pub decoded_fits : (m : Message) → decoded message ≡ Ok m → body_fits m.body ≡ true
   decoded_fits m d = (read_good (coarse_by (bits 1 5 message) (bits 6 8 message)) (bits 33 88 message) m.body (mod-lt (numeral message / 2 ^ 24) (lit< tt)) (decoded_from message m d).0).0
 
 -- ---- a call
 
-pub data Way {S : Type 0} (F : Form S) (s : S) (message : List ℕ) (t : ℕ) : After S Decoded → Type 0 where
-  short : (length message ≡ 14 → ⊥) → Way F s message t (after (decode.Refused Length) s)
-  uneven : length message ≡ 14 → F.whole s ≡ false → Way F s message t (after (decode.Refused Places) s)
-  late : length message ≡ 14 → F.whole s ≡ true → t < F.clock s → Way F s message t (after (decode.Refused Late) s)
+pub data Way {S : Type 0} (F : Form S) (s : S) (message : List ℕ) (t : ℕ) : After S (Result Message Refusal) → Type 0 where
+  short : (length message ≡ 14 → ⊥) → Way F s message t (after (Err Length) s)
+  uneven : length message ≡ 14 → F.whole s ≡ false → Way F s message t (after (Err Places) s)
+  late : length message ≡ 14 → F.whole s ≡ true → t < F.clock s → Way F s message t (after (Err Late) s)
   timely : length message ≡ 14 → F.whole s ≡ true → F.clock s ≤ t → Way F s message t (delivered F (F.moved s t) (decoded message) t)
 
 module _ {S : Type 0} (F : Form S) (s : S) (message : List ℕ) (t : ℕ) where

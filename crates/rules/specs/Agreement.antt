@@ -1,10 +1,9 @@
 -- RULES 19.2: two tables, of one form or of two, agree: each place holds what the other's holds.
-use Rattle.std.specs.Prelude.{ℕ, ◌<◌, ◌^◌, true, ◌≡◌, List, [], ◌∷◌}
-use Rattle.rules.specs.declared.answers.SetUp.{SetUp}
-use Rattle.rules.specs.declared.answers.SetUp.TheVariants.{Done}
+use Rattle.std.specs.Prelude.{ℕ, ◌<◌, ◌^◌, true, ◌≡◌, List, [], ◌∷◌, Result, Ok, ⊤}
 use Rattle.rules.specs.Form.{Cell, is_held, Form}
 use Rattle.rules.specs.Rules.{After, received}
 use Rattle.rules.specs.View.{AllFit}
+use Rattle.refusals.specs.declared.Refusal.{Refusal}
 
 -- at a clock both places are held or neither is, and if they are, with the same key and the same track
 pub record Same (clock : ℕ) (b p : Cell) : Type 0 where
@@ -27,9 +26,9 @@ pub record Alike {S T A : Type 0} (F : Form S) (G : Form T) (b : After S A) (r :
   pub left : Agree F G b.table r.table
 
 -- two set-ups answer the same, and where they are done what they leave agrees
-pub record AlikeSet {S T : Type 0} (F : Form S) (G : Form T) (b : After S SetUp) (r : After T SetUp) : Type 0 where
+pub record AlikeSet {S T : Type 0} (F : Form S) (G : Form T) (b : After S (Result ⊤ Refusal)) (r : After T (Result ⊤ Refusal)) : Type 0 where
   pub answer : b.answer ≡ r.answer
-  pub left : r.answer ≡ Done → Agree F G b.table r.table
+  pub left : r.answer ≡ Ok tt → Agree F G b.table r.table
 
 -- ---- calls one after the other
 

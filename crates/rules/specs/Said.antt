@@ -1,6 +1,5 @@
 -- RULES 3.2 to 3.6 and 19.3: what the answers say in the rules' terms, of any form: a number, or what the lent table holds; and for a received message the whole table of numbers, in its order.
-use Rattle.std.specs.Prelude.{ℕ, Bool, cond, not, ◌&&◌, List, eqb, ltb}
-use Rattle.std.proofs.Math.Option.{Option, some, none}
+use Rattle.std.specs.Prelude.{ℕ, Bool, cond, not, ◌&&◌, List, eqb, ltb, Result, Ok, Err, Option, Some, None, ⊤}
 use Rattle.refusals.specs.Numbers.{number_of}
 use Rattle.refusals.specs.Said.{Said, number, gives}
 use Rattle.positions.specs.declared.Spot.{Spot}
@@ -8,60 +7,51 @@ use Rattle.positions.specs.Positions.{pole_to_pole}
 use Rattle.layouts.specs.Said.{Values}
 use Rattle.messages.specs.Said.{earns1, earns3, earns4, earns5, key_in, starts_in, values_in}
 use Rattle.whereabouts.specs.declared.Site.{Site}
-use Rattle.rules.specs.declared.answers.Heard.{Heard}
-use Rattle.rules.specs.declared.answers.Heard.TheVariants as hear
-use Rattle.rules.specs.declared.answers.SetUp.{SetUp}
-use Rattle.rules.specs.declared.answers.SetUp.TheVariants as setting
-use Rattle.rules.specs.declared.answers.NextKey.{NextKey}
-use Rattle.rules.specs.declared.answers.NextKey.TheVariants as next
-use Rattle.rules.specs.declared.answers.Clock.{Clock}
-use Rattle.rules.specs.declared.answers.Clock.TheVariants as clocked
-use Rattle.rules.specs.declared.answers.Sited.{Sited}
-use Rattle.rules.specs.declared.answers.Sited.TheVariants as sited
 use Rattle.rules.specs.Form.{Form}
 use Rattle.rules.specs.Rules.{place_of, free_place, least_above}
+use Rattle.refusals.specs.declared.Refusal.{Refusal}
 
 -- that a call is done: it gives no values
 abbrev pub done : Said Unit
 done = gives tt
 
 -- the answer of a set-up
-abbrev pub set_up_said : SetUp → Said Unit
-set_up_said setting.Done = done
-set_up_said (setting.Refused r) = number (number_of r)
+abbrev pub set_up_said : Result ⊤ Refusal → Said Unit
+set_up_said (Ok tt) = done
+set_up_said (Err r) = number (number_of r)
 
 -- of `hear`, and what it makes of the decoder's answer: that it is done, where that has values
-abbrev pub heard_said : Heard → Said Unit
-heard_said hear.Done = done
-heard_said (hear.Refused r) = number (number_of r)
+abbrev pub heard_said : Result ⊤ Refusal → Said Unit
+heard_said (Ok tt) = done
+heard_said (Err r) = number (number_of r)
 
 abbrev pub done_or : Said Values → Said Unit
 done_or (number n) = number n
 done_or (gives v) = done
 
 -- of `next`: the next key, or that there is none
-abbrev pub next_said : NextKey → Said (Option ℕ)
-next_said (next.Key k) = gives (some k)
-next_said next.End = gives none
-next_said (next.Refused r) = number (number_of r)
+abbrev pub next_said : Result (Option ℕ) Refusal → Said (Option ℕ)
+next_said (Ok (Some k)) = gives (Some k)
+next_said (Ok None) = gives None
+next_said (Err r) = number (number_of r)
 
 -- of `clock_of`
-abbrev pub clock_said : Clock → Said ℕ
-clock_said (clocked.At t) = gives t
-clock_said (clocked.Refused r) = number (number_of r)
+abbrev pub clock_said : Result ℕ Refusal → Said ℕ
+clock_said (Ok t) = gives t
+clock_said (Err r) = number (number_of r)
 
 -- where a site is, if it is known
 abbrev pub spot_in : Site → Option Spot
-spot_in x = cond x.known (some x.spot) none
+spot_in x = cond x.known (Some x.spot) None
 
 -- of `site_of`: the site, or that there is none
-abbrev pub sited_said : Sited → Said (Option Spot)
-sited_said (sited.Site x) = gives (spot_in x)
-sited_said (sited.Refused r) = number (number_of r)
+abbrev pub sited_said : Result Site Refusal → Said (Option Spot)
+sited_said (Ok x) = gives (spot_in x)
+sited_said (Err r) = number (number_of r)
 
 -- a key, if it is one: none is 0
 abbrev pub or_none : ℕ → Option ℕ
-or_none k = cond (eqb k 0) none (some k)
+or_none k = cond (eqb k 0) None (Some k)
 
 -- the smallest key held above a given one, if there is one
 abbrev pub key_above : {S : Type 0} → Form S → S → ℕ → Option ℕ

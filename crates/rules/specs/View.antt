@@ -1,26 +1,22 @@
 -- RULES 9.2 to 9.6: the abstract table: its clock, its site, and the track of each key that it holds.
-use Rattle.std.specs.Prelude.{ℕ, ◌≤◌, ◌<◌, Bool, true, false, cond, ◌⊎◌, ◌≡◌, List, ltb}
-use Rattle.std.proofs.Math.Option.{Option, some, none}
+use Rattle.std.specs.Prelude.{ℕ, ◌≤◌, ◌<◌, Bool, true, false, cond, ◌⊎◌, ◌≡◌, List, ltb, Ok, Option, Some, None, Result, Err}
 use Rattle.refusals.specs.declared.Refusal.{Refusal}
 use Rattle.refusals.specs.declared.Refusal.TheVariants.{Length, Late, Parity, Format, TypeCode, Full, Places, NoTrack}
 use Rattle.messages.specs.declared.Message.{Message}
-use Rattle.messages.specs.declared.Decoded.TheVariants as decode
 use Rattle.messages.specs.Message.{decoded, key_of, starts}
 use Rattle.whereabouts.specs.declared.Site.{Site}
 use Rattle.track.specs.declared.Track.{Track}
 use Rattle.place.specs.Place.{Fits}
-use Rattle.rules.specs.declared.answers.NextKey.{NextKey}
-use Rattle.rules.specs.declared.answers.NextKey.TheVariants as next
 use Rattle.rules.specs.Search.{lowest}
 use Rattle.rules.specs.Form.{Cell, is_held, holds, Form}
 
 -- of n things the first that passes the test
 abbrev pub look : {C : Type 0} → (C → Bool) → (ℕ → C) → ℕ → Option C
-look is f n = cond (ltb (lowest (λ i. is (f i)) n) n) (some (f (lowest (λ i. is (f i)) n))) none
+look is f n = cond (ltb (lowest (λ i. is (f i)) n) n) (Some (f (lowest (λ i. is (f i)) n))) None
 
 abbrev pub track_in : Option Cell → Option Track
-track_in none = none
-track_in (some c) = some c.track
+track_in None = None
+track_in (Some c) = Some c.track
 
 -- the track of a key at a clock: that of the lowest place held with the key, if there is one
 unfoldable pub view_at : {S : Type 0} → Form S → ℕ → S → ℕ → Option Track
@@ -48,7 +44,7 @@ pub record Fresh {S : Type 0} (F : Form S) (site : Site) (s : S) : Type 0 where
   pub table : Table F s
   pub clock : F.clock s ≡ 0
   pub sited : F.site s ≡ site
-  pub unheld : (key : ℕ) → view F s key ≡ none
+  pub unheld : (key : ℕ) → view F s key ≡ None
 
 -- no place holds the key at the clock
 abbrev pub Unheld : {S : Type 0} → Form S → ℕ → ℕ → S → Type 0
@@ -77,11 +73,11 @@ Later r = Undecoded r ⊎ Unplaced r
 
 -- a message that the decoder takes, and that may start a track, and no room for its key
 abbrev pub NoRoom : {S : Type 0} → Form S → ℕ → S → List ℕ → Type 0
-NoRoom F time s message = (m : Message) × ((decoded message ≡ decode.Message m) × ((starts m ≡ true) × AllTaken F time (key_of m) s))
+NoRoom F time s message = (m : Message) × ((decoded message ≡ Ok m) × ((starts m ≡ true) × AllTaken F time (key_of m) s))
 
 -- one that may not, and no track of its key
 abbrev pub NoneToStep : {S : Type 0} → Form S → ℕ → S → List ℕ → Type 0
-NoneToStep F time s message = (m : Message) × ((decoded message ≡ decode.Message m) × ((starts m ≡ false) × Unheld F time (key_of m) s))
+NoneToStep F time s message = (m : Message) × ((decoded message ≡ Ok m) × ((starts m ≡ false) × Unheld F time (key_of m) s))
 
 -- ---- the walk in the order of the keys
 
@@ -90,7 +86,7 @@ abbrev pub HeldKey : {S : Type 0} → Form S → S → ℕ → Type 0
 HeldKey F s key = (i : ℕ) × ((i < F.count s) × (holds (F.clock s) key (F.cell s i) ≡ true))
 
 -- what the answer says of the keys held
-abbrev pub Follows : {S : Type 0} → Form S → S → ℕ → NextKey → Type 0
-Follows F s above (next.Key key) = HeldKey F s key × ((above < key) × ((other : ℕ) → above < other → HeldKey F s other → key ≤ other))
-Follows F s above next.End = (other : ℕ) → above < other → HeldKey F s other → ⊥
-Follows F s above (next.Refused r) = ⊥
+abbrev pub Follows : {S : Type 0} → Form S → S → ℕ → Result (Option ℕ) Refusal → Type 0
+Follows F s above (Ok (Some key)) = HeldKey F s key × ((above < key) × ((other : ℕ) → above < other → HeldKey F s other → key ≤ other))
+Follows F s above (Ok None) = (other : ℕ) → above < other → HeldKey F s other → ⊥
+Follows F s above (Err r) = ⊥

@@ -4,49 +4,12 @@ ghost use Rattle.rules.specs.Keys.{key_or_end};
 ghost use Rattle.rules.specs.Rules.{turned_away};
 
 use refusals::Refusal;
-use whereabouts::Site;
-
-#[derive(Clone, Copy)]
-pub enum SetUp {
-    Done,
-    Refused(Refusal),
-}
-
-// Of a received message, where nobody asks what it says.
-#[derive(Clone, Copy)]
-pub enum Heard {
-    Done,
-    Refused(Refusal),
-}
-
-#[derive(Clone, Copy)]
-pub enum NextKey {
-    Key(u32),
-    End,
-    Refused(Refusal),
-}
-
-#[derive(Clone, Copy)]
-pub enum Clock {
-    At(u64),
-    Refused(Refusal),
-}
-
-#[derive(Clone, Copy)]
-pub enum Sited {
-    Site(Site),
-    Refused(Refusal),
-}
 
 // The key 0 is nobody's, and stands for the end.
-pub fn key_or_end(key: u32) -> NextKey
+pub fn key_or_end(key: u32) -> Option<u32>
     ensures { result ≡ key_or_end key }
 {
-    if key == 0 {
-        NextKey::End
-    } else {
-        NextKey::Key(key)
-    }
+    if key == 0 { None } else { Some(key) }
 }
 
 // What a message earns whose key is not held and that gets no place: one that starts a track finds the table full.

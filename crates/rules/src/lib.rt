@@ -3,4 +3,4 @@
 
 mod answers;
 
-pub use answers::{Clock, Heard, NextKey, SetUp, Sited, key_or_end, turned_away};
+pub use answers::{key_or_end, turned_away};

@@ -10,29 +10,26 @@ ghost use Rattle.signs.specs.Raised.{raised};
 pub fn widen(z: i32) -> i64
     ensures { result ≡ z }
 {
-    z as i64
+    i64::from(z)
 }
 
 // Whether a number is below zero.
 pub fn is_below(z: i64) -> bool
     ensures { result ≡ lt_z z (pos 0) }
 {
-    z < 0
+    z.is_negative()
 }
 
-// The size of a number, of the lowest too: -(z + 1) + 1 fits.
+// The size of a number, of the lowest too.
 pub fn size_of(z: i64) -> u64
     ensures { result ≡ nat_abs z }
 {
-    if z < 0 {
-        return (-(z + 1)) as u64 + 1;
-    }
-    z as u64
+    z.unsigned_abs()
 }
 
 // A number 2^32 up, so that none is below zero.
 pub fn raise(z: i32) -> u64
     ensures { result ≡ raised z }
 {
-    (z as i64 + 4294967296) as u64
+    (i64::from(z) + 0x1_0000_0000) as u64
 }

@@ -1,17 +1,15 @@
 // A table of four places on the stack: a message is received in it, and a key is looked up. It prints what each answers.
 #![tactic(auto)]
 
-use messages::Decoded;
-use positions::Spot;
+use refusals::Refusal;
 use slice_table::{Head, Place, Received};
 use std::io;
-use track::{Holding, Looked};
-use whereabouts::Site;
+use track::Track;
 
 #[derive(Clone, Copy)]
 struct Heard {
     pub received: Received,
-    pub look: Looked,
+    pub look: Result<Option<Track>, Refusal>,
 }
 
 fn nobody() -> Place {
@@ -21,54 +19,34 @@ fn nobody() -> Place {
     }
 }
 
-fn room() -> [Place; 4] {
-    let p = nobody();
-    [p, p, p, p]
-}
-
 fn fresh() -> Head {
     Head {
         clock: 0,
-        site: Site {
-            known: false,
-            spot: Spot {
-                latitude: 0,
-                longitude: 0,
-            },
-        },
-    }
-}
-
-fn head_in(r: Received) -> Head {
-    let head = r.head;
-    head
-}
-
-fn both(r: Received, look: Looked) -> Heard {
-    Heard {
-        received: r,
-        look: look,
+        site: whereabouts::no_site(),
     }
 }
 
 fn rehearse(message: &[u8], time: u64, key: u32) -> Heard {
-    let mut places = room();
-    let r = slice_table::receive(&mut places, fresh(), message, time);
-    both(r, slice_table::look_up(&places, head_in(r), key))
+    let mut places = [nobody(); 4];
+    let received = slice_table::receive(&mut places, fresh(), message, time);
+    Heard {
+        received,
+        look: slice_table::look_up(&places, received.head, key),
+    }
 }
 
 fn say_received(out: &impl Print, r: Received) -> io::Result<()> {
     match r.answer {
-        Decoded::Message(m) => print!(out; "message {}", messages::key_of(m)),
-        Decoded::Refused(n) => print!(out; "refused {}", refusals::number(n)),
+        Ok(m) => print!(out; "message {}", messages::key_of(m)),
+        Err(r) => print!(out; "refused {}", refusals::number(r)),
     }
 }
 
-fn say_looked(out: &impl Print, l: Looked) -> io::Result<()> {
-    match l.answer {
-        Holding::Held => print!(out; " held {}", l.track.heard),
-        Holding::Unheld => out.print(" unheld"),
-        Holding::Refused(n) => print!(out; " refused {}", refusals::number(n)),
+fn say_looked(out: &impl Print, look: Result<Option<Track>, Refusal>) -> io::Result<()> {
+    match look {
+        Ok(Some(t)) => print!(out; " held {}", t.heard),
+        Ok(None) => out.print(" unheld"),
+        Err(r) => print!(out; " refused {}", refusals::number(r)),
     }?;
     out.print("\n")
 }

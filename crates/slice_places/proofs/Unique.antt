@@ -12,36 +12,20 @@ use Rattle.slice_places.proofs.places_fit.Kinds as places-fit-kinds
 use Rattle.slice_places.proofs.places_fit.Reads as places-fit
 use Rattle.slice_places.proofs.site_of.Kinds as site-of-kinds
 use Rattle.slice_places.proofs.site_of.Reads as site-of
-use Rattle.slice_places.proofs.misfits.Kinds as misfits-kinds
-use Rattle.slice_places.proofs.misfits.Reads as misfits
 use Rattle.slice_places.proofs.seek.Kinds as seek-kinds
 use Rattle.slice_places.proofs.seek.Reads as seek
 use Rattle.slice_places.proofs.start.Kinds as start-kinds
 use Rattle.slice_places.proofs.start.Reads as start
-use Rattle.slice_places.proofs.is_done.Kinds as is-done-kinds
-use Rattle.slice_places.proofs.is_done.Reads as is-done
 use Rattle.slice_places.proofs.look_at.Kinds as look-at-kinds
 use Rattle.slice_places.proofs.look_at.Reads as look_at
-use Rattle.slice_places.proofs.unheld.Kinds as unheld-kinds
-use Rattle.slice_places.proofs.unheld.Reads as unheld
-use Rattle.slice_places.proofs.not_looked.Kinds as not-looked-kinds
-use Rattle.slice_places.proofs.not_looked.Reads as not-looked
 use Rattle.slice_places.proofs.better_of.Kinds as better-of-kinds
 use Rattle.slice_places.proofs.better_of.Reads as better-of
-use Rattle.slice_places.proofs.no_next.Kinds as no-next-kinds
-use Rattle.slice_places.proofs.no_next.Reads as no-next
 use Rattle.slice_places.proofs.arrivals.judge.Kinds as judge-kinds
 use Rattle.slice_places.proofs.arrivals.judge.Reads as judge
-use Rattle.slice_places.proofs.arrivals.is_refused.Kinds as is-refused-kinds
-use Rattle.slice_places.proofs.arrivals.is_refused.Reads as is-refused
 use Rattle.slice_places.proofs.arrivals.sought_by.Kinds as sought-by-kinds
 use Rattle.slice_places.proofs.arrivals.sought_by.Reads as sought-by
 use Rattle.slice_places.proofs.arrivals.next_of.Kinds as next-of-kinds
 use Rattle.slice_places.proofs.arrivals.next_of.Reads as next_of
-use Rattle.slice_places.proofs.arrivals.place_in.Kinds as place-in-kinds
-use Rattle.slice_places.proofs.arrivals.place_in.Reads as IsPlace-in
-use Rattle.slice_places.proofs.arrivals.received_in.Kinds as received-in-kinds
-use Rattle.slice_places.proofs.arrivals.received_in.Reads as received-in
 use Rattle.slice_places.proofs.arrivals.turned_away.Kinds as turned-away-kinds
 use Rattle.slice_places.proofs.arrivals.turned_away.Reads as turned-away
 
@@ -60,50 +44,26 @@ places_fit_once κs args x y left left' p q = p ∙ sym q
 pub site_of_once : OneAnswer 0 site-of-kinds.ps site-of-kinds.r site-of.Post
 site_of_once κs args x y left left' p q = p ∙ sym q
 
-pub misfits_once : OneAnswer 0 misfits-kinds.ps misfits-kinds.r misfits.Post
-misfits_once κs args x y left left' p q = p ∙ sym q
-
 pub seek_once : OneAnswer 0 seek-kinds.ps seek-kinds.r seek.Post
 seek_once κs args x y left left' p q = p ∙ sym q
 
 pub start_once : OneAnswer 0 start-kinds.ps start-kinds.r start.Post
 start_once κs args x y left left' p q = p ∙ sym q
 
-pub is_done_once : OneAnswer 0 is-done-kinds.ps is-done-kinds.r is-done.Post
-is_done_once κs args x y left left' p q = p ∙ sym q
-
 pub look_at_once : OneAnswer 0 look-at-kinds.ps look-at-kinds.r look_at.Post
 look_at_once κs args x y left left' p q = p ∙ sym q
-
-pub unheld_once : OneAnswer 0 unheld-kinds.ps unheld-kinds.r unheld.Post
-unheld_once κs args x y left left' p q = p ∙ sym q
-
-pub not_looked_once : OneAnswer 0 not-looked-kinds.ps not-looked-kinds.r not-looked.Post
-not_looked_once κs args x y left left' p q = p ∙ sym q
 
 pub better_of_once : OneAnswer 0 better-of-kinds.ps better-of-kinds.r better-of.Post
 better_of_once κs args x y left left' p q = p ∙ sym q
 
-pub no_next_once : OneAnswer 0 no-next-kinds.ps no-next-kinds.r no-next.Post
-no_next_once κs args x y left left' p q = p ∙ sym q
-
 pub judge_once : OneAnswer 1 judge-kinds.ps judge-kinds.r judge.Post
 judge_once κs args x y left left' p q = p ∙ sym q
-
-pub is_refused_once : OneAnswer 0 is-refused-kinds.ps is-refused-kinds.r is-refused.Post
-is_refused_once κs args x y left left' p q = p ∙ sym q
 
 pub sought_by_once : OneAnswer 0 sought-by-kinds.ps sought-by-kinds.r sought-by.Post
 sought_by_once κs args x y left left' p q = p ∙ sym q
 
 pub next_of_once : OneAnswer 0 next-of-kinds.ps next-of-kinds.r next_of.Post
 next_of_once κs args x y left left' p q = p ∙ sym q
-
-pub place_in_once : OneAnswer 0 place-in-kinds.ps place-in-kinds.r IsPlace-in.Post
-place_in_once κs args x y left left' p q = p ∙ sym q
-
-pub received_in_once : OneAnswer 0 received-in-kinds.ps received-in-kinds.r received-in.Post
-received_in_once κs args x y left left' p q = p ∙ sym q
 
 pub turned_away_once : OneAnswer 0 turned-away-kinds.ps turned-away-kinds.r turned-away.Post
 turned_away_once κs args x y left left' p q = p ∙ sym q

@@ -1,9 +1,7 @@
 -- RULES 9.5: what a message that arrives earns, and what it puts at its place: decided by value for the functions that touch the slice.
-use Rattle.std.specs.Prelude.{ℕ, Bool, true, false, cond, not, List, eqb, ltb, length}
+use Rattle.std.specs.Prelude.{ℕ, Bool, false, cond, not, List, eqb, ltb, length, Result, Ok, Err}
 use Rattle.refusals.specs.declared.Refusal.{Refusal}
 use Rattle.refusals.specs.declared.Refusal.TheVariants.{Length, Late, Places}
-use Rattle.messages.specs.declared.Decoded.{Decoded}
-use Rattle.messages.specs.declared.Decoded.TheVariants as decode
 use Rattle.messages.specs.Message.{decoded, key_of, starts}
 use Rattle.track.specs.declared.Stepped.{Stepped}
 use Rattle.track.specs.declared.Track.{Track}
@@ -16,9 +14,10 @@ use Rattle.slice_places.specs.Ranges.{meaning_of, holds}
 use Rattle.slice_places.specs.Head.{places_fit, moved, site_of}
 use Rattle.slice_places.specs.declared.arrivals.Received.{Received}
 use Rattle.slice_places.specs.declared.arrivals.Renewal.{Renewal}
+use Rattle.messages.specs.declared.Message.{Message}
 
 abbrev pub refused_with : Refusal → Head → Received
-refused_with r head = record { answer = decode.Refused r; head = head }
+refused_with r head = record { answer = Err r; head = head }
 
 -- 1, 7, 2, and then what the decoder says, with the clock moved
 unfoldable pub judged : ℕ → Head → List ℕ → ℕ → Received
@@ -28,19 +27,15 @@ judged n head message time =
     (cond (ltb time head.clock) (refused_with Late head)
     (record { answer = decoded message; head = moved head time })))
 
-abbrev pub is_refused : Decoded → Bool
-is_refused (decode.Refused r) = true
-is_refused (decode.Message m) = false
-
 -- 0 of a refusal, which is no key
-abbrev pub key_in : Decoded → ℕ
-key_in (decode.Refused r) = 0
-key_in (decode.Message m) = key_of m
+abbrev pub key_in : Result Message Refusal → ℕ
+key_in (Err r) = 0
+key_in (Ok m) = key_of m
 
 -- a refusal starts no track
-abbrev pub starts_in : Decoded → Bool
-starts_in (decode.Refused r) = false
-starts_in (decode.Message m) = starts m
+abbrev pub starts_in : Result Message Refusal → Bool
+starts_in (Err r) = false
+starts_in (Ok m) = starts m
 
 -- the track that a place holds at the clock with the key, or a new one
 unfoldable pub track_in : Sought → Place → Track

@@ -1,14 +1,9 @@
 -- RULES 19.2: what is decided of the places by value, where no message is at hand: in a set-up, a look and a walk.
-use Rattle.std.specs.Prelude.{ℕ, Bool, true, false, cond, not, ◌&&◌}
+use Rattle.std.specs.Prelude.{ℕ, false, cond, not, ◌&&◌, Ok, Err}
 use Rattle.refusals.specs.declared.Refusal.{Refusal}
 use Rattle.refusals.specs.declared.Refusal.TheVariants.{Places, Field}
 use Rattle.positions.specs.Positions.{pole_to_pole}
 use Rattle.whereabouts.specs.declared.Site.{Site}
-use Rattle.track.specs.declared.Track.{Track}
-use Rattle.track.specs.declared.held.Holding.{Holding}
-use Rattle.track.specs.declared.held.Looked.{Looked}
-use Rattle.rules.specs.declared.answers.SetUp.{SetUp}
-use Rattle.rules.specs.declared.answers.SetUp.TheVariants as setting
 use Rattle.rules.specs.Search as search
 use Rattle.slice_places.specs.declared.Place.{Place}
 use Rattle.slice_places.specs.declared.Head.{Head}
@@ -25,22 +20,13 @@ sought clock key = record { clock = clock; key = key; starts = false }
 
 -- a refusal leaves the head as it was
 abbrev pub not_started : Refusal → Head → Started
-not_started r head = record { answer = setting.Refused r; head = head }
+not_started r head = record { answer = Err r; head = head }
 
 unfoldable pub started : ℕ → Head → Site → Started
 started n head site =
     cond (not (places_fit n)) (not_started Places head)
     (cond (site.known && not (pole_to_pole site.spot.latitude)) (not_started Field head)
-    (record { answer = setting.Done; head = head_of 0 site }))
-
-abbrev pub is_done : SetUp → Bool
-is_done setting.Done = true
-is_done (setting.Refused r) = false
-
--- ---- a look
-
-abbrev pub looked : Holding → Track → Looked
-looked answer t = record { answer = answer; track = t }
+    (record { answer = Ok tt; head = head_of 0 site }))
 
 -- ---- the next key
 

@@ -15,22 +15,15 @@
 mod arrivals;
 mod ranges;
 
-ghost use Rattle.std.specs.Prelude.{◌≡◌, not};
-ghost use Rattle.track.specs.Track.{new_track};
-ghost use Rattle.track.specs.declared.held.Holding.TheVariants as holding;
-ghost use Rattle.rules.specs.declared.answers.NextKey.TheVariants as next;
-ghost use Rattle.refusals.specs.declared.Refusal.TheVariants.{Places};
+ghost use Rattle.std.specs.Prelude.{◌≡◌};
 ghost use Rattle.slice_places.specs.Ranges.{no_place, meaning_of};
 ghost use Rattle.slice_places.specs.Head.{places_fit, site_of};
-ghost use Rattle.slice_places.specs.Decided.{sought, not_started, started, is_done, looked, better};
+ghost use Rattle.slice_places.specs.Decided.{sought, not_started, started, better};
 
-pub use arrivals::{
-    Received, Renewal, is_refused, judge, next_of, place_in, received_in, sought_by, turned_away,
-};
+pub use arrivals::{Received, Renewal, judge, next_of, sought_by, turned_away};
 pub use ranges::{has_key, is_held};
 use refusals::Refusal;
-use rules::{NextKey, SetUp};
-use track::{Holding, Looked, Track};
+use track::Track;
 use whereabouts::Site;
 
 // A track and its key; the key 0 is nobody's.
@@ -47,10 +40,10 @@ pub struct Head {
     pub site: Site,
 }
 
-// What set-up answers, and the head to go on with.
+// What set-up answers, and the head to go on with: a refusal gives back the one that came in.
 #[derive(Clone, Copy)]
 pub struct Started {
-    pub answer: SetUp,
+    pub answer: Result<(), Refusal>,
     pub head: Head,
 }
 
@@ -71,24 +64,19 @@ pub fn no_place() -> Place
     }
 }
 
+#[tactic(auto, unfolding(crate::specs::Head::places_fit))]
 pub fn places_fit(n: usize) -> bool
     ensures { result ≡ places_fit n }
 {
     (1 <= n) & (n <= memory::MOST_PLACES)
 }
 
-pub fn misfits(n: usize) -> bool
-    ensures { result ≡ not (places_fit n) }
-{
-    !places_fit(n)
-}
-
+#[tactic(auto, unfolding(crate::specs::Head::site_of))]
 pub fn site_of(head: Head) -> Site
     ensures { result ≡ site_of head }
 {
     let site = head.site;
-    let spot = site.spot;
-    if site.known & whereabouts::pole_to_pole(spot) {
+    if site.known & whereabouts::pole_to_pole(site.spot) {
         site
     } else {
         whereabouts::no_site()
@@ -100,7 +88,7 @@ pub fn seek(head: Head, key: u32) -> Sought
 {
     Sought {
         clock: head.clock,
-        key: key,
+        key,
         starts: false,
     }
 }
@@ -109,84 +97,43 @@ fn not_started(refusal: Refusal, head: Head) -> Started
     ensures { result ≡ not_started refusal head }
 {
     Started {
-        answer: SetUp::Refused(refusal),
-        head: head,
+        answer: Err(refusal),
+        head,
     }
 }
 
 // What is known of a set-up before the slice is touched: 7, then 8, each with the head as it was.
+#[tactic(auto, unfolding(crate::specs::Decided::started))]
 pub fn start(n: usize, head: Head, site: Site) -> Started
     ensures { result ≡ started n head site }
 {
     if !places_fit(n) {
         return not_started(Refusal::Places, head);
     }
-    let spot = site.spot;
-    if site.known & !whereabouts::pole_to_pole(spot) {
+    if site.known & !whereabouts::pole_to_pole(site.spot) {
         return not_started(Refusal::Field, head);
     }
     Started {
-        answer: SetUp::Done,
-        head: Head {
-            clock: 0,
-            site: site,
-        },
+        answer: Ok(()),
+        head: Head { clock: 0, site },
     }
 }
 
-pub fn is_done(s: Started) -> bool
-    ensures { result ≡ is_done s.answer }
+pub fn look_at(p: Place) -> Track
+    ensures { result ≡ meaning_of p }
 {
-    let answer = s.answer;
-    let SetUp::Done = answer else {
-        return false;
-    };
-    true
-}
-
-pub fn look_at(p: Place) -> Looked
-    ensures { result ≡ looked holding.Held (meaning_of p) }
-{
-    let t = p.track;
-    Looked {
-        answer: Holding::Held,
-        track: track::meant(t),
-    }
-}
-
-pub fn unheld() -> Looked
-    ensures { result ≡ looked holding.Unheld new_track }
-{
-    Looked {
-        answer: Holding::Unheld,
-        track: track::new_track(),
-    }
-}
-
-pub fn not_looked() -> Looked
-    ensures { result ≡ looked (holding.Refused Places) new_track }
-{
-    Looked {
-        answer: Holding::Refused(Refusal::Places),
-        track: track::new_track(),
-    }
+    track::meant(p.track)
 }
 
 // The lesser of the best key so far, 0 for none, and the place's, if that is held and above.
+#[tactic(auto, unfolding(rules::specs::Search::better))]
 pub fn better_of(best: u32, p: Place, s: Sought) -> u32
     ensures { result ≡ better s.clock s.key best p }
 {
     let key = p.key;
-    if (s.key < key) & ((best == 0) | (key < best)) {
-        if ranges::is_held(s.clock, p) {
-            return key;
-        }
+    if (s.key < key) & ((best == 0) | (key < best)) && ranges::is_held(s.clock, p) {
+        key
+    } else {
+        best
     }
-    best
-}
-
-pub fn no_next() -> NextKey
-    ensures { result ≡ next.Refused Places }
-{
-    NextKey::Refused(Refusal::Places)
 }

@@ -8,6 +8,7 @@ use crate::Place;
 use track::{Groups, Track};
 use whereabouts::Saved;
 
+#[tactic(auto, unfolding(crate::specs::Ranges::groups_fit))]
 fn groups_fit(g: Groups) -> bool
     ensures { result ≡ groups_fit g }
 {
@@ -26,6 +27,7 @@ fn count_size(coarse: bool) -> u32
     if coarse { 4096 } else { 131072 }
 }
 
+#[tactic(auto, unfolding(crate::specs::Ranges::counts_fit))]
 fn counts_fit(v: Saved) -> bool
     ensures { result ≡ counts_fit v }
 {
@@ -33,39 +35,35 @@ fn counts_fit(v: Saved) -> bool
     (v.counts.latitude.0 < size) & (v.counts.longitude.0 < size)
 }
 
+#[tactic(auto, unfolding(crate::specs::Ranges::track_fits))]
 fn track_fits(t: Track) -> bool
     ensures { result ≡ track_fits t }
 {
-    let g = t.groups;
-    let p = t.position;
-    let spot = p.spot;
-    let saved = t.saved;
-    let even = saved[0];
-    let odd = saved[1];
-    groups_fit(g) & whereabouts::pole_to_pole(spot) & counts_fit(even) & counts_fit(odd)
+    let [even, odd] = t.saved;
+    groups_fit(t.groups)
+        & whereabouts::pole_to_pole(t.position.spot)
+        & counts_fit(even)
+        & counts_fit(odd)
 }
 
+#[tactic(auto, unfolding(crate::specs::Ranges::in_range))]
 fn in_range(p: Place) -> bool
     ensures { result ≡ in_range p }
 {
-    let t = p.track;
-    keys::is_key(p.key) & track_fits(t)
+    keys::is_key(p.key) & track_fits(p.track)
 }
 
+#[tactic(auto, unfolding(rules::specs::Form::is_held, track::specs::Meaning::meant))]
 pub fn is_held(clock: u64, p: Place) -> bool
     ensures { result ≡ is_held clock p }
 {
-    let t = p.track;
-    in_range(p) & track::is_in_date(clock, t.heard)
+    in_range(p) & track::is_in_date(clock, p.track.heard)
 }
 
 // Ranges and age are tested only where the key is equal.
+#[tactic(auto, unfolding(rules::specs::Form::holds))]
 pub fn has_key(clock: u64, key: u32, p: Place) -> bool
     ensures { result ≡ holds clock key p }
 {
-    if p.key == key {
-        is_held(clock, p)
-    } else {
-        false
-    }
+    p.key == key && is_held(clock, p)
 }

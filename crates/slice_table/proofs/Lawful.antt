@@ -16,6 +16,7 @@ use Rattle.track.specs.declared.Groups.{Groups}
 use Rattle.track.specs.declared.Track.{Track}
 use Rattle.track.specs.Track.{no_saved}
 use Rattle.track.specs.Meaning.{NothingForeign}
+use Rattle.track.specs.Held.{track_or_new}
 use Rattle.place.specs.Place.{Fits, FitsGroups, FitsSaved}
 use Rattle.slice_places.specs.declared.Place.{Place}
 use Rattle.slice_places.specs.declared.Head.{Head}
@@ -110,5 +111,5 @@ slice_lawful =
     }
 
 -- whatever the places, a look hands out no ME of a foreign TYPE, and nothing where a mark is not set
-pub looked_nothing_foreign : (ps : List Place) (head : Head) (key : ℕ) → NothingForeign (looked_up ps head key).track
+pub looked_nothing_foreign : (ps : List Place) (head : Head) (key : ℕ) → NothingForeign (track_or_new (looked_up ps head key))
 looked_nothing_foreign ps head key = any.looked_nothing_foreign slice (slice_of head ps) key (λ i. any_place_nothing_foreign (get_or ps i no_place))

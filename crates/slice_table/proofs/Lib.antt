@@ -1,5 +1,4 @@
 pub mod Ways
-pub mod Filled
 pub mod Scanned
 pub mod Delivered
 pub mod Unique

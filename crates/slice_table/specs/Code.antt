@@ -1,16 +1,17 @@
 -- What private functions promise to each other: the scan of the places for a key and for a free one, which is sought only for a message that starts a track. No public contract cites this file.
-use Rattle.std.specs.Prelude.{ℕ, suc, Bool, cond, not, ◌&&◌, List, ltb, get_or}
+use Rattle.std.specs.Prelude.{ℕ, suc, Bool, cond, not, ◌&&◌, List, ltb, get_or, Result}
 use Rattle.rules.specs.Search.{lowest}
 use Rattle.slice_places.specs.declared.Place.{Place}
 use Rattle.slice_places.specs.declared.Sought.{Sought}
 use Rattle.slice_places.specs.Ranges.{no_place, is_held, holds}
 use Rattle.slice_table.specs.declared.Found.{Found}
-use Rattle.messages.specs.declared.Decoded.{Decoded}
 use Rattle.rules.specs.Rules as rules
 use Rattle.rules.specs.Search as search
 use Rattle.slice_places.specs.declared.Head.{Head}
 use Rattle.slice_table.specs.Slice.{slice_of, slice}
 use Rattle.slice_table.specs.Tracks.{After}
+use Rattle.messages.specs.declared.Message.{Message}
+use Rattle.refusals.specs.declared.Refusal.{Refusal}
 
 abbrev pub none_found : Found
 none_found = record { own = 0; free = 0 }
@@ -38,7 +39,7 @@ scanned ps s n =
 abbrev pub chosen : Found → ℕ → ℕ
 chosen found n = cond (ltb found.own n) found.own found.free
 
-abbrev pub delivered : List Place → Head → Decoded → After Decoded
+abbrev pub delivered : List Place → Head → Result Message Refusal → After (Result Message Refusal)
 delivered ps head d = rules.delivered slice (slice_of head ps) d head.clock
 
 -- the smallest key above that the first n places hold; 0 if there is none

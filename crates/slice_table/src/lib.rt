@@ -9,13 +9,13 @@ ghost use Rattle.std.specs.Prelude.{◌≡◌, length};
 ghost use Rattle.slice_table.specs.Tracks.{after, emptied, set_up, received, looked_up, next_above};
 ghost use Rattle.slice_table.specs.Code.{delivered, smallest, scanned};
 
-use rules::NextKey;
+use refusals::Refusal;
 use slice_places::Sought;
 pub use slice_places::{Head, Place, Received, Started};
-use track::Looked;
+use track::Track;
 use whereabouts::Site;
 
-// The lowest place held with the key and the lowest free one, each the number of places if there is none.
+// The lowest place held with the key and the lowest free one, each the number of places if there is none: so one comparison both tests and bounds it.
 #[derive(Clone, Copy)]
 pub(crate) struct Found {
     pub own: usize,
@@ -26,12 +26,9 @@ pub(crate) struct Found {
 fn scan(places: &[Place], s: Sought) -> Found
     ensures { result ≡ scanned places.now s (length places.now) }
 {
-    let mut found = search::none_found();
-    let mut i = 0;
-    while i < places.len() {
-        let p = places[i];
-        found = search::visit(found, p, i, s);
-        i += 1;
+    let mut found = Found { own: 0, free: 0 };
+    for (i, p) in places.iter().enumerate() {
+        found = search::visit(found, *p, i, s);
     }
     found
 }
@@ -39,12 +36,7 @@ fn scan(places: &[Place], s: Sought) -> Found
 fn clear(places: &mut [Place])
     ensures { places.new ≡ emptied places.old }
 {
-    let p = slice_places::no_place();
-    let mut i = 0;
-    while i < places.len() {
-        places[i] = p;
-        i += 1;
-    }
+    places.fill(slice_places::no_place());
 }
 
 // Empties the places, and takes the site if it is known. A refusal leaves the places and the head as they were.
@@ -52,9 +44,8 @@ pub fn set_up(places: &mut [Place], head: Head, site: Site) -> Started
     ensures { after result.answer result.head places.new ≡ set_up places.old head site }
 {
     let s = slice_places::start(places.len(), head, site);
-    if slice_places::is_done(s) {
+    if s.answer.is_ok() {
         clear(places);
-        return s;
     }
     s
 }
@@ -63,14 +54,14 @@ pub fn set_up(places: &mut [Place], head: Head, site: Site) -> Started
 fn deliver(places: &mut [Place], due: Received) -> Received
     ensures { after result.answer result.head places.new ≡ delivered places.old due.head due.answer }
 {
-    if slice_places::is_refused(due) {
+    if due.answer.is_err() {
         return due;
     }
     let i = search::choose(scan(places, slice_places::sought_by(due)), places.len());
     if i < places.len() {
         let next = slice_places::next_of(due, places[i]);
-        places[i] = slice_places::place_in(next);
-        return slice_places::received_in(next);
+        places[i] = next.place;
+        return next.received;
     }
     slice_places::turned_away(due)
 }
@@ -84,38 +75,36 @@ pub fn receive(places: &mut [Place], head: Head, message: &[u8], time: u64) -> R
 }
 
 // The track of a key.
-pub fn look_up(places: &[Place], head: Head, key: u32) -> Looked
+pub fn look_up(places: &[Place], head: Head, key: u32) -> Result<Option<Track>, Refusal>
     ensures { result ≡ looked_up places.now head key }
 {
-    if slice_places::misfits(places.len()) {
-        return slice_places::not_looked();
+    if !slice_places::places_fit(places.len()) {
+        return Err(Refusal::Places);
     }
-    let i = search::own(scan(places, slice_places::seek(head, key)));
+    let i = scan(places, slice_places::seek(head, key)).own;
     if i < places.len() {
-        return slice_places::look_at(places[i]);
+        Ok(Some(slice_places::look_at(places[i])))
+    } else {
+        Ok(None)
     }
-    slice_places::unheld()
 }
 
 fn smallest_above(places: &[Place], s: Sought) -> u32
     ensures { result ≡ smallest places.now s.clock s.key (length places.now) }
 {
     let mut best = 0;
-    let mut i = 0;
-    while i < places.len() {
-        let p = places[i];
-        best = slice_places::better_of(best, p, s);
-        i += 1;
+    for p in places {
+        best = slice_places::better_of(best, *p, s);
     }
     best
 }
 
 // The smallest key held above a given one: from 0 on, this walks the places in the order of their keys.
-pub fn next(places: &[Place], head: Head, above: u32) -> NextKey
+pub fn next(places: &[Place], head: Head, above: u32) -> Result<Option<u32>, Refusal>
     ensures { result ≡ next_above places.now head above }
 {
-    if slice_places::misfits(places.len()) {
-        return slice_places::no_next();
+    if !slice_places::places_fit(places.len()) {
+        return Err(Refusal::Places);
     }
-    rules::key_or_end(smallest_above(places, slice_places::seek(head, above)))
+    Ok(rules::key_or_end(smallest_above(places, slice_places::seek(head, above))))
 }

@@ -1,21 +1,9 @@
 // One turn of the scan, and what is made of what it found, by value: the loop only reads and calls.
 ghost use Rattle.std.specs.Prelude.{◌≡◌, ◌<◌};
-ghost use Rattle.slice_table.specs.Code.{none_found, further, visited, chosen};
+ghost use Rattle.slice_table.specs.Code.{further, visited, chosen};
 
 use crate::Found;
 use slice_places::{Place, Sought};
-
-pub(crate) fn none_found() -> Found
-    ensures { result ≡ none_found }
-{
-    Found { own: 0, free: 0 }
-}
-
-pub(crate) fn own(found: Found) -> usize
-    ensures { result ≡ found.own }
-{
-    found.own
-}
 
 // The lowest number so far, or else the next one if it passes.
 fn farther(best: usize, i: usize, passes: bool) -> usize
@@ -29,6 +17,7 @@ fn farther(best: usize, i: usize, passes: bool) -> usize
 }
 
 // One place of the scan.
+#[tactic(auto, unfolding(crate::specs::Code::visited))]
 pub(crate) fn visit(found: Found, p: Place, i: usize, s: Sought) -> Found
     requires { i < 9223372036854775808 }
     ensures { result ≡ visited found p i s }

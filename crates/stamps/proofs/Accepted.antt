@@ -1,31 +1,29 @@
 -- An accepted stamp is one not refused with 1, 7, 2 or 13: what keeps a stamp from being accepted is one of these, and what a message earns at an accepted one is none of them. So the state takes a stamp exactly when the answer says so, and else nothing changes.
 -- Assumes nothing.
+use Rattle.std.specs.Prelude.{Result, Ok, Err}
 use Rattle.std.proofs.Common.{◌≡◌, ℕ, ◌+◌, ◌^◌, ◌<◌, ◌≤◌, Bool, true, false, cond, not, eqb, ltb, leb, List, length, sym, refl, ap, ◌∙◌, inl, inr, ⊎_elim, true≢false, arith, ltb-false, eqb-true, leb-false}
 use borrow.Author.Tests.{not-false}
 use Rattle.refusals.specs.declared.Refusal.{Refusal}
 use Rattle.fields.proofs.Bools.{by_test}
-use Rattle.messages.specs.declared.Decoded.{Decoded}
-use Rattle.messages.specs.declared.Decoded.TheVariants as decode
 use Rattle.rules.specs.Form.{Form, Lawful}
 use Rattle.rules.specs.Rules.{After, after, received}
 use Rattle.rules.specs.View.{Early, Later}
 use Rattle.rules.proofs.Laws.{refused_leaves, length_exactly, places_exactly, late_exactly}
 use Rattle.stamps.specs.declared.Stamps.{Stamps}
-use Rattle.stamps.specs.declared.Extended.{Extended}
-use Rattle.stamps.specs.declared.Extended.TheVariants.{At, Refused}
 use Rattle.stamps.specs.declared.Stamped.{Stamped}
 use Rattle.stamps.specs.Stamps.{last_is, distance, extended, time_of, answered, stamped_by, stamped}
 use Rattle.stamps.specs.Times.{is_accepted}
+use Rattle.messages.specs.declared.Message.{Message}
 
 -- ---- the time of a stamp
 
 -- what is known of a time that a stamp was given, and of a refusal
-abbrev pub Fair : {S : Type 0} → Form S → S → List ℕ → Extended → Type 0
-Fair F s m (At time) = (length m ≡ 14) × ((F.whole s ≡ true) × ((F.clock s ≤ time) × (time < 2 ^ 64)))
-Fair F s m (Refused r) = is_accepted (decode.Refused r) ≡ false
+abbrev pub Fair : {S : Type 0} → Form S → S → List ℕ → Result ℕ Refusal → Type 0
+Fair F s m (Ok time) = (length m ≡ 14) × ((F.whole s ≡ true) × ((F.clock s ≤ time) × (time < 2 ^ 64)))
+Fair F s m (Err r) = is_accepted (Err r) ≡ false
 
 module _ {S : Type 0} (F : Form S) (s : S) (state : Stamps) (m : List ℕ) (stamp : ℕ) (fits : stamp < 2 ^ 64) where
-  abbrev Way : Extended → Type 0
+  abbrev Way : Result ℕ Refusal → Type 0
   Way = Fair F s m
 
   abbrev d : ℕ
@@ -50,29 +48,29 @@ module _ {S : Type 0} (F : Form S) (s : S) (state : Stamps) (m : List ℕ) (stam
 -- ---- what a message earns at its time
 
 module _ {S : Type 0} (F : Form S) (L : Lawful F) (s : S) (m : List ℕ) (time : ℕ) (l : length m ≡ 14) (w : F.whole s ≡ true) (h : F.clock s ≤ time) where
-  not_early : (r : Refusal) → Early r → (received F s m time).answer ≡ decode.Refused r → ⊥
-  not_early r (inl e) a = (length_exactly F L s m time).0 (a ∙ ap decode.Refused e) l
-  not_early r (inr (inl e)) a = let x = (places_exactly F L s m time).0 (a ∙ ap decode.Refused e) in true≢false (sym w ∙ x.1)
-  not_early r (inr (inr e)) a = let x = (late_exactly F L s m time).0 (a ∙ ap decode.Refused e) in omega (arith, x.1.1)
+  not_early : (r : Refusal) → Early r → (received F s m time).answer ≡ Err r → ⊥
+  not_early r (inl e) a = (length_exactly F L s m time).0 (a ∙ ap Err e) l
+  not_early r (inr (inl e)) a = let x = (places_exactly F L s m time).0 (a ∙ ap Err e) in true≢false (sym w ∙ x.1)
+  not_early r (inr (inr e)) a = let x = (late_exactly F L s m time).0 (a ∙ ap Err e) in omega (arith, x.1.1)
 
-  later_accepted : (r : Refusal) → Later r → is_accepted (decode.Refused r) ≡ true
-  later_accepted r (inl (inl e)) = ap (λ (q : Refusal). is_accepted (decode.Refused q)) e
-  later_accepted r (inl (inr (inl e))) = ap (λ (q : Refusal). is_accepted (decode.Refused q)) e
-  later_accepted r (inl (inr (inr e))) = ap (λ (q : Refusal). is_accepted (decode.Refused q)) e
-  later_accepted r (inr (inl e)) = ap (λ (q : Refusal). is_accepted (decode.Refused q)) e
-  later_accepted r (inr (inr e)) = ap (λ (q : Refusal). is_accepted (decode.Refused q)) e
+  later_accepted : (r : Refusal) → Later r → is_accepted (Err r) ≡ true
+  later_accepted r (inl (inl e)) = ap (λ (q : Refusal). is_accepted (Err q)) e
+  later_accepted r (inl (inr (inl e))) = ap (λ (q : Refusal). is_accepted (Err q)) e
+  later_accepted r (inl (inr (inr e))) = ap (λ (q : Refusal). is_accepted (Err q)) e
+  later_accepted r (inr (inl e)) = ap (λ (q : Refusal). is_accepted (Err q)) e
+  later_accepted r (inr (inr e)) = ap (λ (q : Refusal). is_accepted (Err q)) e
 
   pub received_accepted : is_accepted (received F s m time).answer ≡ true
   received_accepted = by_answer (received F s m time).answer refl
     where
-      by_answer : (d : Decoded) → (received F s m time).answer ≡ d → is_accepted d ≡ true
-      by_answer (decode.Message n) e = refl
-      by_answer (decode.Refused r) e = ⊎_elim (λ x. absurd (not_early r x.0 e)) (λ x. later_accepted r x.0) (refused_leaves F L s m time r e)
+      by_answer : (d : Result Message Refusal) → (received F s m time).answer ≡ d → is_accepted d ≡ true
+      by_answer (Ok n) e = refl
+      by_answer (Err r) e = ⊎_elim (λ x. absurd (not_early r x.0 e)) (λ x. later_accepted r x.0) (refused_leaves F L s m time r e)
 
 -- ---- so a call's answer says whether its stamp was accepted
 
 module _ {S : Type 0} (F : Form S) (L : Lawful F) (s : S) (state : Stamps) (m : List ℕ) (stamp : ℕ) (fits : stamp < 2 ^ 64) where
-  abbrev by : Extended → After S Stamped
+  abbrev by : Result ℕ Refusal → After S Stamped
   by x = stamped_by F s state m stamp x
 
   -- the state is the stamp then, and else what it was
@@ -80,9 +78,9 @@ module _ {S : Type 0} (F : Form S) (L : Lawful F) (s : S) (state : Stamps) (m : 
   unfolding stamped
   accepted_exactly = by_time (time_of F s state m stamp) (time_fair F s state m stamp fits)
     where
-      by_time : (x : Extended) → Fair F s m x → (by x).answer.state ≡ cond (is_accepted (by x).answer.answer) (last_is stamp) state
-      by_time (At time) f = sym (ap (λ (b : Bool). cond b (last_is stamp) state) (received_accepted F L s m time f.0 f.1.0 f.1.1.0))
-      by_time (Refused r) f = sym (ap (λ (b : Bool). cond b (last_is stamp) state) f)
+      by_time : (x : Result ℕ Refusal) → Fair F s m x → (by x).answer.state ≡ cond (is_accepted (by x).answer.answer) (last_is stamp) state
+      by_time (Ok time) f = sym (ap (λ (b : Bool). cond b (last_is stamp) state) (received_accepted F L s m time f.0 f.1.0 f.1.1.0))
+      by_time (Err r) f = sym (ap (λ (b : Bool). cond b (last_is stamp) state) f)
 
   -- 1, 7, 2 and 13 leave the table and the state as they were
   pub not_accepted_leaves : is_accepted (stamped F s state m stamp).answer.answer ≡ false
@@ -90,6 +88,6 @@ module _ {S : Type 0} (F : Form S) (L : Lawful F) (s : S) (state : Stamps) (m : 
   unfolding stamped
   not_accepted_leaves = by_time (time_of F s state m stamp) (time_fair F s state m stamp fits)
     where
-      by_time : (x : Extended) → Fair F s m x → is_accepted (by x).answer.answer ≡ false → by x ≡ after (answered (by x).answer.answer state) s
-      by_time (At time) f e = absurd (true≢false (sym (received_accepted F L s m time f.0 f.1.0 f.1.1.0) ∙ e))
-      by_time (Refused r) f e = refl
+      by_time : (x : Result ℕ Refusal) → Fair F s m x → is_accepted (by x).answer.answer ≡ false → by x ≡ after (answered (by x).answer.answer state) s
+      by_time (Ok time) f e = absurd (true≢false (sym (received_accepted F L s m time f.0 f.1.0 f.1.1.0) ∙ e))
+      by_time (Err r) f e = refl

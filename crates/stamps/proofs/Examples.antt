@@ -1,7 +1,7 @@
 -- Each of the three premises is needed: a run for each from a set-up, in any form of the table, in which the other two hold, and the clock is wrong or a message is late. And all three can hold where the counter starts again. The messages are 14 zero bytes, which earn 4: the stamps count all the same.
 -- Assumes nothing.
+use Rattle.std.specs.Prelude.{Ok, Err, Some, None}
 use Rattle.std.proofs.Common.{◌≡◌, ℕ, ◌+◌, ◌^◌, ◌<◌, Bool, false, cond, List, [], ◌∷◌, replicate, sym, refl, ap, ◌∙◌, subst, true≢false, arith, lit<}
-use mathlib.Core.Option.{some, none}
 use Rattle.refusals.specs.declared.Refusal.TheVariants.{Late}
 use Rattle.whereabouts.specs.declared.Site.{Site}
 use Rattle.rules.specs.Form.{Form, Lawful}
@@ -9,7 +9,6 @@ use Rattle.rules.specs.Rules.{After}
 use Rattle.rules.specs.View.{Fresh}
 use Rattle.stamps.specs.declared.Stamps.{Stamps}
 use Rattle.stamps.specs.declared.Stamped.{Stamped}
-use Rattle.stamps.specs.declared.Extended.TheVariants.{At, Refused}
 use Rattle.stamps.specs.Stamps.{fresh, last_is, distance, extended, stamped}
 use Rattle.stamps.specs.Times.{is_accepted, IfElse, Call, stamp_of, Played, FirstTrue, NeverBack, NoneFar, Right}
 use Rattle.stamps.proofs.Ways.{by_clock, stamped_by_lem}
@@ -38,11 +37,11 @@ far = pair 0 2147483648 (lit< tt) (lit< tt)
 abbrev again : List Call
 again = pair 4294967295 4294967301 (lit< tt) (lit< tt)
 
-back_late : extended (last_is 5) 5 (stamp_of 4) ≡ Refused Late
+back_late : extended (last_is 5) 5 (stamp_of 4) ≡ Err Late
 unfolding extended distance
 back_late = refl
 
-far_late : extended (last_is 0) 0 (stamp_of 2147483648) ≡ Refused Late
+far_late : extended (last_is 0) 0 (stamp_of 2147483648) ≡ Err Late
 unfolding extended distance
 far_late = refl
 
@@ -62,10 +61,10 @@ module _ {S : Type 0} (F : Form S) (L : Lawful F) (site : Site) (s : S) (x : Fre
     first_at : Moved F L s x.table.size fresh (at a (wide a h)) (first (stamp_of a))
     first_at =
         moves F L s x.table.size fresh (at a (wide a h)) refl (omega (arith, x.clock))
-        (first_is (F.clock s) (stamp_of a) (omega (arith, x.clock)) ∙ ap At low)
+        (first_is (F.clock s) (stamp_of a) (omega (arith, x.clock)) ∙ ap Ok low)
 
   -- the first accepted stamp is not the true time
-  pub first_needed : Wrong turned (λ rs. NeverBack 0 turned × NoneFar none turned rs)
+  pub first_needed : Wrong turned (λ rs. NeverBack 0 turned × NoneFar None turned rs)
   first_needed = (
     first 0 ∷ [],
     (
@@ -84,7 +83,7 @@ module _ {S : Type 0} (F : Form S) (L : Lawful F) (site : Site) (s : S) (x : Fre
     abbrev run : List (After S Stamped)
     run = first (stamp_of a) ∷ second ∷ []
 
-    second_late : extended (last_is a) a (stamp_of b) ≡ Refused Late → is_accepted second.answer.answer ≡ false
+    second_late : extended (last_is a) a (stamp_of b) ≡ Err Late → is_accepted second.answer.answer ≡ false
     second_late late =
         let m = first_at a h in
         ap (λ (y : After S Stamped). is_accepted y.answer.answer)
@@ -94,17 +93,17 @@ module _ {S : Type 0} (F : Form S) (L : Lawful F) (site : Site) (s : S) (x : Fre
         ∙ ap (λ (o : Stamps). extended o a (stamp_of b)) (m.state_is ∙ ap last_is (low a h))
         ∙ late))
 
-    second_wrong : extended (last_is a) a (stamp_of b) ≡ Refused Late → (Others : List (After S Stamped) → Type 0) → Others run → Wrong (pair a b h g) Others
+    second_wrong : extended (last_is a) a (stamp_of b) ≡ Err Late → (Others : List (After S Stamped) → Type 0) → Others run → Wrong (pair a b h g) Others
     second_wrong late Others o = (run, ((refl, (refl, tt)), (o, λ r. true≢false (sym (r.1.0 refl).0 ∙ second_late late))))
 
     first_true : FirstTrue (pair a b h g) run
     first_true = subst (λ (o : Bool). IfElse o (stamp_of a ≡ a) (FirstTrue (at b g ∷ []) (second ∷ []))) (sym (first_at a h).accepted) (low a h)
 
-    none_far : b < a + 2 ^ 31 → NoneFar none (pair a b h g) run
-    none_far n = (tt, subst (λ (o : Bool). NoneFar (cond o (some a) none) (at b g ∷ []) (second ∷ [])) (sym (first_at a h).accepted) (n, tt))
+    none_far : b < a + 2 ^ 31 → NoneFar None (pair a b h g) run
+    none_far n = (tt, subst (λ (o : Bool). NoneFar (cond o (Some a) None) (at b g ∷ []) (second ∷ [])) (sym (first_at a h).accepted) (n, tt))
 
   -- a true time goes back
-  pub never_back_needed : Wrong back (λ rs. FirstTrue back rs × NoneFar none back rs)
+  pub never_back_needed : Wrong back (λ rs. FirstTrue back rs × NoneFar None back rs)
   never_back_needed = second_wrong 5 4 (lit< tt) (lit< tt) back_late _ (first_true 5 4 (lit< tt) (lit< tt), none_far 5 4 (lit< tt) (lit< tt) (omega arith))
 
   -- a true time is 2^31 past the last accepted one
@@ -112,10 +111,10 @@ module _ {S : Type 0} (F : Form S) (L : Lawful F) (site : Site) (s : S) (x : Fre
   none_far_needed = second_wrong 0 2147483648 (lit< tt) (lit< tt) far_late _ (first_true 0 2147483648 (lit< tt) (lit< tt), (omega arith, (omega arith, tt)))
 
   -- the counter starts again between two calls: the premises hold, and after the second call the clock is its true time
-  pub across_a_turn : (rs : List (After S Stamped)) × (Played F s fresh again rs × ((FirstTrue again rs × (NeverBack 0 again × NoneFar none again rs)) × Right F again rs))
+  pub across_a_turn : (rs : List (After S Stamped)) × (Played F s fresh again rs × ((FirstTrue again rs × (NeverBack 0 again × NoneFar None again rs)) × Right F again rs))
   across_a_turn =
       let rs : List (After S Stamped) = run 4294967295 4294967301 (lit< tt) (lit< tt) in
       let a : FirstTrue again rs = first_true 4294967295 4294967301 (lit< tt) (lit< tt) in
       let b : NeverBack 0 again = (omega arith, (omega arith, tt)) in
-      let f : NoneFar none again rs = none_far 4294967295 4294967301 (lit< tt) (lit< tt) (omega arith) in
+      let f : NoneFar None again rs = none_far 4294967295 4294967301 (lit< tt) (lit< tt) (omega arith) in
       (rs, ((refl, (refl, tt)), ((a, (b, f)), right_from F L again rs s fresh 0 x.table.size x.clock refl (refl, (refl, tt)) a b f)))

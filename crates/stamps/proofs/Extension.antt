@@ -1,13 +1,12 @@
 -- The extended times are the true ones under the three premises. Until a stamp is accepted the clock is 0 and the state fresh; from then on, by induction over the calls, the clock is the last accepted true time and the state its stamp.
 -- Assumes nothing.
+use Rattle.std.specs.Prelude.{Ok, Some, None}
 use Rattle.std.proofs.Common.{◌≡◌, ℕ, ◌+◌, ◌-◌, ◌%◌, ◌^◌, ◌<◌, ◌≤◌, Bool, true, false, cond, eqb, List, [], ◌∷◌, length, sym, refl, ap, ◌∙◌, subst, le_refl, arith, le-ltb, eqb-true}
-use mathlib.Core.Option.{some, none}
 use borrow.Author.Tests.{lt-leb, eqb-false}
 use Rattle.rules.specs.Form.{Form, Lawful}
 use Rattle.rules.specs.Rules.{After, set_up}
 use Rattle.rules.proofs.Laws.{received_keeps, clock_after, set_up_table_lem}
 use Rattle.stamps.specs.declared.Stamps.{Stamps}
-use Rattle.stamps.specs.declared.Extended.TheVariants.{At}
 use Rattle.stamps.specs.declared.Stamped.{Stamped}
 use Rattle.stamps.specs.Stamps.{fresh, last_is, distance, extended, stamped_by, stamped}
 use Rattle.stamps.specs.Times.{is_accepted, IfElse, Call, stamp_of, Played, FirstTrue, NeverBack, NoneFar, Right, TimesRight}
@@ -21,11 +20,11 @@ distance_is : (l t : ℕ) → l ≤ t → t < l + 2 ^ 31 → distance (l % 2 ^ 3
 unfolding distance
 distance_is l t h g = omega arith
 
-pub first_is : (clock stamp : ℕ) → clock ≤ stamp → extended fresh clock stamp ≡ At stamp
+pub first_is : (clock stamp : ℕ) → clock ≤ stamp → extended fresh clock stamp ≡ Ok stamp
 unfolding extended
 first_is clock stamp h = rw (le-ltb stamp clock h)
 
-pub next_is : (l t : ℕ) → l ≤ t → t < l + 2 ^ 31 → t < 2 ^ 64 → extended (last_is (stamp_of l)) l (stamp_of t) ≡ At t
+pub next_is : (l t : ℕ) → l ≤ t → t < l + 2 ^ 31 → t < 2 ^ 64 → extended (last_is (stamp_of l)) l (stamp_of t) ≡ Ok t
 unfolding extended
 next_is l t h g f =
     let a : l + (t - l) ≡ t = omega arith in
@@ -44,7 +43,7 @@ module _ {S : Type 0} (F : Form S) (L : Lawful F) (s : S) (w : F.whole s ≡ tru
     pub clock_is : F.clock x.table ≡ c.time
     pub whole : F.whole x.table ≡ true
 
-  moved_at : length c.message ≡ 14 → F.clock s ≤ c.time → Moved (stamped_by F s state c.message (stamp_of c.time) (At c.time))
+  moved_at : length c.message ≡ 14 → F.clock s ≤ c.time → Moved (stamped_by F s state c.message (stamp_of c.time) (Ok c.time))
   moved_at l h =
       record {
         accepted = received_accepted F L s c.message c.time l w h;
@@ -54,7 +53,7 @@ module _ {S : Type 0} (F : Form S) (L : Lawful F) (s : S) (w : F.whole s ≡ tru
             (λ i key x. L.stored_whole (F.moved s c.time) i key x ∙ L.moved_whole s c.time ∙ w);
       }
 
-  pub moves : length c.message ≡ 14 → F.clock s ≤ c.time → extended state (F.clock s) (stamp_of c.time) ≡ At c.time → Moved r
+  pub moves : length c.message ≡ 14 → F.clock s ≤ c.time → extended state (F.clock s) (stamp_of c.time) ≡ Ok c.time → Moved r
   moves l h e =
       subst Moved (sym (stamped_by_lem F s state c.message (stamp_of c.time) (by_clock F s state c.message (stamp_of c.time) l w ∙ e))) (moved_at l h)
 
@@ -83,7 +82,7 @@ module _ {A : Type 0} (c : Call) (yes : length c.message ≡ 14 → A) (no : (le
 module _ {S : Type 0} (F : Form S) (L : Lawful F) where
   -- .. after an accepted stamp of the true time l
   right_on : (cs : List Call) (rs : List (After S Stamped)) (s : S) (state : Stamps) (l before : ℕ) → F.whole s ≡ true → F.clock s ≡ l → state ≡ last_is (stamp_of l) → l ≤ before
-      → Played F s state cs rs → NeverBack before cs → NoneFar (some l) cs rs → Right F cs rs
+      → Played F s state cs rs → NeverBack before cs → NoneFar (Some l) cs rs → Right F cs rs
   right_on [] rs s state l before w k st h p b f = tt
   right_on (c ∷ cs) [] s state l before w k st h p b f = absurd p
   right_on (c ∷ cs) (r ∷ rs) s state l before w k st h p b f =
@@ -95,18 +94,18 @@ module _ {S : Type 0} (F : Form S) (L : Lawful F) where
       (rw (k, st) (next_is l c.time (omega (arith, b.0)) f.0 c.fits))) in (
         λ _. (m.accepted, m.clock_is),
         right_on cs rs r.table r.answer.state c.time c.time m.whole m.clock_is m.state_is (le_refl c.time) p.1 b.1
-            (subst (λ (o : Bool). NoneFar (cond o (some c.time) (some l)) cs rs) m.accepted f.1),
+            (subst (λ (o : Bool). NoneFar (cond o (Some c.time) (Some l)) cs rs) m.accepted f.1),
       ))
       (λ e.
       let m : Left F L s w state c r = subst (Left F L s w state c) (sym p.0) (leaves F L s w state c e) in (
         λ x. absurd (e x),
         right_on cs rs r.table r.answer.state l c.time (ap F.whole m.table_is ∙ w) (ap F.clock m.table_is ∙ k) (m.state_is ∙ st) (omega (arith, b.0)) p.1 b.1
-            (subst (λ (o : Bool). NoneFar (cond o (some c.time) (some l)) cs rs) m.refused f.1),
+            (subst (λ (o : Bool). NoneFar (cond o (Some c.time) (Some l)) cs rs) m.refused f.1),
       ))
 
   -- .. before one is accepted: a stamp is taken as it is, and it is the true time
   module _ (s : S) (w : F.whole s ≡ true) (k : F.clock s ≡ 0) (state : Stamps) (st : state ≡ fresh) (c : Call) (e : length c.message ≡ 14) where
-    at_stamp : extended state (F.clock s) (stamp_of c.time) ≡ At (stamp_of c.time)
+    at_stamp : extended state (F.clock s) (stamp_of c.time) ≡ Ok (stamp_of c.time)
     at_stamp = rw st (first_is (F.clock s) (stamp_of c.time) (omega (arith, k)))
 
     first_accepted : is_accepted (stamped F s state c.message (stamp_of c.time)).answer.answer ≡ true
@@ -116,10 +115,10 @@ module _ {S : Type 0} (F : Form S) (L : Lawful F) where
         ∙ received_accepted F L s c.message (stamp_of c.time) e w (omega (arith, k))
 
     first_moves : stamp_of c.time ≡ c.time → Moved F L s w state c (stamped F s state c.message (stamp_of c.time))
-    first_moves h = moves F L s w state c e (omega (arith, k)) (at_stamp ∙ ap At h)
+    first_moves h = moves F L s w state c e (omega (arith, k)) (at_stamp ∙ ap Ok h)
 
   pub right_from : (cs : List Call) (rs : List (After S Stamped)) (s : S) (state : Stamps) (before : ℕ) → F.whole s ≡ true → F.clock s ≡ 0 → state ≡ fresh
-      → Played F s state cs rs → FirstTrue cs rs → NeverBack before cs → NoneFar none cs rs → Right F cs rs
+      → Played F s state cs rs → FirstTrue cs rs → NeverBack before cs → NoneFar None cs rs → Right F cs rs
   right_from [] rs s state before w k st p a b f = tt
   right_from (c ∷ cs) [] s state before w k st p a b f = absurd p
   right_from (c ∷ cs) (r ∷ rs) s state before w k st p a b f =
@@ -131,14 +130,14 @@ module _ {S : Type 0} (F : Form S) (L : Lawful F) where
       (first_moves s w k state st c e (subst (λ (o : Bool). IfElse o (stamp_of c.time ≡ c.time) (FirstTrue cs rs)) o a)) in (
         λ _. (m.accepted, m.clock_is),
         right_on cs rs r.table r.answer.state c.time c.time m.whole m.clock_is m.state_is (le_refl c.time) p.1 b.1
-            (subst (λ (o : Bool). NoneFar (cond o (some c.time) none) cs rs) m.accepted f.1),
+            (subst (λ (o : Bool). NoneFar (cond o (Some c.time) None) cs rs) m.accepted f.1),
       ))
       (λ e.
       let m : Left F L s w state c r = subst (Left F L s w state c) (sym p.0) (leaves F L s w state c e) in (
         λ x. absurd (e x),
         right_from cs rs r.table r.answer.state c.time (ap F.whole m.table_is ∙ w) (ap F.clock m.table_is ∙ k) (m.state_is ∙ st) p.1
             (subst (λ (o : Bool). IfElse o (stamp_of c.time ≡ c.time) (FirstTrue cs rs)) m.refused a) b.1
-            (subst (λ (o : Bool). NoneFar (cond o (some c.time) none) cs rs) m.refused f.1),
+            (subst (λ (o : Bool). NoneFar (cond o (Some c.time) None) cs rs) m.refused f.1),
       ))
 
 -- from a set-up on

@@ -1,13 +1,11 @@
 -- The times are right of the code: whatever meets the contract of `receive`, call by call, is a run that was played by the rule.
 -- Assumes nothing.
+use Rattle.std.specs.Prelude.{Result, Ok, None, ⊤}
 use Rattle.std.proofs.Common.{◌≡◌, ℕ, List, [], ◌∷◌, sym, ap, ◌∙◌, subst, ap₂}
-use mathlib.Core.Option.{none}
 use contract.Lifetimes.{Lfts}
 use denote.Triple.Clauses.{AtExit}
 use borrow.Fn.Kinds.{Dens, ended_of}
 use Rattle.whereabouts.specs.declared.Site.{Site}
-use Rattle.rules.specs.declared.answers.SetUp.{SetUp}
-use Rattle.rules.specs.declared.answers.SetUp.TheVariants.{Done}
 use Rattle.rules.specs.Form.{East}
 use Rattle.rules.specs.Rules.{set_up}
 use Rattle.table.specs.Bytes.{bytes}
@@ -20,6 +18,7 @@ use Rattle.stamps.specs.Times.{Call, stamp_of, Played, FirstTrue, NeverBack, Non
 use Rattle.stamps.proofs.Extension.{times_right}
 use Rattle.stamps.proofs.receive.Kinds as receive-kinds
 use Rattle.stamps.proofs.receive.Reads as receive
+use Rattle.refusals.specs.declared.Refusal.{Refusal}
 
 -- `receive` was lent the table s and some bytes, was given a state and a stamp, and left a table
 pub record Received (s : List ℕ) (state : Stamps) (message : List ℕ) (stamp : ℕ) (r : After Stamped) : Type 0 where
@@ -51,9 +50,9 @@ ran_played (stopped s state) = tt
 ran_played (then b more) = (received_is b, ran_played more)
 
 -- a is what `set_up` or `set_up_at` promises: the equation is their contract
-pub code_times_right : (s : List ℕ) (site : Site) → East site → (a : After SetUp) → a ≡ set_up bytes s site → a.answer ≡ Done
+pub code_times_right : (s : List ℕ) (site : Site) → East site → (a : After (Result ⊤ Refusal)) → a ≡ set_up bytes s site → a.answer ≡ Ok tt
     → {cs : List Call} {rs : List (After Stamped)} → Ran a.table fresh cs rs
-    → FirstTrue cs rs → NeverBack 0 cs → NoneFar none cs rs → Right bytes cs rs
+    → FirstTrue cs rs → NeverBack 0 cs → NoneFar None cs rs → Right bytes cs rs
 code_times_right s site east a e d {cs} {rs} ran =
-    times_right bytes bytes_lawful s site east (sym (ap (λ (x : After SetUp). x.answer) e) ∙ d) cs rs
-    (subst (λ (x : After SetUp). Played bytes x.table fresh cs rs) e (ran_played ran))
+    times_right bytes bytes_lawful s site east (sym (ap (λ (x : After (Result ⊤ Refusal)). x.answer) e) ∙ d) cs rs
+    (subst (λ (x : After (Result ⊤ Refusal)). Played bytes x.table fresh cs rs) e (ran_played ran))

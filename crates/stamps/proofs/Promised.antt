@@ -1,5 +1,6 @@
 -- What the contracts promise in the rules' terms: whatever meets the contract of a public function says the number that a stamp or a message earns, in the order 1, 7, 2, 13, then 3 to 6 or 12, or its time or values. By the tests, and from there by the law of `rules`.
 -- Assumes nothing.
+use Rattle.std.specs.Prelude.{Result, Ok, Err}
 use Rattle.std.proofs.Common.{◌≡◌, ℕ, ◌+◌, ◌^◌, Bool, true, false, cond, not, ◌&&◌, ltb, leb, List, refl, ap, ◌∙◌}
 use contract.Lifetimes.{Lfts}
 use denote.Triple.Clauses.{AtExit}
@@ -7,8 +8,6 @@ use borrow.Fn.Kinds.{Dens, res_t, ended_of}
 use Rattle.refusals.specs.declared.Refusal.TheVariants.{Length, Late, Places, Overrun}
 use Rattle.refusals.specs.Said.{Said, number, gives}
 use Rattle.layouts.specs.Said.{Values}
-use Rattle.messages.specs.declared.Decoded.{Decoded}
-use Rattle.messages.specs.declared.Decoded.TheVariants as decode
 use Rattle.messages.specs.Said.{said, earns1}
 use Rattle.rules.specs.Form.{Form, Lawful}
 use Rattle.rules.specs.Rules.{received}
@@ -19,8 +18,6 @@ use Rattle.table.specs.Heard.{heard_as}
 use Rattle.table.specs.Table.{After}
 use Rattle.table.proofs.Lawful.{bytes_lawful}
 use Rattle.stamps.specs.declared.Stamps.{Stamps}
-use Rattle.stamps.specs.declared.Extended.{Extended}
-use Rattle.stamps.specs.declared.Extended.TheVariants.{At, Refused}
 use Rattle.stamps.specs.declared.Noted.{Noted}
 use Rattle.stamps.specs.declared.Stamped.{Stamped}
 use Rattle.stamps.specs.Stamps.{distance, extended, time_of, stamped_by, stamped}
@@ -31,15 +28,17 @@ use Rattle.stamps.proofs.hear.Kinds as hear-kinds
 use Rattle.stamps.proofs.hear.Reads as hear
 use Rattle.stamps.proofs.receive.Kinds as receive-kinds
 use Rattle.stamps.proofs.receive.Reads as receive
+use Rattle.messages.specs.declared.Message.{Message}
+use Rattle.refusals.specs.declared.Refusal.{Refusal}
 
 -- ---- the order of the tests: of a length, a table, a first stamp, a distance and a time
 
-abbrev refusing : Bool → Bool → Bool → Bool → Bool → Bool → ℕ → ℕ → Extended
+abbrev refusing : Bool → Bool → Bool → Bool → Bool → Bool → ℕ → ℕ → Result ℕ Refusal
 refusing short uneven started below far over time x =
-    cond short (Refused Length)
-    (cond uneven (Refused Places)
-    (cond (not started) (cond below (Refused Late) (At x))
-    (cond far (Refused Late) (cond over (Refused Overrun) (At time)))))
+    cond short (Err Length)
+    (cond uneven (Err Places)
+    (cond (not started) (cond below (Err Late) (Ok x))
+    (cond far (Err Late) (cond over (Err Overrun) (Ok time)))))
 
 in_order_lem : {A : Type 0} (f : ℕ → Said A) (short uneven started below far over : Bool) (time x : ℕ)
     → told f (refusing short uneven started below far over time x)
@@ -74,9 +73,9 @@ module _ {S : Type 0} (F : Form S) (L : Lawful F) (s : S) (state : Stamps) (m : 
   abbrev far : ℕ
   far = distance state.last stamp
 
-  by_time : (x : Extended) → said (stamped_by F s state m stamp x).answer.answer ≡ told at_time x
-  by_time (At time) = refl
-  by_time (Refused r) = refl
+  by_time : (x : Result ℕ Refusal) → said (stamped_by F s state m stamp x).answer.answer ≡ told at_time x
+  by_time (Ok time) = refl
+  by_time (Err r) = refl
 
   pub stamped_says : said (stamped F s state m stamp).answer.answer ≡ stamp_table F s state m stamp
   unfolding stamped time_of extended
@@ -93,9 +92,9 @@ receive_promised κs args x left p =
     ap (λ (y : After Stamped). said y.answer.answer) p
     ∙ stamped_says bytes bytes_lawful args.0.now args.1.0 args.1.1.0.now args.1.1.1.0
 
-heard_says : (d : Decoded) → heard_said (heard_as d) ≡ done_or (said d)
-heard_says (decode.Message m) = refl
-heard_says (decode.Refused r) = refl
+heard_says : (d : Result Message Refusal) → heard_said (heard_as d) ≡ done_or (said d)
+heard_says (Ok m) = refl
+heard_says (Err r) = refl
 
 pub hear_promised : (κs : Lfts 2) (args : Dens κs hear-kinds.ps) (x : (res_t hear-kinds.r κs).Denot)
     (left : AtExit (ended_of 2 hear-kinds.ps hear-kinds.r) κs) → hear.Post κs args x left

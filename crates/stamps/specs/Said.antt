@@ -1,5 +1,5 @@
 -- RULES 10.4, 10.5 and 19.3: what the answers say in the rules' terms: the numbers that a stamp earns, in their order, or its time; and then what a message received at that time earns.
-use Rattle.std.specs.Prelude.{ℕ, ◌+◌, ◌^◌, Bool, cond, ◌&&◌, List, nat_le, nat_lt}
+use Rattle.std.specs.Prelude.{ℕ, ◌+◌, ◌^◌, Bool, cond, ◌&&◌, List, nat_le, nat_lt, Result, Ok, Err}
 use Rattle.refusals.specs.Numbers.{number_of}
 use Rattle.refusals.specs.Said.{Said, number, gives}
 use Rattle.layouts.specs.Said.{Values}
@@ -7,17 +7,16 @@ use Rattle.messages.specs.Said.{earns1}
 use Rattle.rules.specs.Form.{Form}
 use Rattle.rules.specs.Said.{earns7, receive_table}
 use Rattle.stamps.specs.declared.Stamps.{Stamps}
-use Rattle.stamps.specs.declared.Extended.{Extended}
-use Rattle.stamps.specs.declared.Extended.TheVariants.{At, Refused}
 use Rattle.stamps.specs.Stamps.{distance}
+use Rattle.refusals.specs.declared.Refusal.{Refusal}
 
 -- a number, or what comes of the time
-abbrev pub told : {A : Type 0} → (ℕ → Said A) → Extended → Said A
-told f (At time) = f time
-told f (Refused r) = number (number_of r)
+abbrev pub told : {A : Type 0} → (ℕ → Said A) → Result ℕ Refusal → Said A
+told f (Ok time) = f time
+told f (Err r) = number (number_of r)
 
 -- the answer of `extend`
-abbrev pub extended_said : Extended → Said ℕ
+abbrev pub extended_said : Result ℕ Refusal → Said ℕ
 extended_said = told gives
 
 -- 2: a distance of 2^31 or more; of a stamp that is taken as it is, a time below the clock

@@ -1,24 +1,22 @@
 -- RULES 10.7: the times are right if the first accepted stamp is the true time, true times never go back and none is 2^31 milliseconds or more past the last accepted one.
-use Rattle.std.specs.Prelude.{◌≡◌, ℕ, ◌+◌, ◌%◌, ◌^◌, ◌<◌, ◌≤◌, Bool, true, false, cond, not, ◌||◌, List, [], ◌∷◌, length, ◌==◌}
-use Rattle.std.proofs.Math.Option.{Option, some, none}
+use Rattle.std.specs.Prelude.{◌≡◌, ℕ, ◌+◌, ◌%◌, ◌^◌, ◌<◌, ◌≤◌, Bool, true, false, cond, not, ◌||◌, List, [], ◌∷◌, length, ◌==◌, Result, Ok, Err, Option, Some, None}
 use Rattle.refusals.specs.Numbers.{number_of}
-use Rattle.messages.specs.declared.Decoded.{Decoded}
-use Rattle.messages.specs.declared.Decoded.TheVariants as decode
 use Rattle.whereabouts.specs.declared.Site.{Site}
-use Rattle.rules.specs.declared.answers.SetUp.TheVariants.{Done}
 use Rattle.rules.specs.Form.{Form, East}
 use Rattle.rules.specs.Rules.{After, set_up}
 use Rattle.stamps.specs.declared.Stamps.{Stamps}
 use Rattle.stamps.specs.declared.Stamped.{Stamped}
 use Rattle.stamps.specs.Stamps.{fresh, stamped}
+use Rattle.messages.specs.declared.Message.{Message}
+use Rattle.refusals.specs.declared.Refusal.{Refusal}
 
 -- an accepted stamp: one not refused with 1, 7, 2 or 13
 abbrev pub not_accepted : ℕ → Bool
 not_accepted n = n == 1 || (n == 7 || (n == 2 || n == 13))
 
-abbrev pub is_accepted : Decoded → Bool
-is_accepted (decode.Message m) = true
-is_accepted (decode.Refused r) = not (not_accepted (number_of r))
+abbrev pub is_accepted : Result Message Refusal → Bool
+is_accepted (Ok m) = true
+is_accepted (Err r) = not (not_accepted (number_of r))
 
 -- one of two things, by a test
 abbrev pub IfElse : Bool → Type 0 → Type 0 → Type 0
@@ -55,11 +53,11 @@ NeverBack before (c ∷ cs) = (before ≤ c.time) × NeverBack c.time cs
 
 -- none is 2^31 or more past the last accepted one, if there is one
 abbrev pub Near : Option ℕ → ℕ → Type 0
-Near none time = Unit {0}
-Near (some last) time = time < last + 2 ^ 31
+Near None time = Unit {0}
+Near (Some last) time = time < last + 2 ^ 31
 
 abbrev pub NoneFar : {S : Type 0} → Option ℕ → List Call → List (After S Stamped) → Type 0
-NoneFar last (c ∷ cs) (r ∷ rs) = Near last c.time × NoneFar (cond (is_accepted r.answer.answer) (some c.time) last) cs rs
+NoneFar last (c ∷ cs) (r ∷ rs) = Near last c.time × NoneFar (cond (is_accepted r.answer.answer) (Some c.time) last) cs rs
 NoneFar last [] rs = Unit {0}
 NoneFar last (c ∷ cs) [] = Unit {0}
 
@@ -74,6 +72,6 @@ Right F (c ∷ cs) [] = Unit {0}
 -- of every run from a set-up with a fresh state; after a set-up that is done no call earns 7
 abbrev pub TimesRight : {S : Type 0} → Form S → Type 0
 TimesRight {S} F =
-    (s : S) (site : Site) → East site → (set_up F s site).answer ≡ Done
+    (s : S) (site : Site) → East site → (set_up F s site).answer ≡ Ok tt
     → (cs : List Call) (rs : List (After S Stamped)) → Played F (set_up F s site).table fresh cs rs
-    → FirstTrue cs rs → NeverBack 0 cs → NoneFar none cs rs → Right F cs rs
+    → FirstTrue cs rs → NeverBack 0 cs → NoneFar None cs rs → Right F cs rs

@@ -7,77 +7,69 @@ ghost use Rattle.table.specs.Table.{after};
 ghost use Rattle.stamps.specs.Stamps.{last_is, distance, extended, time_of, answered, stamped};
 ghost use Rattle.stamps.specs.Heard.{noted, heard};
 
-use messages::Decoded;
+use messages::Message;
 use refusals::Refusal;
-use rules::{Clock, Heard};
 
 // Whether a stamp has been accepted, and the last one that was. The caller keeps it, beside the table.
+// It is no `Option<u32>`: C gives back both entries as they were lent, the last one too where none was accepted.
 #[derive(Clone, Copy)]
 pub struct Stamps {
     pub started: bool,
     pub last: u32,
 }
 
-#[derive(Clone, Copy)]
-pub enum Extended {
-    At(u64),
-    Refused(Refusal),
-}
-
-// Of a message received with a stamp: the answer, and the state to go on with.
+// Of a message received with a stamp: the answer, and the state to go on with. A refused message moves the state too, so no `Result` holds both.
 #[derive(Clone, Copy)]
 pub struct Stamped {
-    pub answer: Decoded,
+    pub answer: Result<Message, Refusal>,
     pub state: Stamps,
 }
 
 // The same where nobody asks what the message says.
 #[derive(Clone, Copy)]
 pub struct Noted {
-    pub answer: Heard,
+    pub answer: Result<(), Refusal>,
     pub state: Stamps,
 }
 
 // How far a stamp is past the last one, around the circle.
+#[tactic(auto, unfolding(crate::specs::Stamps::distance))]
 fn distance_to(last: u32, stamp: u32) -> u32
     ensures { result ≡ distance last stamp }
 {
-    std::num::wrapping_sub_u32(stamp, last)
+    stamp.wrapping_sub(last)
 }
 
 // The time of a stamp: as it is until one is accepted, then the clock and the distance from the last. Or 2, or 13.
-pub fn extend(state: Stamps, clock: u64, stamp: u32) -> Extended
+pub fn extend(state: Stamps, clock: u64, stamp: u32) -> Result<u64, Refusal>
     ensures { result ≡ extended state clock stamp }
 {
     if !state.started {
-        let time = stamp as u64;
+        let time = u64::from(stamp);
         if time < clock {
-            return Extended::Refused(Refusal::Late);
+            return Err(Refusal::Late);
         }
-        return Extended::At(time);
+        return Ok(time);
     }
-    let d = distance_to(state.last, stamp) as u64;
+    let d = u64::from(distance_to(state.last, stamp));
     if 0x8000_0000 <= d {
-        return Extended::Refused(Refusal::Late);
+        return Err(Refusal::Late);
     }
     if 0xffff_ffff_ffff_ffff - clock < d {
-        return Extended::Refused(Refusal::Overrun);
+        return Err(Refusal::Overrun);
     }
-    Extended::At(clock + d)
+    Ok(clock + d)
 }
 
 // The time at which a message with a stamp is received. Or 1, 7, then 2 or 13: the stamp is not accepted.
-fn time_of(table: &[u8], state: Stamps, message: &[u8], stamp: u32) -> Extended
+fn time_of(table: &[u8], state: Stamps, message: &[u8], stamp: u32) -> Result<u64, Refusal>
     ensures { result ≡ time_of bytes table.now state message.now stamp }
 {
     if message.len() != 14 {
-        return Extended::Refused(Refusal::Length);
+        return Err(Refusal::Length);
     }
-    let answer = table::clock_of(table);
-    match answer {
-        Clock::At(clock) => extend(state, clock, stamp),
-        Clock::Refused(r) => Extended::Refused(r),
-    }
+    let clock = table::clock_of(table)?;
+    extend(state, clock, stamp)
 }
 
 fn last_is(stamp: u32) -> Stamps
@@ -89,13 +81,13 @@ fn last_is(stamp: u32) -> Stamps
     }
 }
 
-fn note(answer: Heard, state: Stamps) -> Noted
+fn note(answer: Result<(), Refusal>, state: Stamps) -> Noted
     ensures { result ≡ noted answer state }
 {
     Noted { answer, state }
 }
 
-fn tell(answer: Decoded, state: Stamps) -> Stamped
+fn tell(answer: Result<Message, Refusal>, state: Stamps) -> Stamped
     ensures { result ≡ answered answer state }
 {
     Stamped { answer, state }
@@ -105,10 +97,9 @@ fn tell(answer: Decoded, state: Stamps) -> Stamped
 pub fn hear(table: &mut [u8], state: Stamps, message: &[u8], stamp: u32) -> Noted
     ensures { after result table.new ≡ heard (stamped bytes table.old state message.now stamp) }
 {
-    let time = time_of(table, state, message, stamp);
-    match time {
-        Extended::At(t) => note(table::hear(table, message, t), last_is(stamp)),
-        Extended::Refused(r) => note(Heard::Refused(r), state),
+    match time_of(table, state, message, stamp) {
+        Ok(t) => note(table::hear(table, message, t), last_is(stamp)),
+        Err(r) => note(Err(r), state),
     }
 }
 
@@ -117,10 +108,8 @@ pub fn receive(table: &mut [u8], state: Stamps, message: &[u8], stamp: u32) -> S
     ensures { after result table.new ≡ stamped bytes table.old state message.now stamp }
 {
     let heard = hear(table, state, message, stamp);
-    let answer = heard.answer;
-    let next = heard.state;
-    match answer {
-        Heard::Done => tell(messages::decode(message), next),
-        Heard::Refused(r) => tell(Decoded::Refused(r), next),
+    match heard.answer {
+        Ok(()) => tell(messages::decode(message), heard.state),
+        Err(r) => tell(Err(r), heard.state),
     }
 }

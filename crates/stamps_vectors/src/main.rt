@@ -6,10 +6,9 @@
 // `reference/vectors/stamps_vectors.py` has what each writes.
 #![tactic(auto)]
 
-use messages::Decoded;
+use messages::Message;
 use refusals::Refusal;
-use rules::{Clock, SetUp};
-use stamps::{Extended, Stamps};
+use stamps::Stamps;
 use std::io::{self, Read};
 
 // How many bytes are lent, and the state beside them.
@@ -59,17 +58,17 @@ fn say_refused(out: &impl Print, r: Refusal) -> io::Result<()> {
 }
 
 // A message is told by its key.
-fn say_answer(out: &impl Print, d: Decoded) -> io::Result<()> {
+fn say_answer(out: &impl Print, d: Result<Message, Refusal>) -> io::Result<()> {
     match d {
-        Decoded::Message(m) => out.print(messages::key_of(m)),
-        Decoded::Refused(r) => say_refused(out, r),
+        Ok(m) => out.print(messages::key_of(m)),
+        Err(r) => say_refused(out, r),
     }
 }
 
-fn say_clock(out: &impl Print, c: Clock) -> io::Result<()> {
+fn say_clock(out: &impl Print, c: Result<u64, Refusal>) -> io::Result<()> {
     match c {
-        Clock::At(t) => out.print(t),
-        Clock::Refused(r) => say_refused(out, r),
+        Ok(t) => out.print(t),
+        Err(r) => say_refused(out, r),
     }
 }
 
@@ -95,10 +94,9 @@ fn say_left(out: &impl Print, lent: &[u8], state: Stamps) -> io::Result<()> {
 
 fn set_up(out: &impl Print, buf: &mut [u8], n: usize) -> io::Result<()> {
     if n <= buf.len() {
-        let s = table::set_up(&mut buf[..n]);
-        match s {
-            SetUp::Done => out.print("done"),
-            SetUp::Refused(r) => say_refused(out, r),
+        match table::set_up(&mut buf[..n]) {
+            Ok(()) => out.print("done"),
+            Err(r) => say_refused(out, r),
         }?;
         out.print("\n")?;
     }
@@ -113,11 +111,9 @@ fn receive_stamp(
     stamp: u32,
 ) -> io::Result<Stamps> {
     let stamped = stamps::receive(lent, state, s, stamp);
-    let answer = stamped.answer;
-    let next = stamped.state;
-    say_answer(out, answer)?;
-    say_left(out, lent, next)?;
-    Ok(next)
+    say_answer(out, stamped.answer)?;
+    say_left(out, lent, stamped.state)?;
+    Ok(stamped.state)
 }
 
 fn with_stamp(
@@ -128,7 +124,7 @@ fn with_stamp(
     state: Stamps,
 ) -> io::Result<Stamps> {
     let stamp = word(input)?;
-    let count = byte(input)? as usize;
+    let count = usize::from(byte(input)?);
     let mut space = [0u8; 256];
     let part: &mut [u8] = &mut space;
     if count <= part.len() && n <= buf.len() {
@@ -157,7 +153,7 @@ fn at_time(
     state: Stamps,
 ) -> io::Result<()> {
     let time = long(input)?;
-    let count = byte(input)? as usize;
+    let count = usize::from(byte(input)?);
     let mut space = [0u8; 256];
     let part: &mut [u8] = &mut space;
     if count <= part.len() && n <= buf.len() {
@@ -170,11 +166,7 @@ fn at_time(
 fn extend(input: &mut impl Read, out: &impl Print, state: Stamps) -> io::Result<()> {
     let clock = long(input)?;
     let stamp = word(input)?;
-    let time = stamps::extend(state, clock, stamp);
-    match time {
-        Extended::At(t) => out.print(t),
-        Extended::Refused(r) => say_refused(out, r),
-    }?;
+    say_clock(out, stamps::extend(state, clock, stamp))?;
     out.print("\n")
 }
 

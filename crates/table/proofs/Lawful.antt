@@ -1,5 +1,6 @@
 -- The bytes keep what a form has to: what is put is read back, and bytes elsewhere stay.
 -- Assumes nothing.
+use Rattle.std.specs.Prelude.{Result, ⊤}
 use Prim.Native.Nat.{ℕ, ◌-◌, ◌/◌, ◌^◌, ◌≤◌, ◌<◌}
 use native.Mathlib.Omega.{arith}
 use mathlib.Core.Bool.{Bool, true, false, cond, not, ◌&&◌}
@@ -14,10 +15,10 @@ use Rattle.positions.specs.Positions.{pole_to_pole}
 use Rattle.whereabouts.specs.declared.Site.{Site}
 use Rattle.whereabouts.specs.Located.{no_site}
 use Rattle.track.specs.declared.Track.{Track}
-use Rattle.rules.specs.declared.answers.SetUp.{SetUp}
 use Rattle.place.specs.Place.{body_of, Fits}
 use Rattle.memory.specs.Ranges.{in_range}
 use Rattle.track.specs.Meaning.{NothingForeign}
+use Rattle.track.specs.Held.{track_or_new}
 use Rattle.place.proofs.Meaning.{any_bytes_nothing_foreign}
 use Rattle.place.proofs.BothWays.{read_written, written_in_range, read_fits}
 use Rattle.memory.specs.Offsets.{clock_at, head_size, body_size, place_size, body_start, whole_places, places_in}
@@ -34,6 +35,7 @@ use Rattle.table.specs.Bytes.{bytes}
 use Rattle.rules.proofs.Says as any
 use Rattle.table.specs.Table.{After, received, looked_up}
 use Rattle.table.proofs.Emptied.{number_zero, no_key, emptied_zero, emptied_length, emptied_bytes, siteless, site_length, site_bytes, before, behind, set_up_site}
+use Rattle.refusals.specs.declared.Refusal.{Refusal}
 
 abbrev cell_in : Place → Cell
 cell_in p = cell_of p.key p.body
@@ -102,7 +104,7 @@ emptied_as s spot false = emptied_bytes s
 pub bytes_set_up : (s : List ℕ) (o : Site) → Bytes s → Bytes (rules.set_up bytes s o).table
 unfolding rules.set_up
 bytes_set_up s o b =
-    let P : After SetUp → Type 0 = λ (r : After SetUp). Bytes r.table in
+    let P : After (Result ⊤ Refusal) → Type 0 = λ (r : After (Result ⊤ Refusal)). Bytes r.table in
     by_test P (not (whole_places (length s))) _ _ (λ _. b)
     (λ _. by_test P (o.known && not (pole_to_pole o.spot.latitude)) _ _ (λ _. b) (λ _. emptied_as s o.spot o.known))
 
@@ -120,5 +122,5 @@ pub table_of : (s : List ℕ) → Bytes s → whole_places (length s) ≡ true �
 table_of s b w once = record { size = w; fit = all_fit s b; once = once }
 
 -- whatever the bytes, a look hands out no ME of a foreign TYPE, and nothing where a mark is not set
-pub looked_nothing_foreign : (s : List ℕ) (key : ℕ) → NothingForeign (looked_up s key).track
+pub looked_nothing_foreign : (s : List ℕ) (key : ℕ) → NothingForeign (track_or_new (looked_up s key))
 looked_nothing_foreign s key = any.looked_nothing_foreign bytes s key (λ i. any_bytes_nothing_foreign (body_at s (places_in s) i))

@@ -1,6 +1,7 @@
 -- What the contracts promise in the rules' terms: whatever meets the contract of a public function says the number that RULES 3.2 gives, or what the lent table holds. Each is a law of `rules`, at the bytes;
 -- of the head, which only the bytes have within, by the test.
 -- Assumes nothing.
+use Rattle.std.specs.Prelude.{Result, Ok, Err, ⊤}
 use Prim.Native.Nat.{ℕ}
 use mathlib.Core.Path.{◌≡◌, refl, sym, ap, ◌∙◌}
 use mathlib.Core.Bool.{Bool, true, false, cond, not}
@@ -15,16 +16,10 @@ use Rattle.refusals.specs.Said.{Said, number, gives}
 use Rattle.layouts.specs.Said.{Values}
 use Rattle.messages.specs.Accepted.{Acceptable}
 use Rattle.messages.specs.Damaged.{Damaged}
-use Rattle.messages.specs.declared.Decoded.{Decoded}
-use Rattle.messages.specs.declared.Decoded.TheVariants as decode
 use Rattle.messages.specs.Said.{said}
 use Rattle.whereabouts.specs.declared.Site.{Site}
 use Rattle.whereabouts.specs.Located.{no_site, site_at}
 use Rattle.track.specs.Said.{looked_said}
-use Rattle.rules.specs.declared.answers.Heard.{Heard}
-use Rattle.rules.specs.declared.answers.SetUp.{SetUp}
-use Rattle.rules.specs.declared.answers.Clock.TheVariants as clocked
-use Rattle.rules.specs.declared.answers.Sited.TheVariants as sited
 use Rattle.rules.specs.Said.{done, set_up_said, heard_said, done_or, next_said, clock_said, spot_in, sited_said, key_above, earns2, earns7, set_up_table, receive_table}
 use Rattle.rules.proofs.Damaged.{else_3, damaged_table, taken_acceptable}
 use Rattle.rules.proofs.Exactly.{says_the_table}
@@ -52,36 +47,38 @@ use Rattle.table.proofs.clock_of.Kinds as clock-of-kinds
 use Rattle.table.proofs.clock_of.Reads as clock-of
 use Rattle.table.proofs.site_of.Kinds as site-of-kinds
 use Rattle.table.proofs.site_of.Reads as site-of
+use Rattle.messages.specs.declared.Message.{Message}
+use Rattle.refusals.specs.declared.Refusal.{Refusal}
 
 -- ---- set-up: 7, then 8
 
 pub set_up_promised : (κs : Lfts 1) (args : Dens κs set-up-kinds.ps) (x : (res_t set-up-kinds.r κs).Denot)
     (left : AtExit (ended_of 1 set-up-kinds.ps set-up-kinds.r) κs) → set-up.Post κs args x left
     → set_up_said x ≡ set_up_table bytes args.0.now no_site
-set_up_promised κs args x left p = ap (λ (y : After SetUp). set_up_said y.answer) p ∙ set_up_says bytes args.0.now no_site
+set_up_promised κs args x left p = ap (λ (y : After (Result ⊤ Refusal)). set_up_said y.answer) p ∙ set_up_says bytes args.0.now no_site
 
 pub set_up_at_promised : (κs : Lfts 1) (args : Dens κs set-up-at-kinds.ps) (x : (res_t set-up-at-kinds.r κs).Denot)
     (left : AtExit (ended_of 1 set-up-at-kinds.ps set-up-at-kinds.r) κs) → set-up-at.Post κs args x left
     → set_up_said x ≡ set_up_table bytes args.0.now (site_at args.1.0)
-set_up_at_promised κs args x left p = ap (λ (y : After SetUp). set_up_said y.answer) p ∙ set_up_says bytes args.0.now (site_at args.1.0)
+set_up_at_promised κs args x left p = ap (λ (y : After (Result ⊤ Refusal)). set_up_said y.answer) p ∙ set_up_says bytes args.0.now (site_at args.1.0)
 
 -- ---- a received message: 1, 7, 2, 3, 4, 5, 6 or 12, or its fields
 
 pub receive_promised : (κs : Lfts 2) (args : Dens κs receive-kinds.ps) (x : (res_t receive-kinds.r κs).Denot)
     (left : AtExit (ended_of 2 receive-kinds.ps receive-kinds.r) κs) → receive.Post κs args x left
     → said x ≡ receive_table bytes args.0.now args.1.0.now args.1.1.0
-receive_promised κs args x left p = ap (λ (y : After Decoded). said y.answer) p ∙ says_the_table bytes bytes_lawful args.0.now args.1.0.now args.1.1.0
+receive_promised κs args x left p = ap (λ (y : After (Result Message Refusal)). said y.answer) p ∙ says_the_table bytes bytes_lawful args.0.now args.1.0.now args.1.1.0
 
-heard_says : (d : Decoded) → heard_said (heard_as d) ≡ done_or (said d)
-heard_says (decode.Message m) = refl
-heard_says (decode.Refused r) = refl
+heard_says : (d : Result Message Refusal) → heard_said (heard_as d) ≡ done_or (said d)
+heard_says (Ok m) = refl
+heard_says (Err r) = refl
 
 pub hear_promised : (κs : Lfts 2) (args : Dens κs hear-kinds.ps) (x : (res_t hear-kinds.r κs).Denot)
     (left : AtExit (ended_of 2 hear-kinds.ps hear-kinds.r) κs) → hear.Post κs args x left
     → heard_said x ≡ done_or (receive_table bytes args.0.now args.1.0.now args.1.1.0)
 hear_promised κs args x left p =
-    let a : After Decoded = received args.0.now args.1.0.now args.1.1.0 in
-    ap (λ (y : After Heard). heard_said y.answer) p
+    let a : After (Result Message Refusal) = received args.0.now args.1.0.now args.1.1.0 in
+    ap (λ (y : After (Result ⊤ Refusal)). heard_said y.answer) p
     ∙ heard_says a.answer
     ∙ ap done_or (says_the_table bytes bytes_lawful args.0.now args.1.0.now args.1.1.0)
 
@@ -142,7 +139,7 @@ clock_says : (s : List ℕ) → clock_said (clock_in s) ≡ cond (earns7 bytes s
 unfolding clock_in
 clock_says s = by_whole (whole_places (length s)) (clock_of s)
   where
-    by_whole : (w : Bool) (t : ℕ) → clock_said (cond w (clocked.At t) (clocked.Refused Places)) ≡ cond (not w) (number 7) (gives t)
+    by_whole : (w : Bool) (t : ℕ) → clock_said (cond w (Ok t) (Err Places)) ≡ cond (not w) (number 7) (gives t)
     by_whole true t = refl
     by_whole false t = refl
 
@@ -155,7 +152,7 @@ site_says : (s : List ℕ) → sited_said (site_in s) ≡ cond (earns7 bytes s) 
 unfolding site_in
 site_says s = by_whole (whole_places (length s)) (site_of s)
   where
-    by_whole : (w : Bool) (x : Site) → sited_said (cond w (sited.Site x) (sited.Refused Places)) ≡ cond (not w) (number 7) (gives (spot_in x))
+    by_whole : (w : Bool) (x : Site) → sited_said (cond w (Ok x) (Err Places)) ≡ cond (not w) (number 7) (gives (spot_in x))
     by_whole true x = refl
     by_whole false x = refl
 

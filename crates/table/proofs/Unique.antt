@@ -1,10 +1,8 @@
 -- Each public function has one answer: two that satisfy its contract both equal its definition. Of one that is lent a `&mut`, the answer is with what the table holds afterwards.
 -- Assumes nothing.
+use Rattle.std.specs.Prelude.{Result, ⊤}
 use mathlib.Core.Path.{sym, ◌∙◌}
 use Rattle.refusals.specs.Answers.{OneAnswer, OneOutcome}
-use Rattle.messages.specs.declared.Decoded.{Decoded}
-use Rattle.rules.specs.declared.answers.Heard.{Heard}
-use Rattle.rules.specs.declared.answers.SetUp.{SetUp}
 use Rattle.table.specs.Table.{After, after}
 use Rattle.table.proofs.set_up.Kinds as set-up-kinds
 use Rattle.table.proofs.set_up.Reads as set-up
@@ -22,17 +20,19 @@ use Rattle.table.proofs.clock_of.Kinds as clock-of-kinds
 use Rattle.table.proofs.clock_of.Reads as clock-of
 use Rattle.table.proofs.site_of.Kinds as site-of-kinds
 use Rattle.table.proofs.site_of.Reads as site-of
+use Rattle.messages.specs.declared.Message.{Message}
+use Rattle.refusals.specs.declared.Refusal.{Refusal}
 
-pub set_up_once : OneOutcome 1 set-up-kinds.ps set-up-kinds.r (After SetUp) (λ κs x left. after x left.0.now) set-up.Post
+pub set_up_once : OneOutcome 1 set-up-kinds.ps set-up-kinds.r (After (Result ⊤ Refusal)) (λ κs x left. after x left.0.now) set-up.Post
 set_up_once κs args x y left left' p q = p ∙ sym q
 
-pub set_up_at_once : OneOutcome 1 set-up-at-kinds.ps set-up-at-kinds.r (After SetUp) (λ κs x left. after x left.0.now) set-up-at.Post
+pub set_up_at_once : OneOutcome 1 set-up-at-kinds.ps set-up-at-kinds.r (After (Result ⊤ Refusal)) (λ κs x left. after x left.0.now) set-up-at.Post
 set_up_at_once κs args x y left left' p q = p ∙ sym q
 
-pub hear_once : OneOutcome 2 hear-kinds.ps hear-kinds.r (After Heard) (λ κs x left. after x left.0.now) hear.Post
+pub hear_once : OneOutcome 2 hear-kinds.ps hear-kinds.r (After (Result ⊤ Refusal)) (λ κs x left. after x left.0.now) hear.Post
 hear_once κs args x y left left' p q = p ∙ sym q
 
-pub receive_once : OneOutcome 2 receive-kinds.ps receive-kinds.r (After Decoded) (λ κs x left. after x left.0.now) receive.Post
+pub receive_once : OneOutcome 2 receive-kinds.ps receive-kinds.r (After (Result Message Refusal)) (λ κs x left. after x left.0.now) receive.Post
 receive_once κs args x y left left' p q = p ∙ sym q
 
 pub look_up_once : OneAnswer 1 look-up-kinds.ps look-up-kinds.r look_up.Post

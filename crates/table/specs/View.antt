@@ -1,6 +1,5 @@
 -- RULES 9.8: the abstract table of `rules`, of the lent bytes.
-use Rattle.std.specs.Prelude.{ℕ, List}
-use Rattle.std.proofs.Math.Option.{Option}
+use Rattle.std.specs.Prelude.{ℕ, List, Option}
 use Rattle.track.specs.declared.Track.{Track}
 use Rattle.rules.specs.View as rules
 use Rattle.table.specs.Bytes.{bytes}

@@ -3,7 +3,6 @@
 
 ghost use Rattle.std.specs.Prelude.{◌≡◌, ◌<◌, true, cond, length};
 ghost use Rattle.memory.specs.Offsets.{Room, whole_places};
-ghost use Rattle.messages.specs.declared.Accepted.TheVariants as accept;
 ghost use Rattle.messages.specs.Accepted.{IsAccepted, frame_coarse, opened_as};
 ghost use Rattle.track.specs.Track.{new_track, step_me};
 ghost use Rattle.place.specs.Place.{track_of};
@@ -12,37 +11,37 @@ ghost use Rattle.table.specs.Heard.{heard};
 ghost use Rattle.table.specs.Table.{after, received, set_up, set_up_at, looked_up, next_above, clock_in, site_in};
 ghost use Rattle.table.specs.Code.{delivered};
 
-use messages::{Accepted, Decoded, Frame};
+use messages::{Frame, Message};
 use positions::Spot;
 use refusals::Refusal;
-use rules::{Clock, Heard, NextKey, SetUp, Sited};
 use table_bytes::Target;
-use track::{Holding, Looked, Track};
+use track::Track;
+use whereabouts::Site;
 
 // Empties the table: no track, no site, clock 0.
-pub fn set_up(table: &mut [u8]) -> SetUp
+pub fn set_up(table: &mut [u8]) -> Result<(), Refusal>
     ensures { after result table.new ≡ set_up table.old }
 {
     if !table_bytes::whole_places(table.len()) {
-        return SetUp::Refused(Refusal::Places);
+        return Err(Refusal::Places);
     }
     table_bytes::clear(table);
-    SetUp::Done
+    Ok(())
 }
 
 // Empties the table and takes the site.
-pub fn set_up_at(table: &mut [u8], site: Spot) -> SetUp
+pub fn set_up_at(table: &mut [u8], site: Spot) -> Result<(), Refusal>
     ensures { after result table.new ≡ set_up_at table.old site }
 {
     if !table_bytes::whole_places(table.len()) {
-        return SetUp::Refused(Refusal::Places);
+        return Err(Refusal::Places);
     }
     if !whereabouts::pole_to_pole(site) {
-        return SetUp::Refused(Refusal::Field);
+        return Err(Refusal::Field);
     }
     table_bytes::clear(table);
     table_bytes::put_site(table, site);
-    SetUp::Done
+    Ok(())
 }
 
 // The track that a message steps: the target's, or a new one.
@@ -74,9 +73,9 @@ fn step_at(table: &mut [u8], n: usize, i: usize, key: u32, t: Track, f: Frame, t
 }
 
 // An acceptable message reaches the table. The clock is already at the time. A free place is only for one that may start a track.
-fn deliver(table: &mut [u8], f: Frame, time: u64) -> Heard
+fn deliver(table: &mut [u8], f: Frame, time: u64) -> Result<(), Refusal>
     requires { (whole_places (length table.old) ≡ true) × IsAccepted f }
-    ensures { after result table.new ≡ heard (delivered table.old (opened_as (accept.Frame f)) time) }
+    ensures { after result table.new ≡ heard (delivered table.old (opened_as (Ok f)) time) }
 {
     let key = messages::frame_key(f);
     let n = table_bytes::places_in(table);
@@ -86,94 +85,81 @@ fn deliver(table: &mut [u8], f: Frame, time: u64) -> Heard
     if (target.held | starts) & (target.at < n) {
         let t = start_of(table, n, target);
         step_at(table, n, target.at, key, t, f, time);
-        return Heard::Done;
+        return Ok(());
     }
-    Heard::Refused(rules::turned_away(starts))
+    Err(rules::turned_away(starts))
 }
 
 // What a message received at a time does to the table: done, or the number that it earns.
-pub fn hear(table: &mut [u8], message: &[u8], time: u64) -> Heard
+pub fn hear(table: &mut [u8], message: &[u8], time: u64) -> Result<(), Refusal>
     ensures { after result table.new ≡ heard (received table.old message.now time) }
 {
     if message.len() != 14 {
-        return Heard::Refused(Refusal::Length);
+        return Err(Refusal::Length);
     }
     if !table_bytes::whole_places(table.len()) {
-        return Heard::Refused(Refusal::Places);
+        return Err(Refusal::Places);
     }
     if time < table_bytes::clock_of(table) {
-        return Heard::Refused(Refusal::Late);
+        return Err(Refusal::Late);
     }
     table_bytes::move_clock(table, time);
-    let answer = messages::accept(message);
-    match answer {
-        Accepted::Frame(f) => deliver(table, f, time),
-        Accepted::Refused(r) => Heard::Refused(r),
-    }
+    let f = messages::accept(message)?;
+    deliver(table, f, time)
 }
 
 // The same, with the decoded message as the answer.
-pub fn receive(table: &mut [u8], message: &[u8], time: u64) -> Decoded
+pub fn receive(table: &mut [u8], message: &[u8], time: u64) -> Result<Message, Refusal>
     ensures { after result table.new ≡ received table.old message.now time }
 {
-    let answer = hear(table, message, time);
-    match answer {
-        Heard::Done => messages::decode(message),
-        Heard::Refused(r) => Decoded::Refused(r),
-    }
+    hear(table, message, time)?;
+    messages::decode(message)
 }
 
 // The track of a key.
-pub fn look_up(table: &[u8], key: u32) -> Looked
+pub fn look_up(table: &[u8], key: u32) -> Result<Option<Track>, Refusal>
     ensures { result ≡ looked_up table.now key }
 {
     if !table_bytes::whole_places(table.len()) {
-        return Looked {
-            answer: Holding::Refused(Refusal::Places),
-            track: track::new_track(),
-        };
+        return Err(Refusal::Places);
     }
     let n = table_bytes::places_in(table);
     let i = table_bytes::find_key(table, n, table_bytes::clock_of(table), key);
     if i < n {
-        return Looked {
-            answer: Holding::Held,
-            track: place::load(table_bytes::body(table, n, i)),
-        };
-    }
-    Looked {
-        answer: Holding::Unheld,
-        track: track::new_track(),
+        Ok(Some(place::load(table_bytes::body(table, n, i))))
+    } else {
+        Ok(None)
     }
 }
 
 // The smallest key held above a given one: from 0 on, this walks the table in the order of its keys.
-pub fn next(table: &[u8], above: u32) -> NextKey
+pub fn next(table: &[u8], above: u32) -> Result<Option<u32>, Refusal>
     ensures { result ≡ next_above table.now above }
 {
     if !table_bytes::whole_places(table.len()) {
-        return NextKey::Refused(Refusal::Places);
+        return Err(Refusal::Places);
     }
     let n = table_bytes::places_in(table);
-    rules::key_or_end(table_bytes::smallest_above(table, n, table_bytes::clock_of(table), above))
+    let clock = table_bytes::clock_of(table);
+    Ok(rules::key_or_end(table_bytes::smallest_above(table, n, clock, above)))
 }
 
-pub fn clock_of(table: &[u8]) -> Clock
+pub fn clock_of(table: &[u8]) -> Result<u64, Refusal>
     ensures { result ≡ clock_in table.now }
 {
     if table_bytes::whole_places(table.len()) {
-        Clock::At(table_bytes::clock_of(table))
+        Ok(table_bytes::clock_of(table))
     } else {
-        Clock::Refused(Refusal::Places)
+        Err(Refusal::Places)
     }
 }
 
-pub fn site_of(table: &[u8]) -> Sited
+pub fn site_of(table: &[u8]) -> Result<Site, Refusal>
     ensures { result ≡ site_in table.now }
 {
     if table_bytes::whole_places(table.len()) {
-        Sited::Site(table_bytes::site_of(table))
+        Ok(table_bytes::site_of(table))
     } else {
-        Sited::Refused(Refusal::Places)
+        Err(Refusal::Places)
     }
 }

@@ -11,6 +11,7 @@ use positions::Spot;
 use track::Track;
 use whereabouts::Site;
 
+#[tactic(auto, unfolding(memory::specs::Offsets::whole_places))]
 pub fn whole_places(l: usize) -> bool
     ensures { result ≡ whole_places l }
 {
@@ -41,6 +42,7 @@ pub fn clock_of(s: &[u8]) -> u64
 }
 
 // The clock moves, and nothing else.
+#[tactic(auto, unfolding(crate::specs::Layout::moved))]
 pub fn move_clock(s: &mut [u8], time: u64)
     requires { head_size ≤ length s.old }
     ensures { s.new ≡ moved s.old time }
@@ -48,6 +50,7 @@ pub fn move_clock(s: &mut [u8], time: u64)
     memory::put8(s, CLOCK, time);
 }
 
+#[tactic(auto, unfolding(crate::specs::Layout::site_from))]
 fn site_from(n: u32, longitude: u32) -> Site
     ensures { result ≡ site_from n longitude }
 {
@@ -56,7 +59,7 @@ fn site_from(n: u32, longitude: u32) -> Site
             known: true,
             spot: Spot {
                 latitude: place::latitude_of(n - 1),
-                longitude: longitude,
+                longitude,
             },
         }
     } else {
@@ -75,6 +78,7 @@ pub fn site_of(s: &[u8]) -> Site
 }
 
 // A track and its key at the place i of n.
+#[tactic(auto, unfolding(crate::specs::Layout::stored))]
 pub fn store(s: &mut [u8], n: usize, i: usize, key: u32, t: Track)
     requires { (i < n) × Room n s.old }
     ensures { s.new ≡ stored s.old n i key t }
@@ -83,14 +87,11 @@ pub fn store(s: &mut [u8], n: usize, i: usize, key: u32, t: Track)
     place::store(s, HEAD + KEY * n + BODY * i, t);
 }
 
+#[tactic(auto, unfolding(crate::specs::Layout::emptied))]
 pub fn clear(s: &mut [u8])
     ensures { s.new ≡ emptied s.old }
 {
-    let mut i = 0;
-    while i < s.len() {
-        s[i] = 0;
-        i += 1;
-    }
+    s.fill(0);
 }
 
 pub fn put_site(s: &mut [u8], site: Spot)

@@ -8,14 +8,14 @@ ghost use Rattle.table_bytes.specs.Code.{none_of, NoneBelow, all_held};
 use crate::layout;
 use memory::{HEAD, KEY, get4};
 
-// A place, and whether it holds the key.
+// A place, and whether it holds the key: both beside each other, so that one test of the place serves a held one and a free one.
 #[derive(Clone, Copy)]
 pub struct Target {
     pub held: bool,
     pub at: usize,
 }
 
-// None of the 8 keys from an offset on is the key.
+// None of the 8 keys from an offset on is the key. It stands written out, as do the others of 4 and 8, so that it compiles to wide compares.
 fn none_of_8(s: &[u8], at: usize, key: u32) -> bool
     requires { (at < 5000) × (at + 32 ≤ length s.now) }
     ensures { result ≡ none_of (λ k. eqb k key) 8 s.now at }
@@ -91,23 +91,17 @@ fn has_key(s: &[u8], n: usize, i: usize, clock: u64, key: u32) -> bool
     requires { (i < n) × Room n s.now }
     ensures { result ≡ holds clock key (place_at s.now n i) }
 {
-    if get4(s, HEAD + KEY * i) == key {
-        memory::is_held(clock, key, layout::body(s, n, i))
-    } else {
-        false
-    }
+    get4(s, HEAD + KEY * i) == key && memory::is_held(clock, key, layout::body(s, n, i))
 }
 
 pub fn find_key(s: &[u8], n: usize, clock: u64, key: u32) -> usize
     requires { Room n s.now }
     ensures { result ≡ lowest (λ i. holds clock key (place_at s.now n i)) n }
 {
-    let mut i = skip(s, n, key);
-    while i < n {
+    for i in skip(s, n, key)..n {
         if has_key(s, n, i, clock, key) {
             return i;
         }
-        i += 1;
     }
     n
 }
@@ -117,11 +111,7 @@ pub fn is_first(s: &[u8], n: usize, i: usize, clock: u64) -> bool
     requires { (i < n) × Room n s.now }
     ensures { result ≡ is_first (place_at s.now n) n clock i }
 {
-    if is_held(s, n, i, clock) {
-        find_key(s, n, clock, get4(s, HEAD + KEY * i)) == i
-    } else {
-        false
-    }
+    is_held(s, n, i, clock) && find_key(s, n, clock, get4(s, HEAD + KEY * i)) == i
 }
 
 // Whether each of the 4 places from i on is held.
@@ -154,12 +144,10 @@ fn find_free(s: &[u8], n: usize, clock: u64) -> usize
     requires { Room n s.now }
     ensures { result ≡ lowest (λ i. not (is_held clock (place_at s.now n i))) n }
 {
-    let mut i = skip_held(s, n, clock);
-    while i < n {
+    for i in skip_held(s, n, clock)..n {
         if !is_held(s, n, i, clock) {
             return i;
         }
-        i += 1;
     }
     n // none is free
 }

@@ -25,12 +25,11 @@ fn better_of(s: &[u8], n: usize, i: usize, clock: u64, above: u32, best: u32) ->
     ensures { result ≡ better clock above best (place_at s.now n i) }
 {
     let at = HEAD + KEY * i;
-    if is_better(s, at, above, best) {
-        if is_held(s, n, i, clock) {
-            return get4(s, at);
-        }
+    if is_better(s, at, above, best) && is_held(s, n, i, clock) {
+        get4(s, at)
+    } else {
+        best
     }
-    best
 }
 
 // The best key so far, after the places up to `to`, which is not among them.
@@ -39,10 +38,8 @@ fn best_to(s: &[u8], n: usize, from: usize, to: usize, clock: u64, above: u32, b
     ensures { result ≡ smallest (place_at s.now n) clock above to }
 {
     let mut best = best;
-    let mut i = from;
-    while i < to {
+    for i in from..to {
         best = better_of(s, n, i, clock, above, best);
-        i += 1;
     }
     best
 }

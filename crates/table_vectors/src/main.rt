@@ -8,14 +8,12 @@
 // `reference/vectors/bench.py` has what each writes.
 #![tactic(auto)]
 
-use encoder::Encoded;
 use keys::Kind;
-use messages::{Decoded, Message};
+use messages::Message;
 use positions::Spot;
 use refusals::Refusal;
-use rules::{Clock, NextKey, SetUp, Sited};
 use std::io::{self, Read};
-use track::{Groups, Holding, Looked, Track};
+use track::{Groups, Track};
 use whereabouts::{Position, Saved, Site};
 
 // ---- what is read; where the input has ended, zeros
@@ -42,16 +40,8 @@ fn length(input: &mut impl Read) -> io::Result<usize> {
     Ok(word(input)? as usize)
 }
 
-fn signed(x: u32) -> i32 {
-    if x < 2147483648 {
-        x as i32
-    } else {
-        (x as i64 - 4294967296) as i32
-    }
-}
-
 fn read_spot(input: &mut impl Read) -> io::Result<Spot> {
-    let latitude = signed(word(input)?);
+    let latitude = word(input)?.cast_signed();
     let longitude = word(input)?;
     Ok(Spot {
         latitude,
@@ -67,20 +57,8 @@ fn say(out: &impl Print, n: impl Into<u64>) -> io::Result<()> {
     print!(out; " {n}")
 }
 
-fn say_flag(out: &impl Print, b: bool) -> io::Result<()> {
-    out.print(if b { " 1" } else { " 0" })
-}
-
-fn say_signed(out: &impl Print, z: i32) -> io::Result<()> {
-    let wide = signs::widen(z);
-    if signs::is_below(wide) {
-        out.print("-")?;
-    }
-    out.print(signs::size_of(wide))
-}
-
 fn say_spot(out: &impl Print, s: Spot) -> io::Result<()> {
-    say_signed(out, s.latitude)?;
+    out.print(s.latitude)?;
     say(out, s.longitude)
 }
 
@@ -97,10 +75,9 @@ fn say_bytes(out: &impl Print, s: &[u8]) -> io::Result<()> {
 
 fn say_message(out: &impl Print, m: Message) -> io::Result<()> {
     let mut bytes = [0u8; 14];
-    let e = encoder::encode(m, &mut bytes);
-    match e {
-        Encoded::Written => say_bytes(out, &bytes),
-        Encoded::Refused(r) => say_refused(out, r),
+    match encoder::encode(m, &mut bytes) {
+        Ok(()) => say_bytes(out, &bytes),
+        Err(r) => say_refused(out, r),
     }
 }
 
@@ -118,23 +95,23 @@ fn say_groups(out: &impl Print, g: Groups) -> io::Result<()> {
 fn say_told(out: &impl Print, g: Groups) -> io::Result<()> {
     say(out, g.status)?;
     say(out, g.typecode)?;
-    say_flag(out, g.bit8)?;
-    say_flag(out, g.coarse)
+    say(out, g.bit8)?;
+    say(out, g.coarse)
 }
 
 fn say_position(out: &impl Print, p: Position) -> io::Result<()> {
-    say_flag(out, p.known)?;
+    say(out, p.known)?;
     out.print(" ")?;
     say_spot(out, p.spot)?;
     say(out, p.time)
 }
 
 fn say_saved(out: &impl Print, v: Saved) -> io::Result<()> {
-    say_flag(out, v.known)?;
+    say(out, v.known)?;
     say(out, v.counts.latitude.0)?;
     say(out, v.counts.longitude.0)?;
     say(out, v.time)?;
-    say_flag(out, v.coarse)
+    say(out, v.coarse)
 }
 
 fn say_track(out: &impl Print, t: Track) -> io::Result<()> {
@@ -142,26 +119,21 @@ fn say_track(out: &impl Print, t: Track) -> io::Result<()> {
     let g = t.groups;
     say_groups(out, g)?;
     say_position(out, t.position)?;
-    let saved = t.saved;
-    let even = saved[0];
-    say_saved(out, even)?;
-    let odd = saved[1];
-    say_saved(out, odd)?;
+    for v in t.saved {
+        say_saved(out, v)?;
+    }
     say_told(out, g)
 }
 
-fn say_holding(out: &impl Print, h: Holding) -> io::Result<()> {
-    match h {
-        Holding::Held => out.print("held"),
-        Holding::Unheld => out.print("unheld"),
-        Holding::Refused(r) => say_refused(out, r),
-    }
-}
-
-// A line's end: whether a key is held, and its track.
-fn say_found(out: &impl Print, looked: Looked) -> io::Result<()> {
-    say_holding(out, looked.answer)?;
-    say_track(out, looked.track)?;
+// A line's end: whether a key is held, and its track, or one that has heard nothing.
+fn say_found(out: &impl Print, looked: Result<Option<Track>, Refusal>) -> io::Result<()> {
+    match looked {
+        Ok(Some(_)) => out.print("held"),
+        Ok(None) => out.print("unheld"),
+        Err(r) => say_refused(out, r),
+    }?;
+    let held = looked.unwrap_or(None);
+    say_track(out, held.unwrap_or(track::new_track()))?;
     out.print("\n")
 }
 
@@ -171,10 +143,10 @@ fn say_looked(out: &impl Print, lent: &[u8], key: u32) -> io::Result<()> {
 
 // ---- the calls
 
-fn say_set_up(out: &impl Print, s: SetUp) -> io::Result<()> {
+fn say_set_up(out: &impl Print, s: Result<(), Refusal>) -> io::Result<()> {
     match s {
-        SetUp::Done => out.print("done"),
-        SetUp::Refused(r) => say_refused(out, r),
+        Ok(()) => out.print("done"),
+        Err(r) => say_refused(out, r),
     }?;
     out.print("\n")
 }
@@ -198,12 +170,10 @@ fn set_up_at(input: &mut impl Read, out: &impl Print, buf: &mut [u8], n: usize) 
 
 // Each byte is the top one of a step of a small generator of 32 bits.
 fn fill_all(lent: &mut [u8], seed: u32) {
-    let mut x = seed as u64;
-    let mut i: usize = 0;
-    while i < lent.len() {
-        x = (x % 4294967296 * 1664525 + 1013904223) % 4294967296;
-        lent[i] = (x / 16777216 % 256) as u8;
-        i += 1;
+    let mut x = seed;
+    for b in lent.iter_mut() {
+        x = x.wrapping_mul(1664525).wrapping_add(1013904223);
+        *b = (x / 16777216) as u8;
     }
 }
 
@@ -217,7 +187,7 @@ fn fill(input: &mut impl Read, buf: &mut [u8], n: usize) -> io::Result<()> {
 
 fn poke(input: &mut impl Read, buf: &mut [u8]) -> io::Result<()> {
     let at = length(input)?;
-    let count = byte(input)? as usize;
+    let count = usize::from(byte(input)?);
     if at <= buf.len() && count <= buf.len() - at {
         let end = at + count;
         streams::read_full(input, &mut buf[at..end])?;
@@ -225,15 +195,15 @@ fn poke(input: &mut impl Read, buf: &mut [u8]) -> io::Result<()> {
     Ok(())
 }
 
-fn say_received(out: &impl Print, lent: &[u8], d: Decoded) -> io::Result<()> {
+fn say_received(out: &impl Print, lent: &[u8], d: Result<Message, Refusal>) -> io::Result<()> {
     match d {
-        Decoded::Message(m) => {
+        Ok(m) => {
             let key = messages::key_of(m);
             say_message(out, m)?;
             print!(out; " {key} ")?;
             say_looked(out, lent, key)
         }
-        Decoded::Refused(r) => {
+        Err(r) => {
             say_refused(out, r)?;
             out.print("\n")
         }
@@ -247,7 +217,7 @@ fn receive_message(out: &impl Print, lent: &mut [u8], s: &[u8], time: u64) -> io
 
 fn receive(input: &mut impl Read, out: &impl Print, buf: &mut [u8], n: usize) -> io::Result<()> {
     let time = long(input)?;
-    let count = byte(input)? as usize;
+    let count = usize::from(byte(input)?);
     let mut space = [0u8; 256];
     let part: &mut [u8] = &mut space;
     if count <= part.len() && n <= buf.len() {
@@ -272,7 +242,7 @@ fn read_kind(input: &mut impl Read) -> io::Result<Kind> {
     if number == 6 {
         return Ok(Kind::C(flag, station));
     }
-    Ok(keys::kind_at(number as u32))
+    Ok(keys::kind_at(u32::from(number)))
 }
 
 fn work_out(input: &mut impl Read, out: &impl Print, buf: &[u8]) -> io::Result<()> {
@@ -290,11 +260,11 @@ fn work_out(input: &mut impl Read, out: &impl Print, buf: &[u8]) -> io::Result<(
     Ok(())
 }
 
-fn say_next(out: &impl Print, n: NextKey) -> io::Result<()> {
+fn say_next(out: &impl Print, n: Result<Option<u32>, Refusal>) -> io::Result<()> {
     match n {
-        NextKey::Key(k) => out.print(k),
-        NextKey::End => out.print("end"),
-        NextKey::Refused(r) => say_refused(out, r),
+        Ok(Some(k)) => out.print(k),
+        Ok(None) => out.print("end"),
+        Err(r) => say_refused(out, r),
     }?;
     out.print("\n")
 }
@@ -308,10 +278,10 @@ fn say_next_key(input: &mut impl Read, out: &impl Print, buf: &[u8], n: usize) -
     Ok(())
 }
 
-fn say_clock(out: &impl Print, c: Clock) -> io::Result<()> {
+fn say_clock(out: &impl Print, c: Result<u64, Refusal>) -> io::Result<()> {
     match c {
-        Clock::At(t) => out.print(t),
-        Clock::Refused(r) => say_refused(out, r),
+        Ok(t) => out.print(t),
+        Err(r) => say_refused(out, r),
     }?;
     out.print(" ")
 }
@@ -324,10 +294,10 @@ fn say_site(out: &impl Print, s: Site) -> io::Result<()> {
     }
 }
 
-fn say_sited(out: &impl Print, s: Sited) -> io::Result<()> {
+fn say_sited(out: &impl Print, s: Result<Site, Refusal>) -> io::Result<()> {
     match s {
-        Sited::Site(at) => say_site(out, at),
-        Sited::Refused(r) => say_refused(out, r),
+        Ok(at) => say_site(out, at),
+        Err(r) => say_refused(out, r),
     }?;
     out.print("\n")
 }
@@ -335,22 +305,13 @@ fn say_sited(out: &impl Print, s: Sited) -> io::Result<()> {
 // The line of the next key, which is answered, or how the walk ends, and 0.
 fn say_following(out: &impl Print, lent: &[u8], above: u32) -> io::Result<u32> {
     let n = table::next(lent, above);
-    match n {
-        NextKey::Key(k) => {
-            print!(out; "{k} ")?;
-            say_looked(out, lent, k)?;
-            Ok(k)
-        }
-        NextKey::End => {
-            out.print("end\n")?;
-            Ok(0)
-        }
-        NextKey::Refused(r) => {
-            say_refused(out, r)?;
-            out.print("\n")?;
-            Ok(0)
-        }
-    }
+    let Ok(Some(k)) = n else {
+        say_next(out, n)?;
+        return Ok(0);
+    };
+    print!(out; "{k} ")?;
+    say_looked(out, lent, k)?;
+    Ok(k)
 }
 
 fn say_keys(out: &impl Print, lent: &[u8]) -> io::Result<()> {

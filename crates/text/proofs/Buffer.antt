@@ -6,7 +6,7 @@ use mathlib.Core.List.{List, [], ◌∷◌, ◌++◌}
 use native.Mathlib.Nat.{add-zero}
 use native.Mathlib.Omega.{arith}
 use lib.ListN.{length, drop, set, length-append}
-use lib.Seq.{sets, sets-eq, set_out}
+use lib.Seq.{sets, sets-eq}
 use Rattle.text.specs.Code.{written, Wrote}
 
 sets_then : (vs l : List ℕ) (i : ℕ) (ws : List ℕ) → sets (sets l i vs) (i + length vs) ws ≡ sets l i (vs ++ ws)
@@ -22,11 +22,6 @@ wrote_none s at = record { next = sym (add-zero at); text = refl }
 pub wrote_byte : (s : List ℕ) (at b : ℕ) → Wrote s at (b ∷ []) (at + 1) (set s at b)
 unfolding written
 wrote_byte s at b = record { next = refl; text = refl }
-
--- a byte past the end is cut off
-pub wrote_past : (s : List ℕ) (at b : ℕ) → length s ≤ at → Wrote s at (b ∷ []) (at + 1) s
-unfolding written
-wrote_past s at b h = record { next = refl; text = sym (set_out s at b h) }
 
 pub wrote_then : {s : List ℕ} {at : ℕ} {vs : List ℕ} {a : ℕ} {l ws : List ℕ} {b : ℕ} {m : List ℕ} → Wrote s at vs a l → Wrote l a ws b m → Wrote s at (vs ++ ws) b m
 unfolding written

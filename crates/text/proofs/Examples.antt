@@ -1,11 +1,11 @@
 -- The two lines of RULES 12.9, the line of a coarse message, a line south of the equator and one of a track that has told nothing: computed.
 -- Assumes nothing.
+use Rattle.std.specs.Prelude.{Some, None}
 use mathlib.Core.Path.{◌≡◌, refl}
 use mathlib.Core.List.{[], ◌∷◌}
 use lib.IntN.{pos, negsuc}
 use Rattle.text.specs.Numbers.{decimal_in, decimal, hex, signed}
 use Rattle.text.specs.Lines.{field, figure, header_text, sender_text, key_text, row_text}
-use Rattle.text.specs.declared.Figure.TheVariants.{Unknown, Known}
 
 -- clock 1400 tracks 1 bad-blocks 0
 pub first_line :
@@ -18,7 +18,7 @@ first_line = refl
 
 -- I ABCDEF 1400 536870912 1073741824 10000 25
 pub second_line :
-    row_text (record { key = 0x1ABCDEF; heard = 1400; latitude = Known (pos 536870912); longitude = Known (pos 1073741824); altitude = Known (pos 10000); step = Known (pos 25) })
+    row_text (record { key = 0x1ABCDEF; heard = 1400; latitude = Some (pos 536870912); longitude = Some (pos 1073741824); altitude = Some (pos 10000); step = Some (pos 25) })
     ≡ 73 ∷ 32 ∷ 65 ∷ 66 ∷ 67 ∷ 68 ∷ 69 ∷ 70
     ∷ 32 ∷ 49 ∷ 52 ∷ 48 ∷ 48
     ∷ 32 ∷ 53 ∷ 51 ∷ 54 ∷ 56 ∷ 55 ∷ 48 ∷ 57 ∷ 49 ∷ 50
@@ -29,7 +29,7 @@ second_line = refl
 
 -- C ABCDEF 0 3 1400 536870912 1073741824 10000 25
 pub coarse_line :
-    row_text (record { key = 0x9579BDE3; heard = 1400; latitude = Known (pos 536870912); longitude = Known (pos 1073741824); altitude = Known (pos 10000); step = Known (pos 25) })
+    row_text (record { key = 0x9579BDE3; heard = 1400; latitude = Some (pos 536870912); longitude = Some (pos 1073741824); altitude = Some (pos 10000); step = Some (pos 25) })
     ≡ 67 ∷ 32 ∷ 65 ∷ 66 ∷ 67 ∷ 68 ∷ 69 ∷ 70 ∷ 32 ∷ 48 ∷ 32 ∷ 51
     ∷ 32 ∷ 49 ∷ 52 ∷ 48 ∷ 48
     ∷ 32 ∷ 53 ∷ 51 ∷ 54 ∷ 56 ∷ 55 ∷ 48 ∷ 57 ∷ 49 ∷ 50
@@ -40,14 +40,14 @@ coarse_line = refl
 
 -- O 00000A 7 -1 0 -1000 100
 pub south :
-    row_text (record { key = 0x200000A; heard = 7; latitude = Known (negsuc 0); longitude = Known (pos 0); altitude = Known (negsuc 999); step = Known (pos 100) })
+    row_text (record { key = 0x200000A; heard = 7; latitude = Some (negsuc 0); longitude = Some (pos 0); altitude = Some (negsuc 999); step = Some (pos 100) })
     ≡ 79 ∷ 32 ∷ 48 ∷ 48 ∷ 48 ∷ 48 ∷ 48 ∷ 65 ∷ 32 ∷ 55 ∷ 32 ∷ 45 ∷ 49 ∷ 32 ∷ 48 ∷ 32 ∷ 45 ∷ 49 ∷ 48 ∷ 48 ∷ 48 ∷ 32 ∷ 49 ∷ 48 ∷ 48 ∷ 10 ∷ []
 unfolding decimal_in decimal hex signed field figure sender_text key_text row_text
 south = refl
 
 -- I 000001 0 - - - -
 pub unknown :
-    row_text (record { key = 0x1000001; heard = 0; latitude = Unknown; longitude = Unknown; altitude = Unknown; step = Unknown })
+    row_text (record { key = 0x1000001; heard = 0; latitude = None; longitude = None; altitude = None; step = None })
     ≡ 73 ∷ 32 ∷ 48 ∷ 48 ∷ 48 ∷ 48 ∷ 48 ∷ 49 ∷ 32 ∷ 48 ∷ 32 ∷ 45 ∷ 32 ∷ 45 ∷ 32 ∷ 45 ∷ 32 ∷ 45 ∷ 10 ∷ []
 unfolding decimal_in decimal hex field figure sender_text key_text row_text
 unknown = refl

@@ -1,5 +1,6 @@
 -- Every line fits into its 128 bytes, and its first bytes are its text: each number has at most 20 digits, and the lengths are added.
 -- Assumes nothing.
+use Rattle.std.specs.Prelude.{Option, Some, None}
 use Prim.Native.Nat.{ℕ, ◌+◌, ◌-◌, ◌≤◌, ◌<◌}
 use mathlib.Core.Path.{◌≡◌, sym, ap, ap₂, ◌∙◌}
 use mathlib.Core.Bool.{Bool, true, false, cond}
@@ -13,8 +14,6 @@ use Rattle.keys.specs.Keys.{letter_in, address_in, coarse_in, flag_in, station_i
 use Rattle.text.specs.Numbers.{decimal, hex, minus, signed}
 use Rattle.text.specs.Lines.{space, newline, field, figure, clock_label, tracks_label, bad_label, header_text, sender_text, key_text, row_text, line_room, line_of, text_in}
 use Rattle.text.specs.Code.{Wrote}
-use Rattle.text.specs.declared.Figure.{Figure}
-use Rattle.text.specs.declared.Figure.TheVariants.{Unknown, Known}
 use Rattle.text.specs.declared.Line.{Line}
 use Rattle.text.specs.declared.Row.{Row}
 use Rattle.text.proofs.Buffer.{text_first}
@@ -32,10 +31,10 @@ signed_most z = by (lt_z z (pos 0))
     by true = omega (arith, length-append minus (decimal (nat_abs z)), decimal_most (nat_abs z))
     by false = omega (arith, decimal_most (nat_abs z))
 
-figure_most : (f : Figure) → length (figure f) ≤ 22
+figure_most : (f : Option ℤ) → length (figure f) ≤ 22
 unfolding figure
-figure_most Unknown = omega arith
-figure_most (Known z) = omega (arith, length-append space (signed z), signed_most z)
+figure_most None = omega arith
+figure_most (Some z) = omega (arith, length-append space (signed z), signed_most z)
 
 -- a flag or a station behind a space has at most two digits
 short_most : (n : ℕ) → n < 100 → length (field space n) ≤ 3

@@ -1,9 +1,7 @@
 -- RULES 12.3, 12.4 and 17.9: a line of the listing as text, in ASCII.
-use Rattle.std.specs.Prelude.{ℕ, ◌-◌, cond, List, [], ◌∷◌, ◌++◌, length, take, replicate}
+use Rattle.std.specs.Prelude.{ℕ, ◌-◌, cond, List, [], ◌∷◌, ◌++◌, length, take, replicate, Option, Some, None, ℤ}
 use Rattle.keys.specs.Keys.{letter_in, address_in, coarse_in, flag_in, station_in}
 use Rattle.text.specs.Numbers.{decimal, hex, minus, signed}
-use Rattle.text.specs.declared.Figure.{Figure}
-use Rattle.text.specs.declared.Figure.TheVariants.{Unknown, Known}
 use Rattle.text.specs.declared.Line.{Line}
 use Rattle.text.specs.declared.Row.{Row}
 
@@ -18,9 +16,9 @@ unfoldable pub field : List ℕ → ℕ → List ℕ
 field label n = label ++ decimal n
 
 -- unknown is "-"
-unfoldable pub figure : Figure → List ℕ
-figure Unknown = space ++ minus
-figure (Known z) = space ++ signed z
+unfoldable pub figure : Option ℤ → List ℕ
+figure None = space ++ minus
+figure (Some z) = space ++ signed z
 
 -- "clock "
 abbrev pub clock_label : List ℕ

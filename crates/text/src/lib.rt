@@ -6,22 +6,26 @@ mod write;
 
 ghost use Rattle.std.specs.Prelude.{◌≡◌, ◌+◌, ◌≤◌, length};
 ghost use Rattle.text.specs.Code.{Wrote};
-ghost use Rattle.text.specs.Lines.{space, field, figure, sender_text, key_text, header_text, row_text, line_room, line_of};
+ghost use Rattle.text.specs.Lines.{space, field, figure, sender_text, key_text, header_text, row_text, line_room, line_of, text_in};
 
 // How many bytes a line has room for: every line fits.
 pub const LINE: usize = 128;
 
-// A line in ASCII, the newline its last byte, then zeros.
+// A line in ASCII, the newline its last byte, then zeros. The length stands beside an array: no heap is allowed, and a line is passed by value.
 #[derive(Clone, Copy)]
 pub struct Line {
     pub bytes: [u8; LINE],
     pub len: usize,
 }
 
-#[derive(Clone, Copy)]
-pub enum Figure {
-    Unknown,
-    Known(i64),
+impl Line {
+    // The text, without the zeros behind it.
+    pub fn as_bytes(&self) -> &[u8]
+        ensures { result.now ≡ text_in self.now }
+    {
+        let end = self.len.min(LINE);
+        &self.bytes[..end]
+    }
 }
 
 // What a line says of a track.
@@ -29,22 +33,22 @@ pub enum Figure {
 pub struct Row {
     pub key: u32,
     pub heard: u64,
-    pub latitude: Figure,
-    pub longitude: Figure,
-    pub altitude: Figure,
+    pub latitude: Option<i64>,
+    pub longitude: Option<i64>,
+    pub altitude: Option<i64>,
     // of the altitude: `report` makes both unknown together
-    pub step: Figure,
+    pub step: Option<i64>,
 }
 
-fn put_figure(out: &mut [u8], at: usize, f: Figure) -> usize
+fn put_figure(out: &mut [u8], at: usize, f: Option<i64>) -> usize
     requires { at + 22 ≤ length out.old }
     ensures wrote { Wrote out.old at (figure f) result out.new }
     ensures upper_bound { result ≤ at + 22 }
 {
     let a = write::put_byte(out, at, b' ');
     match f {
-        Figure::Known(z) => numbers::put_signed(out, a, z),
-        Figure::Unknown => write::put_byte(out, a, b'-'),
+        Some(z) => numbers::put_signed(out, a, z),
+        None => write::put_byte(out, a, b'-'),
     }
 }
 
@@ -94,29 +98,13 @@ fn fill_row(out: &mut [u8], row: Row) -> usize
     requires { line_room ≤ length out.old }
     ensures { Wrote out.old 0 (row_text row) result out.new }
 {
-    let latitude = row.latitude;
-    let longitude = row.longitude;
-    let altitude = row.altitude;
-    let step = row.step;
     let a = put_key(out, 0, row.key);
     let a = put_number(out, a, row.heard);
-    let a = put_figure(out, a, latitude);
-    let a = put_figure(out, a, longitude);
-    let a = put_figure(out, a, altitude);
-    let a = put_figure(out, a, step);
+    let a = put_figure(out, a, row.latitude);
+    let a = put_figure(out, a, row.longitude);
+    let a = put_figure(out, a, row.altitude);
+    let a = put_figure(out, a, row.step);
     write::put_byte(out, a, b'\n')
-}
-
-// What has no room for every line gets the line cut off.
-fn put_row(out: &mut [u8], row: Row) -> usize
-    ensures { Wrote out.old 0 (row_text row) result out.new }
-{
-    if LINE <= out.len() {
-        return fill_row(out, row);
-    }
-    let mut line = [0u8; LINE];
-    let n = fill_row(&mut line, row);
-    write::put_text(out, 0, &line[..n])
 }
 
 fn fill_header(out: &mut [u8], clock: u64, tracks: u64, bad: u64) -> usize
@@ -129,31 +117,20 @@ fn fill_header(out: &mut [u8], clock: u64, tracks: u64, bad: u64) -> usize
     write::put_byte(out, a, b'\n')
 }
 
-fn put_header(out: &mut [u8], clock: u64, tracks: u64, bad: u64) -> usize
-    ensures { Wrote out.old 0 (header_text clock tracks bad) result out.new }
-{
-    if LINE <= out.len() {
-        return fill_header(out, clock, tracks, bad);
-    }
-    let mut line = [0u8; LINE];
-    let n = fill_header(&mut line, clock, tracks, bad);
-    write::put_text(out, 0, &line[..n])
-}
-
 // The listing's first line.
 pub fn header_line(clock: u64, tracks: u64, bad: u64) -> Line
     ensures { result ≡ line_of (header_text clock tracks bad) }
 {
-    let mut out = [0u8; LINE];
-    let n = put_header(&mut out, clock, tracks, bad);
-    Line { bytes: out, len: n }
+    let mut bytes = [0; LINE];
+    let len = fill_header(&mut bytes, clock, tracks, bad);
+    Line { bytes, len }
 }
 
 // The line of a track.
 pub fn row_line(row: Row) -> Line
     ensures { result ≡ line_of (row_text row) }
 {
-    let mut out = [0u8; LINE];
-    let n = put_row(&mut out, row);
-    Line { bytes: out, len: n }
+    let mut bytes = [0; LINE];
+    let len = fill_row(&mut bytes, row);
+    Line { bytes, len }
 }

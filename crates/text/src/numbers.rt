@@ -1,4 +1,4 @@
-// Numbers as text: decimal in the fewest digits, hexadecimal in six, and with a sign. A buffer has room for the most digits, so that no digit is tested for.
+// Numbers as text: decimal in the fewest digits, hexadecimal in six, and with a sign. A buffer has room for the most digits, so that no digit is tested for. The digits are put by hand, for speed: every line of a listing passes here.
 ghost use Rattle.std.specs.Prelude.{◌≡◌, ◌∷◌, [], ◌+◌, ◌%◌, ◌^◌, ◌≤◌, ◌<◌, length};
 ghost use Rattle.text.specs.Code.{Wrote, two, four, eight};
 ghost use Rattle.text.specs.Numbers.{decimal, hex, hex_digit, signed};

@@ -1,5 +1,6 @@
 -- The rules of RULES 8, one by one. Each is read off the definitions, once a test in its way is known.
 -- Assumes nothing.
+use Rattle.std.specs.Prelude.{Result, Ok, Err}
 use Prim.Native.Nat.{ℕ, ◌-◌, ◌≤◌, ◌<◌}
 use native.Mathlib.Omega.{arith}
 use mathlib.Core.Path.{◌≡◌, refl, sym, ap, subst, ◌∙◌}
@@ -20,8 +21,6 @@ use Rattle.positions.specs.declared.Turn.TheVariants as turn
 use Rattle.positions.specs.declared.Format.{Format}
 use Rattle.positions.specs.declared.Size.{Size}
 use Rattle.positions.specs.declared.Size.TheVariants.{Fine, Coarse}
-use Rattle.positions.specs.declared.Found.{Found}
-use Rattle.positions.specs.declared.Found.TheVariants as find
 use Rattle.positions.specs.Positions.{count_size, singly}
 use Rattle.layouts.specs.declared.identification.Identification.{Identification}
 use Rattle.layouts.specs.declared.surface.Surface.{Surface}
@@ -35,13 +34,9 @@ use Rattle.layouts.specs.declared.bodies.Body.TheVariants as body
 use Rattle.layouts.specs.Bodies.{body_me, body_fits}
 use Rattle.messages.specs.Message.{decoded}
 use Rattle.messages.specs.declared.Message.{Message}
-use Rattle.messages.specs.declared.Decoded.{Decoded}
-use Rattle.messages.specs.declared.Decoded.TheVariants as decode
 use Rattle.messages.proofs.BothWays.{decoded_good}
 use Rattle.messages.proofs.Fitting.{fits_body}
 use Rattle.whereabouts.specs.declared.Saved.{Saved}
-use Rattle.whereabouts.specs.declared.Placed.{Placed}
-use Rattle.whereabouts.specs.declared.Placed.TheVariants as placed
 use Rattle.whereabouts.specs.declared.Position.{Position}
 use Rattle.whereabouts.specs.declared.Site.{Site}
 use Rattle.track.specs.declared.Track.{Track}
@@ -60,23 +55,23 @@ new_knows_nothing = (refl, refl, refl, refl)
 -- ---- refused or accepted
 
 pub refusal_passed_on : (t : Track) (r : Refusal) (site : Site) (time : ℕ)
-    → stepped t (decode.Refused r) site time ≡ record { answer = decode.Refused r; track = t }
+    → stepped t (Err r) site time ≡ record { answer = Err r; track = t }
 refusal_passed_on t r site time = refl
 
 pub misfit_refused : (t : Track) (m : Message) (site : Site) (time : ℕ) → body_fits m.body ≡ false
-    → stepped t (decode.Message m) site time ≡ record { answer = decode.Refused Field; track = t }
+    → stepped t (Ok m) site time ≡ record { answer = Err Field; track = t }
 misfit_refused t m site time e = rw e
 
 pub accepted : (t : Track) (m : Message) (site : Site) (time : ℕ) → body_fits m.body ≡ true
-    → stepped t (decode.Message m) site time ≡ record { answer = decode.Message m; track = step_body t m.body (body_me m.body) site time }
+    → stepped t (Ok m) site time ≡ record { answer = Ok m; track = step_body t m.body (body_me m.body) site time }
 accepted t m site time e = rw e
 
-body_decoded : (s : List ℕ) (m : Message) → Bytes s → decoded s ≡ decode.Message m → body_fits m.body ≡ true
+body_decoded : (s : List ℕ) (m : Message) → Bytes s → decoded s ≡ Ok m → body_fits m.body ≡ true
 body_decoded s m h e = fits_body m (decoded_good s m h e).0
 
-passed_on_lem : (t : Track) (s : List ℕ) (d : Decoded) (site : Site) (time : ℕ) → Bytes s → decoded s ≡ d → (stepped t d site time).answer ≡ d
-passed_on_lem t s (decode.Refused r) site time h e = refl
-passed_on_lem t s (decode.Message m) site time h e = ap (λ (x : Stepped). x.answer) (accepted t m site time (body_decoded s m h e))
+passed_on_lem : (t : Track) (s : List ℕ) (d : Result Message Refusal) (site : Site) (time : ℕ) → Bytes s → decoded s ≡ d → (stepped t d site time).answer ≡ d
+passed_on_lem t s (Err r) site time h e = refl
+passed_on_lem t s (Ok m) site time h e = ap (λ (x : Stepped). x.answer) (accepted t m site time (body_decoded s m h e))
 
 -- what the decoder takes from bytes always fits, so a step refuses nothing that the decoder did not
 pub answer_passed_on : (t : Track) (s : List ℕ) (site : Site) (time : ℕ) → Bytes s → (stepped t (decoded s) site time).answer ≡ decoded s
@@ -248,13 +243,13 @@ module _ (t : Track) (me : ℕ) (site : Site) (time : ℕ) where
       → (step_body t (body.Coarse b) me site time).position
       ≡ placed_or (read_singly t.position Coarse (coarse_counts b) (format_of b.f) time) t.position
   coarse_never_paired b e =
-      coarse_located b ∙ ap (λ (x : Placed). placed_or x t.position) (sizes_never_paired t.position (get_or t.saved (1 - b.f) no_saved) Coarse _ (format_of b.f) time e)
+      coarse_located b ∙ ap (λ (x : Result Position Refusal). placed_or x t.position) (sizes_never_paired t.position (get_or t.saved (1 - b.f) no_saved) Coarse _ (format_of b.f) time e)
 
   pub fine_never_paired : (b : Airborne) → 0 < b.typecode → (get_or t.saved (1 - b.f) no_saved).coarse ≡ true
       → (step_body t (body.Airborne b) me site time).position ≡ placed_or (read_singly t.position Fine (counts_in b) (format_of b.f) time) t.position
   fine_never_paired b n e =
       airborne_located b n
-      ∙ ap (λ (x : Placed). placed_or x t.position) (sizes_never_paired t.position (get_or t.saved (1 - b.f) no_saved) Fine _ (format_of b.f) time (ap not e))
+      ∙ ap (λ (x : Result Position Refusal). placed_or x t.position) (sizes_never_paired t.position (get_or t.saved (1 - b.f) no_saved) Fine _ (format_of b.f) time (ap not e))
 
   pub surface_located : (b : Surface)
       → (step_body t (body.Surface b) me site time).position
@@ -292,39 +287,39 @@ module _ (p : Position) (size : Size) (counts : Counts) (format : Format) (time 
   unfolding read_singly
   read_within k h = rw (within p.known (time - p.time) 120000 k h)
 
-  pub stays_beyond : 120000 < time - p.time → read_singly p size counts format time ≡ placed.At p
+  pub stays_beyond : 120000 < time - p.time → read_singly p size counts format time ≡ Ok p
   unfolding read_singly
   stays_beyond h = rw (beyond p.known (time - p.time) 120000 h)
 
-  pub stays_unknown : p.known ≡ false → read_singly p size counts format time ≡ placed.At p
+  pub stays_unknown : p.known ≡ false → read_singly p size counts format time ≡ Ok p
   unfolding read_singly
   stays_unknown k = rw k
 
   -- ---- a position found takes the message's time; on 9 or 10 a pair is read singly, and what is read singly stays; 8 is passed on
 
-  pub pair_found_lem : (found : Found) (spot : Spot) → found ≡ find.At spot
-      → after_pair found p size counts format time ≡ placed.At (record { known = true; spot = spot; time = time })
+  pub pair_found_lem : (found : Result Spot Refusal) (spot : Spot) → found ≡ Ok spot
+      → after_pair found p size counts format time ≡ Ok (record { known = true; spot = spot; time = time })
   pair_found_lem found spot e = rw e
 
-  pub pair_refused : (found : Found) (r : Refusal) → found ≡ find.Refused r
+  pub pair_refused : (found : Result Spot Refusal) (r : Refusal) → found ≡ Err r
       → after_pair found p size counts format time ≡ passed_on r (read_singly p size counts format time)
   pair_refused found r e = rw e
 
-  pub pair_nine : (found : Found) → found ≡ find.Refused Latitude → after_pair found p size counts format time ≡ read_singly p size counts format time
+  pub pair_nine : (found : Result Spot Refusal) → found ≡ Err Latitude → after_pair found p size counts format time ≡ read_singly p size counts format time
   pair_nine found e = pair_refused found Latitude e
 
-  pub pair_ten : (found : Found) → found ≡ find.Refused Zones → after_pair found p size counts format time ≡ read_singly p size counts format time
+  pub pair_ten : (found : Result Spot Refusal) → found ≡ Err Zones → after_pair found p size counts format time ≡ read_singly p size counts format time
   pair_ten found e = pair_refused found Zones e
 
-  pub near_found_lem : (reference : Spot) (turn : Turn) (spot : Spot) → singly (count_size size) reference counts turn format ≡ find.At spot
-      → read_near reference p size counts turn format time ≡ placed.At (record { known = true; spot = spot; time = time })
+  pub near_found_lem : (reference : Spot) (turn : Turn) (spot : Spot) → singly (count_size size) reference counts turn format ≡ Ok spot
+      → read_near reference p size counts turn format time ≡ Ok (record { known = true; spot = spot; time = time })
   unfolding read_near
-  near_found_lem reference turn spot e = ap (λ (x : Found). settled x p time) e
+  near_found_lem reference turn spot e = ap (λ (x : Result Spot Refusal). settled x p time) e
 
-  pub near_refused : (reference : Spot) (turn : Turn) (r : Refusal) → singly (count_size size) reference counts turn format ≡ find.Refused r
-      → read_near reference p size counts turn format time ≡ passed_on r (placed.At p)
+  pub near_refused : (reference : Spot) (turn : Turn) (r : Refusal) → singly (count_size size) reference counts turn format ≡ Err r
+      → read_near reference p size counts turn format time ≡ passed_on r (Ok p)
   unfolding read_near
-  near_refused reference turn r e = ap (λ (x : Found). settled x p time) e
+  near_refused reference turn r e = ap (λ (x : Result Spot Refusal). settled x p time) e
 
 module _ (p : Position) (counts : Counts) (format : Format) (time : ℕ) where
   pub surface_within : (site : Site) → p.known ≡ true → time - p.time ≤ 120000
@@ -337,7 +332,7 @@ module _ (p : Position) (counts : Counts) (format : Format) (time : ℕ) where
   unfolding surface_position
   surface_by_site site e k = rw (e, k)
 
-  pub surface_by_none : (site : Site) → is_fresh p time ≡ false → site.known ≡ false → surface_position p site counts format time ≡ placed.At p
+  pub surface_by_none : (site : Site) → is_fresh p time ≡ false → site.known ≡ false → surface_position p site counts format time ≡ Ok p
   unfolding surface_position
   surface_by_none site e k = rw (e, k)
 

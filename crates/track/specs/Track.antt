@@ -1,5 +1,5 @@
 -- RULES 8.1 to 8.15 and 17.7: what one message does to its track.
-use Rattle.std.specs.Prelude.{ℕ, ◌-◌, ◌%◌, ◌^◌, [], ◌∷◌, Bool, true, false, cond, eqb, get_or, set}
+use Rattle.std.specs.Prelude.{ℕ, ◌-◌, ◌%◌, ◌^◌, [], ◌∷◌, Bool, true, false, cond, eqb, get_or, set, Result, Ok, Err}
 use Rattle.refusals.specs.declared.Refusal.TheVariants.{Field}
 use Rattle.positions.specs.declared.Counts.{Counts}
 use Rattle.positions.specs.declared.Format.{Format}
@@ -9,13 +9,7 @@ use Rattle.layouts.specs.declared.airborne.Airborne.{Airborne}
 use Rattle.layouts.specs.declared.coarse.Coarse.{Coarse}
 use Rattle.layouts.specs.declared.bodies.Body.{Body}
 use Rattle.layouts.specs.declared.bodies.Body.TheVariants as body
-use Rattle.layouts.specs.declared.bodies.Taken.{Taken}
-use Rattle.layouts.specs.declared.bodies.Taken.TheVariants as read
 use Rattle.layouts.specs.Bodies.{taken_by, body_me, body_fits}
-use Rattle.messages.specs.declared.Decoded.{Decoded}
-use Rattle.messages.specs.declared.Decoded.TheVariants as decode
-use Rattle.whereabouts.specs.declared.Placed.{Placed}
-use Rattle.whereabouts.specs.declared.Placed.TheVariants as placed
 use Rattle.whereabouts.specs.declared.Position.{Position}
 use Rattle.whereabouts.specs.declared.Saved.{Saved}
 use Rattle.whereabouts.specs.declared.Site.{Site}
@@ -24,6 +18,8 @@ use Rattle.track.specs.declared.Track.{Track}
 use Rattle.track.specs.declared.Stepped.{Stepped}
 use Rattle.track.specs.Groups.{no_groups, identified, moving, on_surface, stating, at_pressure, reported, high, positioned}
 use Rattle.whereabouts.specs.Located.{no_position, size_of, airborne_position, surface_position}
+use Rattle.messages.specs.declared.Message.{Message}
+use Rattle.refusals.specs.declared.Refusal.{Refusal}
 
 abbrev pub no_saved : Saved
 no_saved = record { known = false; coarse = false; counts = record { latitude = record { 0 = 0 }; longitude = record { 0 = 0 } }; time = 0 }
@@ -41,9 +37,9 @@ abbrev pub format_of : ℕ → Format
 format_of f = cond (eqb f 0) Even Odd
 
 -- RULES 8.15: the position after a message; on 8, which only a track or a site with values out of their range earns, it stays
-abbrev pub placed_or : Placed → Position → Position
-placed_or (placed.At found) p = found
-placed_or (placed.Refused r) p = p
+abbrev pub placed_or : Result Position Refusal → Position → Position
+placed_or (Ok found) p = found
+placed_or (Err r) p = p
 
 -- the encoded position of an airborne message, and of a coarse one
 abbrev pub counts_in : Airborne → Counts
@@ -100,17 +96,17 @@ step_body t (body.Status b) me site time = group_track t (stating t.groups me) t
 step_body t (body.Coarse b) me site time = coarse_track t b me time
 
 -- what the ME of a message does, of which 56 bits are read: one that is not taken leaves the track
-abbrev pub step_taken : Track → Taken → ℕ → Site → ℕ → Track
-step_taken t (read.Body b) me site time = step_body t b me site time
-step_taken t (read.Refused r) me site time = t
+abbrev pub step_taken : Track → Result Body Refusal → ℕ → Site → ℕ → Track
+step_taken t (Ok b) me site time = step_body t b me site time
+step_taken t (Err r) me site time = t
 
 abbrev pub step_me : Track → Bool → ℕ → Site → ℕ → Track
 step_me t coarse n site time = step_taken t (taken_by coarse (n % 2 ^ 56)) (n % 2 ^ 56) site time
 
 -- RULES 8.5 and 8.15: what the decoder's answer does: a message steps the track, and a refusal is passed on and leaves it; a message whose ME fields do not fit is 8 (DF, CA or CF and AA are not read here)
-abbrev pub stepped : Track → Decoded → Site → ℕ → Stepped
-stepped t (decode.Refused r) site time = record { answer = decode.Refused r; track = t }
-stepped t (decode.Message m) site time =
+abbrev pub stepped : Track → Result Message Refusal → Site → ℕ → Stepped
+stepped t (Err r) site time = record { answer = Err r; track = t }
+stepped t (Ok m) site time =
     cond (body_fits m.body)
-    (record { answer = decode.Message m; track = step_body t m.body (body_me m.body) site time })
-    (record { answer = decode.Refused Field; track = t })
+    (record { answer = Ok m; track = step_body t m.body (body_me m.body) site time })
+    (record { answer = Err Field; track = t })

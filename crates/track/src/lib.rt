@@ -13,16 +13,17 @@ ghost use Rattle.track.specs.Code.{way_of, airborne_aloft, coarse_aloft};
 ghost use Rattle.whereabouts.specs.Located.{size_of};
 
 use counts::{LatitudeCount, LongitudeCount};
-pub use held::{Holding, Looked, is_in_date};
-use layouts::{Airborne, Coarse, Layout, Surface, Written};
+pub use held::is_in_date;
+use layouts::{Airborne, Coarse, Layout, Surface};
 pub use meaning::meant;
-use messages::Decoded;
+use messages::Message;
 use positions::{Counts, Format, Size};
 use refusals::Refusal;
-use whereabouts::{Placed, Position, Saved, Site};
+use whereabouts::{Position, Saved, Site};
 
 // What was last heard of each group: of four the ME that gave it, 0 where none did; of two the code of 12 bits, 0 where it is unknown. Of the latest position message its TYPE, 0 where none was heard,
 // and bit 8 of ME, which one on the surface does not have; a coarse one has neither, and leaves both. Whether the velocity is a coarse message, which its bits do not tell.
+// The marks are bools and no `Size`, since each is one bit of the lent bytes.
 #[derive(Clone, Copy)]
 pub struct Groups {
     pub identification: u64,
@@ -54,10 +55,10 @@ struct Aloft {
     counts: Counts,
 }
 
-// The decoder's answer passed on, and the track after it: a refusal leaves the track.
+// The decoder's answer passed on, and the track after it: a refusal leaves the track, which `slice_places` stores with its key all the same.
 #[derive(Clone, Copy)]
 pub struct Stepped {
-    pub answer: Decoded,
+    pub answer: Result<Message, Refusal>,
     pub track: Track,
 }
 
@@ -96,13 +97,10 @@ fn format_of(f: u8) -> Format
 }
 
 // Where the message is placed; where it is not, since values are out of their range, the position stays.
-fn placed_or(placed: Placed, p: Position) -> Position
+fn placed_or(placed: Result<Position, Refusal>, p: Position) -> Position
     ensures { result ≡ placed_or placed p }
 {
-    match placed {
-        Placed::At(found) => found,
-        Placed::Refused(_) => p,
-    }
+    placed.unwrap_or(p)
 }
 
 fn size_of(coarse: bool) -> Size
@@ -114,15 +112,13 @@ fn size_of(coarse: bool) -> Size
 fn airborne_aloft(g: Groups, b: Airborne) -> Aloft
     ensures { result ≡ airborne_aloft g b }
 {
-    let latitude = b.latitude;
-    let longitude = b.longitude;
     Aloft {
         groups: replaced::with_altitude(g, b.typecode, b.bit8, b.altitude),
         coarse: false,
         f: b.f,
         counts: Counts {
-            latitude: latitude,
-            longitude: longitude,
+            latitude: b.latitude,
+            longitude: b.longitude,
         },
     }
 }
@@ -130,15 +126,13 @@ fn airborne_aloft(g: Groups, b: Airborne) -> Aloft
 fn coarse_aloft(g: Groups, b: Coarse, me: u64) -> Aloft
     ensures { result ≡ coarse_aloft g b me }
 {
-    let latitude = b.latitude;
-    let longitude = b.longitude;
     Aloft {
         groups: replaced::with_coarse(g, me, b.altitude),
         coarse: true,
         f: b.f,
         counts: Counts {
-            latitude: latitude,
-            longitude: longitude,
+            latitude: b.latitude,
+            longitude: b.longitude,
         },
     }
 }
@@ -158,8 +152,7 @@ fn other_of(both: [Saved; 2], f: u8) -> Saved
     requires { f < 2 }
     ensures { result ≡ get_or both (1 - f) no_saved }
 {
-    let other = (1 - f) as usize;
-    both[other]
+    both[usize::from(1 - f)]
 }
 
 // The two saved ones, with another for that of its F.
@@ -168,11 +161,12 @@ fn with_own(both: [Saved; 2], f: u8, own: Saved) -> [Saved; 2]
     ensures { result ≡ set both f own }
 {
     let mut saved = both;
-    saved[f as usize] = own;
+    saved[usize::from(f)] = own;
     saved
 }
 
 // A position in the air, fine or coarse, is saved by its F, and paired with the other one.
+#[tactic(auto, unfolding(crate::specs::Track::saved_track))]
 fn saved_track(t: Track, a: Aloft, time: u64) -> Track
     requires { a.f < 2 }
     ensures { result ≡ saved_track t a.groups a.coarse a.f a.counts time }
@@ -181,63 +175,56 @@ fn saved_track(t: Track, a: Aloft, time: u64) -> Track
     let own = Saved {
         known: true,
         coarse: a.coarse,
-        counts: counts,
-        time: time,
+        counts,
+        time,
     };
-    let both = t.saved;
-    let partner = other_of(both, a.f);
-    let saved = with_own(both, a.f, own);
-    let g = a.groups;
     let p = t.position;
+    let partner = other_of(t.saved, a.f);
     let size = size_of(a.coarse);
     let format = format_of(a.f);
     Track {
         heard: time,
-        groups: g,
+        groups: a.groups,
         position: placed_or(
             whereabouts::airborne_position(p, partner, size, counts, format, time),
             p,
         ),
-        saved: saved,
+        saved: with_own(t.saved, a.f, own),
     }
 }
 
 // A surface message clears the two saved ones.
+#[tactic(auto, unfolding(crate::specs::Track::surface_track))]
 fn surface_track(t: Track, b: Surface, me: u64, site: Site, time: u64) -> Track
     requires { b.f < 2 }
     ensures { result ≡ surface_track t b me site time }
 {
     let cleared = no_saved();
     let saved = [cleared, cleared];
-    let latitude = b.latitude;
-    let longitude = b.longitude;
     let counts = Counts {
-        latitude: latitude,
-        longitude: longitude,
+        latitude: b.latitude,
+        longitude: b.longitude,
     };
     let p = t.position;
-    let g = t.groups;
     Track {
         heard: time,
-        groups: replaced::with_surface(g, b.typecode, me),
+        groups: replaced::with_surface(t.groups, b.typecode, me),
         position: placed_or(
             whereabouts::surface_position(p, site, counts, format_of(b.f), time),
             p,
         ),
-        saved: saved,
+        saved,
     }
 }
 
+#[tactic(auto, unfolding(crate::specs::Track::group_track))]
 fn group_track(t: Track, g: Groups, time: u64) -> Track
     ensures { result ≡ group_track t g time }
 {
-    let p = t.position;
-    let saved = t.saved;
     Track {
         heard: time,
         groups: g,
-        position: p,
-        saved: saved,
+        ..t
     }
 }
 
@@ -258,9 +245,10 @@ fn way_of(coarse: bool, me: u64) -> Layout
     ensures { result ≡ way_of coarse me }
 {
     if coarse {
-        return Layout::Airborne;
+        Layout::Airborne
+    } else {
+        layouts::layout_of(me)
     }
-    layouts::layout_of(me)
 }
 
 // What the ME of a message, coarse or not, does to its track, by its layout: one that is not taken leaves it. Of the number 56 bits are read.
@@ -269,39 +257,33 @@ pub fn step_me(t: Track, coarse: bool, number: u64, site: Site, time: u64) -> Tr
 {
     let g = t.groups;
     let me = number % 0x100_0000_0000_0000;
-    let layout = way_of(coarse, me);
-    match layout {
+    match way_of(coarse, me) {
         Layout::Identification => group_track(t, replaced::with_identification(g, me), time),
         Layout::Surface => surface_track(t, layouts::surface_of(me), me, site, time),
         Layout::Airborne => air_step(t, coarse, me, time),
-        Layout::Ground => group_track(t, replaced::with_velocity(g, me), time),
-        Layout::Air => group_track(t, replaced::with_velocity(g, me), time),
+        Layout::Ground | Layout::Air => group_track(t, replaced::with_velocity(g, me), time),
         Layout::Status => group_track(t, replaced::with_status(g, me), time),
-        // no TYPE says so
-        Layout::Coarse => t,
-        Layout::NotTaken => t,
+        // no TYPE says Coarse
+        Layout::Coarse | Layout::NotTaken => t,
     }
 }
 
 // What a message does to its track. A refusal is passed on; one whose ME fields do not fit is refused with 8.
-pub fn step(t: Track, answer: Decoded, site: Site, time: u64) -> Stepped
+pub fn step(t: Track, answer: Result<Message, Refusal>, site: Site, time: u64) -> Stepped
     ensures { result ≡ stepped t answer site time }
 {
-    let Decoded::Message(m) = answer else {
-        return Stepped {
-            answer: answer,
-            track: t,
-        };
+    let Ok(m) = answer else {
+        return Stepped { answer, track: t };
     };
     let body = m.body;
-    let Written::Me(me) = layouts::me_of(body) else {
+    let Ok(me) = layouts::me_of(body) else {
         return Stepped {
-            answer: Decoded::Refused(Refusal::Field),
+            answer: Err(Refusal::Field),
             track: t,
         };
     };
     Stepped {
-        answer: answer,
+        answer,
         track: step_me(t, layouts::is_coarse(body), me, site, time),
     }
 }

@@ -1,6 +1,6 @@
 // What a track means whose values may be any, as those that are read from a lent table: each then has a meaning in range.
 // TYPE is tested here and not by `layout_of`, which branches: a message pays for it.
-ghost use Rattle.std.specs.Prelude.{◌≡◌, cond, pos};
+ghost use Rattle.std.specs.Prelude.{◌≡◌, cond};
 ghost use Rattle.track.specs.Meaning.{gives_identification, gives_velocity, gives_surface, gives_status, meant_groups, meant_position, meant_saved, meant};
 
 use crate::{Groups, Track, no_saved};
@@ -37,75 +37,56 @@ fn gives_status(me: u64) -> bool
 }
 
 // Each value is chosen by itself, which compiles to no branch; an encoded position has so many that a branch costs less.
-fn or_zero(counts: bool, n: u64) -> u64
-    ensures { result ≡ cond counts n 0 }
+fn or_zero<T: Copy>(counts: bool, value: T, zero: T) -> T
+    ensures { result ≡ cond counts value zero }
 {
-    if counts { n } else { 0 }
+    if counts { value } else { zero }
 }
 
-fn or_zero_u32(counts: bool, n: u32) -> u32
-    ensures { result ≡ cond counts n 0 }
-{
-    if counts { n } else { 0 }
-}
-
-fn or_zero_i32(counts: bool, z: i32) -> i32
-    ensures { result ≡ cond counts z (pos 0) }
-{
-    if counts { z } else { 0 }
-}
-
+#[tactic(auto, unfolding(crate::specs::Meaning::meant_groups))]
 fn meant_groups(g: Groups) -> Groups
     ensures { result ≡ meant_groups g }
 {
     Groups {
-        identification: or_zero(gives_identification(g.identification), g.identification),
-        velocity: or_zero(gives_velocity(g.coarse, g.velocity), g.velocity),
-        surface: or_zero(gives_surface(g.surface), g.surface),
-        status: or_zero(gives_status(g.status), g.status),
-        pressure: g.pressure,
-        height: g.height,
-        typecode: g.typecode,
-        bit8: g.bit8,
-        coarse: g.coarse,
+        identification: or_zero(gives_identification(g.identification), g.identification, 0),
+        velocity: or_zero(gives_velocity(g.coarse, g.velocity), g.velocity, 0),
+        surface: or_zero(gives_surface(g.surface), g.surface, 0),
+        status: or_zero(gives_status(g.status), g.status, 0),
+        ..g
     }
 }
 
+#[tactic(auto, unfolding(crate::specs::Meaning::meant_position))]
 fn meant_position(p: Position) -> Position
     ensures { result ≡ meant_position p }
 {
     Position {
         known: p.known,
         spot: Spot {
-            latitude: or_zero_i32(p.known, p.spot.latitude),
-            longitude: or_zero_u32(p.known, p.spot.longitude),
+            latitude: or_zero(p.known, p.spot.latitude, 0),
+            longitude: or_zero(p.known, p.spot.longitude, 0),
         },
-        time: or_zero(p.known, p.time),
+        time: or_zero(p.known, p.time, 0),
     }
 }
 
+#[tactic(auto, unfolding(crate::specs::Meaning::meant_saved))]
 fn meant_saved(v: Saved) -> Saved
     ensures { result ≡ meant_saved v }
 {
-    if v.known {
-        return v;
-    }
-    no_saved()
+    if v.known { v } else { no_saved() }
 }
 
 // An ME whose TYPE is not of its group says 'none heard', and what has no mark is none.
+#[tactic(auto, unfolding(crate::specs::Meaning::meant))]
 pub fn meant(t: Track) -> Track
     ensures { result ≡ meant t }
 {
-    let g = t.groups;
-    let p = t.position;
-    let both = t.saved;
-    let even = both[0];
-    let odd = both[1];
+    let [even, odd] = t.saved;
     Track {
         heard: t.heard,
-        groups: meant_groups(g),
-        position: meant_position(p),
+        groups: meant_groups(t.groups),
+        position: meant_position(t.position),
         saved: [meant_saved(even), meant_saved(odd)],
     }
 }

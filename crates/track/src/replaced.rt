@@ -25,14 +25,7 @@ pub(crate) fn with_identification(g: Groups, me: u64) -> Groups
 {
     Groups {
         identification: me,
-        velocity: g.velocity,
-        surface: g.surface,
-        status: g.status,
-        pressure: g.pressure,
-        height: g.height,
-        typecode: g.typecode,
-        bit8: g.bit8,
-        coarse: g.coarse,
+        ..g
     }
 }
 
@@ -40,15 +33,9 @@ pub(crate) fn with_velocity(g: Groups, me: u64) -> Groups
     ensures { result ≡ moving g false me }
 {
     Groups {
-        identification: g.identification,
         velocity: me,
-        surface: g.surface,
-        status: g.status,
-        pressure: g.pressure,
-        height: g.height,
-        typecode: g.typecode,
-        bit8: g.bit8,
         coarse: false,
+        ..g
     }
 }
 
@@ -57,49 +44,27 @@ pub(crate) fn with_coarse(g: Groups, me: u64, altitude: u16) -> Groups
     ensures { result ≡ at_pressure (moving g true me) altitude }
 {
     Groups {
-        identification: g.identification,
         velocity: me,
-        surface: g.surface,
-        status: g.status,
         pressure: altitude,
-        height: g.height,
-        typecode: g.typecode,
-        bit8: g.bit8,
         coarse: true,
+        ..g
     }
 }
 
 pub(crate) fn with_status(g: Groups, me: u64) -> Groups
     ensures { result ≡ stating g me }
 {
-    Groups {
-        identification: g.identification,
-        velocity: g.velocity,
-        surface: g.surface,
-        status: me,
-        pressure: g.pressure,
-        height: g.height,
-        typecode: g.typecode,
-        bit8: g.bit8,
-        coarse: g.coarse,
-    }
+    Groups { status: me, ..g }
 }
 
 pub(crate) fn with_surface(g: Groups, typecode: u8, me: u64) -> Groups
     ensures { result ≡ positioned (on_surface g me) typecode false }
 {
-    // there is no bit 8 on the surface
-    let none = false;
     Groups {
-        identification: g.identification,
-        velocity: g.velocity,
         surface: me,
-        status: g.status,
-        pressure: g.pressure,
-        height: g.height,
-        typecode: typecode,
-        bit8: none,
-        coarse: g.coarse,
+        typecode,
+        bit8: false, // there is none on the surface
+        ..g
     }
 }
 
@@ -108,44 +73,28 @@ pub(crate) fn with_reported(g: Groups, altitude: u16) -> Groups
     ensures { result ≡ reported g altitude }
 {
     Groups {
-        identification: g.identification,
-        velocity: g.velocity,
-        surface: g.surface,
-        status: g.status,
         pressure: if altitude == 0 { g.pressure } else { altitude },
-        height: g.height,
-        typecode: g.typecode,
-        bit8: g.bit8,
-        coarse: g.coarse,
+        ..g
     }
 }
 
 pub(crate) fn with_altitude(g: Groups, typecode: u8, bit8: u8, altitude: u16) -> Groups
     ensures { result ≡ positioned (high g typecode altitude) typecode (eqb bit8 1) }
 {
+    let g = Groups {
+        typecode,
+        bit8: bit8 == 1,
+        ..g
+    };
     if typecode <= 18 {
         Groups {
-            identification: g.identification,
-            velocity: g.velocity,
-            surface: g.surface,
-            status: g.status,
             pressure: altitude,
-            height: g.height,
-            typecode: typecode,
-            bit8: bit8 == 1,
-            coarse: g.coarse,
+            ..g
         }
     } else {
         Groups {
-            identification: g.identification,
-            velocity: g.velocity,
-            surface: g.surface,
-            status: g.status,
-            pressure: g.pressure,
             height: altitude,
-            typecode: typecode,
-            bit8: bit8 == 1,
-            coarse: g.coarse,
+            ..g
         }
     }
 }

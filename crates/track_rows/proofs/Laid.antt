@@ -1,5 +1,6 @@
 -- Arrays laid out entry by entry, or part by part: each list of entries is the array that was handed over, whose length its definition has.
 -- Assumes nothing.
+use Rattle.std.specs.Prelude.{Result, Ok, Err}
 use Prim.Native.Nat.{ℕ, ◌≤◌}
 use mathlib.Core.Path.{◌≡◌, refl, sym, ap, ap₂, ◌∙◌}
 use mathlib.Core.Bool.{Bool, true, false}
@@ -16,8 +17,6 @@ use Rattle.whereabouts.specs.declared.Saved.{Saved}
 use Rattle.track.specs.Track.{no_saved}
 use Rattle.keys.specs.declared.Kind.{Kind}
 use Rattle.keys.specs.Keys.{is_traffic, is_coarse, kind_in}
-use Rattle.integrity.specs.declared.standard.Supplements.{Supplements}
-use Rattle.integrity.specs.declared.standard.Supplements.TheVariants as supplements
 use Rattle.integrity.specs.Integrity.{integrity_of}
 use Rattle.integrity.specs.Standard.{version_of, supplements_of}
 use Rattle.entries.specs.declared.Reading.{Reading}
@@ -28,6 +27,8 @@ use Rattle.track_rows.specs.Standard.{version_number, supplement_bits, integrity
 use Rattle.track_rows.specs.Tracks.{kept_row, track_row}
 use Rattle.rows.proofs.Cutting.{chosen, entries_all}
 use Rattle.rows.proofs.Laid.{put_length, parts}
+use Rattle.integrity.specs.declared.standard.Bits.{Bits}
+use Rattle.refusals.specs.declared.Refusal.{Refusal}
 
 -- ---- what people are shown
 
@@ -150,12 +151,12 @@ kept_length : (t : Track) → length (kept_row t) ≡ 30
 unfolding kept_row
 kept_length t = refl
 
-bits_length : (s : Supplements) → length (supplement_bits s) ≡ 3
-bits_length (supplements.Bits s) = refl
-bits_length (supplements.Refused r) = refl
+bits_length : (s : Result Bits Refusal) → length (supplement_bits s) ≡ 3
+bits_length (Ok s) = refl
+bits_length (Err r) = refl
 
 module _ (kind : Kind) (t : Track) where
-  abbrev supplementing : Supplements
+  abbrev supplementing : Result Bits Refusal
   supplementing = supplements_of kind t.groups.status t.groups.bit8
 
   -- its version, the three supplements, and the integrity as a reading

@@ -1,5 +1,6 @@
 -- No reading in a row is a refusal, of a track with codes of 12 bits, MEs of 56 and a TYPE of 5: what its MEs say is none, and only a refusal is 5.
 -- Assumes nothing.
+use Rattle.std.specs.Prelude.{Result, Ok, Err}
 use Prim.Native.Nat.{ℕ, suc, ◌^◌, ◌<◌}
 use mathlib.Core.Path.{◌≡◌, refl, subst⁻¹}
 use mathlib.Core.Bool.{Bool, true, false}
@@ -19,8 +20,6 @@ use Rattle.keys.specs.declared.Kind.{Kind}
 use Rattle.keys.specs.Keys.{is_traffic, is_coarse}
 use Rattle.integrity.specs.declared.Integrity.{Integrity}
 use Rattle.integrity.specs.declared.Integrity.TheVariants as integrity
-use Rattle.integrity.specs.declared.standard.Supplements.{Supplements}
-use Rattle.integrity.specs.declared.standard.Supplements.TheVariants as supplements
 use Rattle.integrity.specs.Integrity.{integrity_of}
 use Rattle.integrity.specs.Standard.{version_of, supplements_of}
 use Rattle.integrity.specs.Said.{Level, integrity_said}
@@ -31,6 +30,8 @@ use Rattle.track_rows.specs.Standard.{version_number, supplement_bits, integrity
 use Rattle.track_rows.specs.Shown.{row_in, is_of, named, source, moving, on_ground, taxiing, going, is_saved, shown}
 use Rattle.track_rows.specs.Tracks.{kept_row, track_row}
 use Rattle.rows.proofs.Refusing.{step_given, me_never_refused}
+use Rattle.integrity.specs.declared.standard.Bits.{Bits}
+use Rattle.refusals.specs.declared.Refusal.{Refusal}
 
 -- ---- a track
 
@@ -127,16 +128,16 @@ track_never_refused key t p h = kept_given t p h
 
 -- .. nor is its integrity, of a TYPE and a status that are within their bits
 
-integrity_given : (x : Integrity) (l : Level) → integrity_said x ≡ gives l → (integrity_reading x).what < 5
-integrity_given integrity.Unknown l e = omega arith
-integrity_given (integrity.Nuc n) l e = omega arith
-integrity_given (integrity.Nic n) l e = omega arith
-integrity_given (integrity.Refused r) l e = let z : ◌≡◌ {A = ℕ} 0 1 = cc in let f : ⊥ = omega arith in absurd f
+integrity_given : (x : Result Integrity Refusal) (l : Level) → integrity_said x ≡ gives l → (integrity_reading x).what < 5
+integrity_given (Ok integrity.Unknown) l e = omega arith
+integrity_given (Ok (integrity.Nuc n)) l e = omega arith
+integrity_given (Ok (integrity.Nic n)) l e = omega arith
+integrity_given (Err r) l e = let z : ◌≡◌ {A = ℕ} 0 1 = cc in let f : ⊥ = omega arith in absurd f
 
 -- where its reading stands
-fifth : (v : ℕ) (s : Supplements) (what value : ℕ) → get_or (v ∷ (supplement_bits s ++ (what ∷ value ∷ []))) 4 0 ≡ what
-fifth v (supplements.Bits s) what value = refl
-fifth v (supplements.Refused r) what value = refl
+fifth : (v : ℕ) (s : Result Bits Refusal) (what value : ℕ) → get_or (v ∷ (supplement_bits s ++ (what ∷ value ∷ []))) 4 0 ≡ what
+fifth v (Ok s) what value = refl
+fifth v (Err r) what value = refl
 
 pub standard_never_refused : (kind : Kind) (t : Track) → t.groups.typecode < 32 → t.groups.status < 2 ^ 56 → get_or (standard_row kind t) 4 0 < 5
 unfolding standard_row

@@ -1,32 +1,30 @@
 -- RULES 20.5: the integrity of a track as 6 numbers: the version of the standard, supplements A, B and C, and the integrity as a reading, 0 unknown, 1 NUC, 2 NIC.
-use Rattle.std.specs.Prelude.{ℕ, List, [], ◌∷◌, ◌++◌}
+use Rattle.std.specs.Prelude.{ℕ, List, [], ◌∷◌, ◌++◌, Result, Ok, Err}
 use Rattle.keys.specs.declared.Kind.{Kind}
 use Rattle.integrity.specs.declared.Integrity.{Integrity}
 use Rattle.integrity.specs.declared.Integrity.TheVariants as integrity
-use Rattle.integrity.specs.declared.standard.Supplements.{Supplements}
-use Rattle.integrity.specs.declared.standard.Supplements.TheVariants as supplements
-use Rattle.integrity.specs.declared.standard.Version.{Version}
-use Rattle.integrity.specs.declared.standard.Version.TheVariants as version
 use Rattle.integrity.specs.Standard.{version_of, supplements_of}
 use Rattle.integrity.specs.Integrity.{integrity_of}
 use Rattle.track.specs.declared.Track.{Track}
 use Rattle.entries.specs.declared.Reading.{Reading}
 use Rattle.entries.specs.Means.{reading, bit}
+use Rattle.integrity.specs.declared.standard.Bits.{Bits}
+use Rattle.refusals.specs.declared.Refusal.{Refusal}
 
-abbrev pub version_number : Version → ℕ
-version_number (version.Number n) = n
-version_number (version.Refused r) = 0
+abbrev pub version_number : Result ℕ Refusal → ℕ
+version_number (Ok n) = n
+version_number (Err r) = 0
 
-abbrev pub supplement_bits : Supplements → List ℕ
-supplement_bits (supplements.Bits s) = bit s.a ∷ bit s.b ∷ bit s.c ∷ []
-supplement_bits (supplements.Refused r) = 0 ∷ 0 ∷ 0 ∷ []
+abbrev pub supplement_bits : Result Bits Refusal → List ℕ
+supplement_bits (Ok s) = bit s.a ∷ bit s.b ∷ bit s.c ∷ []
+supplement_bits (Err r) = 0 ∷ 0 ∷ 0 ∷ []
 
 -- what was refused has the number that every reading has for it
-abbrev pub integrity_reading : Integrity → Reading
-integrity_reading integrity.Unknown = reading 0 0
-integrity_reading (integrity.Nuc n) = reading 1 n
-integrity_reading (integrity.Nic n) = reading 2 n
-integrity_reading (integrity.Refused r) = reading 5 0
+abbrev pub integrity_reading : Result Integrity Refusal → Reading
+integrity_reading (Ok integrity.Unknown) = reading 0 0
+integrity_reading (Ok (integrity.Nuc n)) = reading 1 n
+integrity_reading (Ok (integrity.Nic n)) = reading 2 n
+integrity_reading (Err r) = reading 5 0
 
 -- of a track of a kind
 unfoldable pub standard_row : Kind → Track → List ℕ

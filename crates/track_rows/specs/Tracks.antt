@@ -1,9 +1,10 @@
 -- RULES 20.5: a track as 72 numbers: 30 as it is kept, 36 that people are shown, and 6 of its integrity.
-use Rattle.std.specs.Prelude.{ℕ, ◌+◌, List, [], ◌∷◌, ◌++◌, get_or}
+use Rattle.std.specs.Prelude.{ℕ, ◌+◌, List, [], ◌∷◌, ◌++◌, get_or, Option, Result}
 use Rattle.keys.specs.Keys.{kind_in}
 use Rattle.entries.specs.Twos.{twos}
 use Rattle.readings.specs.Altitude.{altitude_of}
 use Rattle.readings.specs.declared.altitude.Altitude.{Altitude}
+use Rattle.refusals.specs.declared.Refusal.{Refusal}
 use Rattle.whereabouts.specs.declared.Saved.{Saved}
 use Rattle.track.specs.declared.Track.{Track}
 use Rattle.track.specs.Track.{no_saved}
@@ -24,8 +25,8 @@ unfoldable pub kept_row : Track → List ℕ
 kept_row t =
     let even : Saved = get_or t.saved 0 no_saved in
     let odd : Saved = get_or t.saved 1 no_saved in
-    let pressure : Altitude = altitude_of t.groups.pressure in
-    let height : Altitude = altitude_of t.groups.height in
+    let pressure : Result (Option Altitude) Refusal = altitude_of t.groups.pressure in
+    let height : Result (Option Altitude) Refusal = altitude_of t.groups.height in
     1 ∷ t.heard ∷ t.groups.identification ∷ t.groups.velocity ∷ t.groups.surface ∷ t.groups.status ∷ t.groups.pressure ∷ t.groups.height ∷
     t.groups.typecode ∷ bit t.groups.bit8 ∷
     bit t.position.known ∷ twos t.position.spot.latitude ∷ t.position.spot.longitude ∷ t.position.time ∷

@@ -40,12 +40,13 @@ const FIELD_9: usize = rows::FIELDS + 9;
 fn row_in(coarse: bool, traffic: bool, me: u64) -> [u64; ROW]
     ensures { result ≡ row_in coarse traffic me }
 {
-    let mut row = [0u64; ROW];
+    let mut row = [0; ROW];
     put_me(&mut row, layouts::layout_by(coarse, me), me, traffic);
     row
 }
 
 // Callsign, category set, category.
+#[tactic(auto, unfolding(crate::specs::Shown::named))]
 fn named_by(row: [u64; ROW]) -> [u64; 6]
     ensures { result ≡ named row }
 {
@@ -59,20 +60,22 @@ fn named_by(row: [u64; ROW]) -> [u64; 6]
             row[FIELD_1],
         ];
     }
-    [0u64; 6]
+    [0; 6]
 }
 
 // The source of a vertical rate, which a traffic service does not send.
+#[tactic(auto, unfolding(crate::specs::Shown::source))]
 fn source_by(traffic: bool, row: [u64; ROW]) -> [u64; 2]
     ensures { result ≡ source traffic row }
 {
     if traffic {
-        return [0u64; 2];
+        return [0; 2];
     }
     [1, row[FIELD_9]]
 }
 
 // Speed to the east, to the north; heading, its status, airspeed, its kind; vertical rate, its source.
+#[tactic(auto, unfolding(crate::specs::Shown::moving))]
 fn moving_by(traffic: bool, row: [u64; ROW]) -> [u64; 16]
     ensures { result ≡ moving traffic row }
 {
@@ -117,10 +120,11 @@ fn moving_by(traffic: bool, row: [u64; ROW]) -> [u64; 16]
             s[1],
         ];
     }
-    [0u64; 16]
+    [0; 16]
 }
 
 // Whether the last position message came from the ground.
+#[tactic(auto, unfolding(crate::specs::Shown::on_ground))]
 fn ground_by(encoded: bool, row: [u64; ROW]) -> [u64; 2]
     ensures { result ≡ on_ground encoded row }
 {
@@ -130,10 +134,11 @@ fn ground_by(encoded: bool, row: [u64; ROW]) -> [u64; 2]
     if row[0] == rows::LAYOUT_SURFACE {
         return [1, 1];
     }
-    [0u64; 2]
+    [0; 2]
 }
 
 // Movement, heading, its status.
+#[tactic(auto, unfolding(crate::specs::Shown::taxiing))]
 fn taxiing_by(row: [u64; ROW]) -> [u64; 6]
     ensures { result ≡ taxiing row }
 {
@@ -147,10 +152,11 @@ fn taxiing_by(row: [u64; ROW]) -> [u64; 6]
             row[FIELD_2],
         ];
     }
-    [0u64; 6]
+    [0; 6]
 }
 
 // Track angle, its status, speed.
+#[tactic(auto, unfolding(crate::specs::Shown::going))]
 fn going_by(row: [u64; ROW]) -> [u64; 6]
     ensures { result ≡ going row }
 {
@@ -164,7 +170,7 @@ fn going_by(row: [u64; ROW]) -> [u64; 6]
             row[FOURTH_VALUE],
         ];
     }
-    [0u64; 6]
+    [0; 6]
 }
 
 // Of a track of a kind.
@@ -172,9 +178,7 @@ pub(crate) fn shown_values(kind: Kind, t: Track) -> [u64; SHOWN]
     ensures { result ≡ shown kind t }
 {
     let traffic = keys::is_traffic(kind);
-    let both = t.saved;
-    let even = both[0];
-    let odd = both[1];
+    let [even, odd] = t.saved;
     let g = t.groups;
     let surface = row_in(false, traffic, g.surface);
     let velocity = row_in(keys::is_coarse(kind), traffic, g.velocity);

@@ -1,46 +1,51 @@
 // The integrity of a track: the version of the standard that its messages are of, three supplements, and what the TYPE of its latest position message says.
 ghost use Rattle.std.specs.Prelude.{◌≡◌};
+ghost use Rattle.entries.specs.Means.{reading};
 ghost use Rattle.track_rows.specs.Standard.{version_number, supplement_bits, integrity_reading, standard_row};
 
 use crate::STANDARD;
 use entries::{Reading, bit, only};
-use integrity::{Integrity, Supplements, Version};
+use integrity::{Bits, Integrity};
 use keys::Kind;
+use refusals::Refusal;
 use track::Track;
 
-fn version_number(a: Version) -> u64
+fn version_number(a: Result<u8, Refusal>) -> u64
     ensures { result ≡ version_number a }
 {
     match a {
-        Version::Number(n) => n as u64,
-        Version::Refused(_) => 0,
+        Ok(n) => u64::from(n),
+        Err(_) => 0,
     }
 }
 
-fn supplement_bits(a: Supplements) -> [u64; 3]
+fn supplement_bits(a: Result<Bits, Refusal>) -> [u64; 3]
     ensures { result ≡ supplement_bits a }
 {
     match a {
-        Supplements::Bits(s) => [bit(s.a), bit(s.b), bit(s.c)],
-        Supplements::Refused(_) => [0u64; 3],
+        Ok(s) => [bit(s.a), bit(s.b), bit(s.c)],
+        Err(_) => [0; 3],
+    }
+}
+
+fn numbered(what: u64, n: u8) -> Reading
+    ensures { result ≡ reading what n }
+{
+    Reading {
+        what,
+        value: u64::from(n),
     }
 }
 
 // 0 unknown, 1 NUC, 2 NIC, 5 refused.
-fn integrity_reading(a: Integrity) -> Reading
+fn integrity_reading(a: Result<Integrity, Refusal>) -> Reading
     ensures { result ≡ integrity_reading a }
 {
     match a {
-        Integrity::Unknown => only(0),
-        Integrity::Nuc(n) => Reading {
-            what: 1,
-            value: n as u64,
-        },
-        Integrity::Nic(n) => Reading {
-            what: 2,
-            value: n as u64,
-        },
-        Integrity::Refused(_) => only(5),
+        Ok(Integrity::Unknown) => only(0),
+        Ok(Integrity::Nuc(n)) => numbered(1, n),
+        Ok(Integrity::Nic(n)) => numbered(2, n),
+        Err(_) => only(5),
     }
 }
 

@@ -4,17 +4,15 @@ ghost use Rattle.track_rows.specs.Tracks.{kept_row, track_row};
 
 use crate::shown::shown_values;
 use crate::standard::standard_values;
-use crate::{KEPT, TRACK};
+use crate::{KEPT, SHOWN, TRACK};
 use entries::{altitude_reading, bit, fill, step_reading};
 use track::Track;
 
-// As it is kept.
+// As it is kept. Written out, since the order of a row is C's interface.
 fn kept_values(t: Track) -> [u64; KEPT]
     ensures { result ≡ kept_row t }
 {
-    let both = t.saved;
-    let even = both[0];
-    let odd = both[1];
+    let [even, odd] = t.saved;
     let g = t.groups;
     let p = t.position;
     let pressure = readings::altitude_of(g.pressure);
@@ -30,21 +28,21 @@ fn kept_values(t: Track) -> [u64; KEPT]
         g.velocity,
         g.surface,
         g.status,
-        g.pressure as u64,
-        g.height as u64,
-        g.typecode as u64,
+        u64::from(g.pressure),
+        u64::from(g.height),
+        u64::from(g.typecode),
         bit(g.bit8),
         bit(p.known),
         entries::twos_of(p.spot.latitude),
-        p.spot.longitude as u64,
+        u64::from(p.spot.longitude),
         p.time,
         bit(even.known),
-        even.counts.latitude.0 as u64,
-        even.counts.longitude.0 as u64,
+        u64::from(even.counts.latitude.0),
+        u64::from(even.counts.longitude.0),
         even.time,
         bit(odd.known),
-        odd.counts.latitude.0 as u64,
-        odd.counts.longitude.0 as u64,
+        u64::from(odd.counts.latitude.0),
+        u64::from(odd.counts.longitude.0),
         odd.time,
         altitude.what,
         altitude.value,
@@ -65,9 +63,9 @@ pub fn track_values(t: Track, key: u32) -> [u64; TRACK]
     let kind = keys::kind_in(key);
     let shown = shown_values(kind, t);
     let standard = standard_values(kind, t);
-    let mut row = [0; 72];
-    fill(&mut row[0..30], &kept);
-    fill(&mut row[30..66], &shown);
-    fill(&mut row[66..72], &standard);
+    let mut row = [0; TRACK];
+    fill(&mut row[..KEPT], &kept);
+    fill(&mut row[KEPT..KEPT + SHOWN], &shown);
+    fill(&mut row[KEPT + SHOWN..], &standard);
     row
 }

@@ -1,6 +1,7 @@
 -- What the contracts promise in the rules' terms: whatever meets the contract of `airborne_position` or `surface_position` says 8 or gives a position, and 8 only
 -- where a value that is known is out of its range. By the definitions, each from the one below it: 9 and 10 of a pair or of a single reading are never handed out.
 -- Assumes nothing.
+use Rattle.std.specs.Prelude.{Result, Ok, Err}
 use Prim.Native.Nat.{ℕ, ◌*◌}
 use mathlib.Core.Path.{◌≡◌, refl, sym, ◌∙◌, subst}
 use mathlib.Core.Bool.{Bool, true, false, ◌&&◌, true≢false, false≢true}
@@ -21,14 +22,10 @@ use Rattle.positions.specs.declared.Format.{Format}
 use Rattle.positions.specs.declared.Format.TheVariants.{Even, Odd}
 use Rattle.positions.specs.declared.Size.{Size}
 use Rattle.positions.specs.declared.Size.TheVariants.{Fine, Coarse}
-use Rattle.positions.specs.declared.Found.{Found}
-use Rattle.positions.specs.declared.Found.TheVariants.{At, Refused}
 use Rattle.positions.specs.Positions.{count_size, latitude_zones, all_round, pole_to_pole, inside, pair_latitude, pair_nl, pair_found, fit, paired, near, near_found, singly}
 use Rattle.whereabouts.specs.declared.Saved.{Saved}
 use Rattle.whereabouts.specs.declared.Position.{Position}
 use Rattle.whereabouts.specs.declared.Site.{Site}
-use Rattle.whereabouts.specs.declared.Placed.{Placed}
-use Rattle.whereabouts.specs.declared.Placed.TheVariants as placed
 use Rattle.whereabouts.specs.Located.{is_within, is_fresh, passed_on, settled, read_near, read_singly, paired_with, after_pair, size_of, same_size, is_partner, airborne_position, surface_position}
 use Rattle.whereabouts.specs.Said.{placed_said, OnlyEight, NoNumber, SavedFits, LatitudeFits}
 use Rattle.whereabouts.proofs.airborne_position.Kinds as airborne-position-kinds
@@ -38,16 +35,16 @@ use Rattle.whereabouts.proofs.surface_position.Reads as surface-position
 
 -- ---- 8 and no other number
 
-abbrev Eight : Placed → Type 0
+abbrev Eight : Result Position Refusal → Type 0
 Eight x = OnlyEight (placed_said x)
 
-passed_on_eight : (r : Refusal) (other : Placed) → Eight other → Eight (passed_on r other)
-passed_on_eight r other h = by_test Eight (eqb (number_of r) 8) (placed.Refused r) other (λ e. eqb-true (number_of r) 8 e) (λ _. h)
+passed_on_eight : (r : Refusal) (other : Result Position Refusal) → Eight other → Eight (passed_on r other)
+passed_on_eight r other h = by_test Eight (eqb (number_of r) 8) (Err r) other (λ e. eqb-true (number_of r) 8 e) (λ _. h)
 
 module _ (p : Position) (size : Size) (counts : Counts) (format : Format) (time : ℕ) where
-  settled_eight : (found : Found) → Eight (settled found p time)
-  settled_eight (At s) = tt
-  settled_eight (Refused r) = passed_on_eight r (placed.At p) tt
+  settled_eight : (found : Result Spot Refusal) → Eight (settled found p time)
+  settled_eight (Ok s) = tt
+  settled_eight (Err r) = passed_on_eight r (Ok p) tt
 
   read_near_eight : (reference : Spot) (k : Turn) → Eight (read_near reference p size counts k format time)
   unfolding read_near
@@ -55,11 +52,11 @@ module _ (p : Position) (size : Size) (counts : Counts) (format : Format) (time 
 
   read_singly_eight : Eight (read_singly p size counts format time)
   unfolding read_singly
-  read_singly_eight = by_test Eight (is_fresh p time) _ (placed.At p) (λ _. read_near_eight p.spot turn.Airborne) (λ _. tt)
+  read_singly_eight = by_test Eight (is_fresh p time) _ (Ok p) (λ _. read_near_eight p.spot turn.Airborne) (λ _. tt)
 
-  after_pair_eight : (found : Found) → Eight (after_pair found p size counts format time)
-  after_pair_eight (At s) = tt
-  after_pair_eight (Refused r) = passed_on_eight r (read_singly p size counts format time) read_singly_eight
+  after_pair_eight : (found : Result Spot Refusal) → Eight (after_pair found p size counts format time)
+  after_pair_eight (Ok s) = tt
+  after_pair_eight (Err r) = passed_on_eight r (read_singly p size counts format time) read_singly_eight
 
   airborne_eight : (partner : Saved) → Eight (airborne_position p partner size counts format time)
   unfolding airborne_position
@@ -71,14 +68,14 @@ unfolding surface_position
 surface_eight p counts format time site =
     by_test Eight (is_fresh p time) _ _
     (λ _. read_near_eight p Fine counts format time p.spot turn.Surface)
-    (λ _. by_test Eight site.known _ (placed.At p) (λ _. read_near_eight p Fine counts format time site.spot turn.Surface) (λ _. tt))
+    (λ _. by_test Eight site.known _ (Ok p) (λ _. read_near_eight p Fine counts format time site.spot turn.Surface) (λ _. tt))
 
 -- ---- no number where all that is known is in its range
 
 -- not 8
-abbrev Sound : Found → Type 0
-Sound (At s) = Unit
-Sound (Refused r) = eqb (number_of r) 8 ≡ false
+abbrev Sound : Result Spot Refusal → Type 0
+Sound (Ok s) = Unit
+Sound (Err r) = eqb (number_of r) 8 ≡ false
 
 never : (t : Bool) → t ≡ true → t ≡ false → ⊥
 never t p q = true≢false (sym p ∙ q)
@@ -86,12 +83,12 @@ never t p q = true≢false (sym p ∙ q)
 paired_sound : (P : ℕ) (even odd : Counts) (later : Format) → fit P even ≡ true → fit P odd ≡ true → Sound (paired P even odd later)
 unfolding pair_found
 paired_sound P even odd later p q =
-    by_test Sound (fit P even && fit P odd) _ (Refused Field)
+    by_test Sound (fit P even && fit P odd) _ (Err Field)
     (λ _.
     by_test Sound
     (inside (60 * P) (pair_latitude P Even even.latitude.0 odd.latitude.0) && inside (59 * P) (pair_latitude P Odd even.latitude.0 odd.latitude.0))
-    _ (Refused Latitude)
-    (λ _. by_test Sound (eqb (pair_nl P Even even.latitude.0 odd.latitude.0) (pair_nl P Odd even.latitude.0 odd.latitude.0)) _ (Refused Zones) (λ _. tt) (λ _. refl))
+    _ (Err Latitude)
+    (λ _. by_test Sound (eqb (pair_nl P Even even.latitude.0 odd.latitude.0) (pair_nl P Odd even.latitude.0 odd.latitude.0)) _ (Err Zones) (λ _. tt) (λ _. refl))
     (λ _. refl))
     (λ e. absurd (never (fit P even && fit P odd) (both p q) e))
 
@@ -99,8 +96,8 @@ singly_sound : (P : ℕ) (reference : Spot) (c : Counts) (k : Turn) (f : Format)
 unfolding near_found
 singly_sound P reference c k f p q =
     let N = all_round k (latitude_zones f) in
-    by_test Sound (fit P c && pole_to_pole reference.latitude) _ (Refused Field)
-    (λ _. by_test Sound (inside (N * P) (near P N reference.latitude c.latitude.0)) _ (Refused Latitude) (λ _. tt) (λ _. refl))
+    by_test Sound (fit P c && pole_to_pole reference.latitude) _ (Err Field)
+    (λ _. by_test Sound (inside (N * P) (near P N reference.latitude c.latitude.0)) _ (Err Latitude) (λ _. tt) (λ _. refl))
     (λ e. absurd (never (fit P c && pole_to_pole reference.latitude) (both p q) e))
 
 -- a partner's counts are of the message's size
@@ -117,16 +114,16 @@ partner_fits s size time e h =
     subst (λ (z : Size). fit (count_size z) s.counts ≡ true) (same_size_lem s.coarse size (and_right s.known (same_size s.coarse size) k))
     (h (and_left s.known (same_size s.coarse size) k))
 
-abbrev Given : Placed → Type 0
+abbrev Given : Result Position Refusal → Type 0
 Given x = NoNumber (placed_said x)
 
-passed_on_given : (r : Refusal) (other : Placed) → eqb (number_of r) 8 ≡ false → Given other → Given (passed_on r other)
+passed_on_given : (r : Refusal) (other : Result Position Refusal) → eqb (number_of r) 8 ≡ false → Given other → Given (passed_on r other)
 passed_on_given r other e h = rw e h
 
 module _ (p : Position) (size : Size) (counts : Counts) (format : Format) (time : ℕ) (own : fit (count_size size) counts ≡ true) (reference : LatitudeFits p.known p.spot) where
-  settled_given : (found : Found) → Sound found → Given (settled found p time)
-  settled_given (At s) h = tt
-  settled_given (Refused r) h = passed_on_given r (placed.At p) h tt
+  settled_given : (found : Result Spot Refusal) → Sound found → Given (settled found p time)
+  settled_given (Ok s) h = tt
+  settled_given (Err r) h = passed_on_given r (Ok p) h tt
 
   read_near_given : (s : Spot) (k : Turn) → pole_to_pole s.latitude ≡ true → Given (read_near s p size counts k format time)
   unfolding read_near
@@ -137,11 +134,11 @@ module _ (p : Position) (size : Size) (counts : Counts) (format : Format) (time 
 
   read_singly_given : Given (read_singly p size counts format time)
   unfolding read_singly
-  read_singly_given = by_test Given (is_fresh p time) _ (placed.At p) (λ e. fresh_given turn.Airborne e) (λ _. tt)
+  read_singly_given = by_test Given (is_fresh p time) _ (Ok p) (λ e. fresh_given turn.Airborne e) (λ _. tt)
 
-  after_pair_given : (found : Found) → Sound found → Given (after_pair found p size counts format time)
-  after_pair_given (At s) h = tt
-  after_pair_given (Refused r) h = passed_on_given r (read_singly p size counts format time) h read_singly_given
+  after_pair_given : (found : Result Spot Refusal) → Sound found → Given (after_pair found p size counts format time)
+  after_pair_given (Ok s) h = tt
+  after_pair_given (Err r) h = passed_on_given r (read_singly p size counts format time) h read_singly_given
 
   paired_with_sound : (partner : Counts) (f : Format) → fit (count_size size) partner ≡ true → Sound (paired_with partner size counts f)
   unfolding paired_with
@@ -161,12 +158,12 @@ unfolding surface_position
 surface_given p counts format time own reference site h =
     by_test Given (is_fresh p time) _ _
     (λ e. fresh_given p Fine counts format time own reference turn.Surface e)
-    (λ _. by_test Given site.known _ (placed.At p) (λ e. read_near_given p Fine counts format time own reference site.spot turn.Surface (h e)) (λ _. tt))
+    (λ _. by_test Given site.known _ (Ok p) (λ e. read_near_given p Fine counts format time own reference site.spot turn.Surface (h e)) (λ _. tt))
 
 -- ---- 8 where a value that is read is out of its range
 
 pub eight_of_reference : (s : Spot) (p : Position) (size : Size) (counts : Counts) (k : Turn) (format : Format) (time : ℕ) → (fit (count_size size) counts && pole_to_pole s.latitude) ≡ false
-    → read_near s p size counts k format time ≡ placed.Refused Field
+    → read_near s p size counts k format time ≡ Err Field
 unfolding read_near
 eight_of_reference s p size counts k format time e = rw e
 
@@ -177,7 +174,7 @@ and_swap false true = refl
 and_swap false false = refl
 
 pub eight_of_pair : (p : Position) (partner : Saved) (size : Size) (counts : Counts) (format : Format) (time : ℕ) → is_partner partner size time ≡ true
-    → (fit (count_size size) partner.counts && fit (count_size size) counts) ≡ false → airborne_position p partner size counts format time ≡ placed.Refused Field
+    → (fit (count_size size) partner.counts && fit (count_size size) counts) ≡ false → airborne_position p partner size counts format time ≡ Err Field
 unfolding airborne_position paired_with
 eight_of_pair p partner size counts Even time within e = rw (within, and_swap (fit (count_size size) counts) (fit (count_size size) partner.counts), e)
 eight_of_pair p partner size counts Odd time within e = rw (within, e)

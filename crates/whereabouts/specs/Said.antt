@@ -1,18 +1,17 @@
 -- RULES 19.3: what the answers say in the rules' terms: 8, or the position after the message.
-use Rattle.std.specs.Prelude.{◌≡◌, Bool, true}
+use Rattle.std.specs.Prelude.{◌≡◌, Bool, true, Result, Ok, Err}
 use Rattle.refusals.specs.Numbers.{number_of}
 use Rattle.refusals.specs.Said.{Said, number, gives}
 use Rattle.positions.specs.declared.Spot.{Spot}
 use Rattle.positions.specs.Positions.{count_size, fit, pole_to_pole}
 use Rattle.whereabouts.specs.declared.Saved.{Saved}
 use Rattle.whereabouts.specs.declared.Position.{Position}
-use Rattle.whereabouts.specs.declared.Placed.{Placed}
-use Rattle.whereabouts.specs.declared.Placed.TheVariants as placed
 use Rattle.whereabouts.specs.Located.{size_of}
+use Rattle.refusals.specs.declared.Refusal.{Refusal}
 
-abbrev pub placed_said : Placed → Said Position
-placed_said (placed.At p) = gives p
-placed_said (placed.Refused r) = number (number_of r)
+abbrev pub placed_said : Result Position Refusal → Said Position
+placed_said (Ok p) = gives p
+placed_said (Err r) = number (number_of r)
 
 -- 8 and no other number
 abbrev pub OnlyEight : Said Position → Type 0

@@ -1,15 +1,18 @@
 // Where a message puts its aircraft: by its partner, or by one reference, or nowhere new. What is read and is out of its range earns 8, which is passed on.
 #![tactic(auto)]
 
-ghost use Rattle.std.specs.Prelude.{◌≡◌};
+ghost use Rattle.std.specs.Prelude.{◌≡◌, eqb};
+ghost use Rattle.refusals.specs.Numbers.{number_of};
 ghost use Rattle.positions.specs.Positions.{pole_to_pole};
-ghost use Rattle.whereabouts.specs.Located.{no_position, no_site, is_within, is_fresh, found_at, passed_on, settled, read_near, read_singly, after_pair, paired_with, same_size, is_partner, airborne_position, surface_position};
+ghost use Rattle.whereabouts.specs.Located.{no_position, no_site, is_within, is_fresh, found_at, settled, read_near, read_singly, after_pair, paired_with, same_size, is_partner, airborne_position, surface_position};
 ghost use Rattle.whereabouts.specs.Code.{tried_with};
 
-use positions::{Counts, Format, Found, Size, Spot, Turn};
+use positions::{Counts, Format, Size, Spot, Turn};
 use refusals::Refusal;
 
 // An encoded position, airborne, with its time; whether its counts are coarse.
+// Here and below `known` is no Option: a lent table may hold any values with the mark unset.
+// `track::meant`, `replay::sited` and `slice_places::site_of` answer for such values too.
 #[derive(Clone, Copy)]
 pub struct Saved {
     pub known: bool,
@@ -30,13 +33,6 @@ pub struct Position {
 pub struct Site {
     pub known: bool,
     pub spot: Spot,
-}
-
-// The position after a message, or 8.
-#[derive(Clone, Copy)]
-pub enum Placed {
-    At(Position),
-    Refused(Refusal),
 }
 
 pub fn no_position() -> Position
@@ -68,17 +64,13 @@ pub fn no_site() -> Site
 pub fn pole_to_pole(spot: Spot) -> bool
     ensures { result ≡ pole_to_pole spot.latitude }
 {
-    signs::size_of(signs::widen(spot.latitude)) <= 1073741824
+    spot.latitude.unsigned_abs() <= 1073741824
 }
 
 fn is_within(most: u64, clock: u64, time: u64) -> bool
     ensures { result ≡ is_within most clock time }
 {
-    if clock < time {
-        true
-    } else {
-        clock - time <= most
-    }
+    clock.saturating_sub(time) <= most
 }
 
 fn is_fresh(p: Position, clock: u64) -> bool
@@ -93,31 +85,30 @@ fn found_at(spot: Spot, time: u64) -> Position
 {
     Position {
         known: true,
-        spot: spot,
-        time: time,
+        spot,
+        time,
     }
 }
 
 // 8 is passed on; of 9 and 10 something else comes.
-fn pass_on(r: Refusal, other: Placed) -> Placed
-    ensures { result ≡ passed_on r other }
+fn is_passed_on(r: Refusal) -> bool
+    ensures { result ≡ eqb (number_of r) 8 }
 {
-    if refusals::number(r) == 8 {
-        Placed::Refused(r)
-    } else {
-        other
-    }
+    matches!(r, Refusal::Field)
 }
 
-fn settle(found: Found, p: Position, time: u64) -> Placed
+fn settle(found: Result<Spot, Refusal>, p: Position, time: u64) -> Result<Position, Refusal>
     ensures { result ≡ settled found p time }
 {
     match found {
-        Found::At(spot) => Placed::At(found_at(spot, time)),
-        Found::Refused(r) => pass_on(r, Placed::At(p)),
+        Ok(spot) => Ok(found_at(spot, time)),
+        Err(r) if is_passed_on(r) => Err(r),
+        Err(_) => Ok(p),
     }
 }
 
+// Its parameters, and those of the functions below, are no struct: the definitions that `track` and `replay` cite take them one by one.
+#[tactic(auto, unfolding(crate::specs::Located::read_near))]
 fn read_near(
     reference: Spot,
     p: Position,
@@ -126,29 +117,32 @@ fn read_near(
     turn: Turn,
     format: Format,
     time: u64,
-) -> Placed
+) -> Result<Position, Refusal>
     ensures { result ≡ read_near reference p size counts turn format time }
 {
-    settle(
-        positions::single(size, reference, counts, turn, format),
-        p,
-        time,
-    )
+    let found = positions::single(size, reference, counts, turn, format);
+    settle(found, p, time)
 }
 
 // An airborne message without its partner.
-fn read_singly(p: Position, size: Size, counts: Counts, format: Format, time: u64) -> Placed
+#[tactic(auto, unfolding(crate::specs::Located::read_singly))]
+fn read_singly(
+    p: Position,
+    size: Size,
+    counts: Counts,
+    format: Format,
+    time: u64,
+) -> Result<Position, Refusal>
     ensures { result ≡ read_singly p size counts format time }
 {
-    if is_fresh(p, time) {
-        let spot = p.spot;
-        read_near(spot, p, size, counts, Turn::Airborne, format, time)
-    } else {
-        Placed::At(p)
+    if !is_fresh(p, time) {
+        return Ok(p);
     }
+    read_near(p.spot, p, size, counts, Turn::Airborne, format, time)
 }
 
-fn paired_with(partner: Counts, size: Size, counts: Counts, format: Format) -> Found
+#[tactic(auto, unfolding(crate::specs::Located::paired_with))]
+fn paired_with(partner: Counts, size: Size, counts: Counts, format: Format) -> Result<Spot, Refusal>
     ensures { result ≡ paired_with partner size counts format }
 {
     match format {
@@ -158,18 +152,19 @@ fn paired_with(partner: Counts, size: Size, counts: Counts, format: Format) -> F
 }
 
 fn after_pair(
-    found: Found,
+    found: Result<Spot, Refusal>,
     p: Position,
     size: Size,
     counts: Counts,
     format: Format,
     time: u64,
-) -> Placed
+) -> Result<Position, Refusal>
     ensures { result ≡ after_pair found p size counts format time }
 {
     match found {
-        Found::At(spot) => Placed::At(found_at(spot, time)),
-        Found::Refused(r) => pass_on(r, read_singly(p, size, counts, format, time)),
+        Ok(spot) => Ok(found_at(spot, time)),
+        Err(r) if is_passed_on(r) => Err(r),
+        Err(_) => read_singly(p, size, counts, format, time),
     }
 }
 
@@ -183,6 +178,7 @@ fn same_size(coarse: bool, size: Size) -> bool
     }
 }
 
+#[tactic(auto, unfolding(crate::specs::Located::is_partner))]
 fn is_partner(saved: Saved, size: Size, time: u64) -> bool
     ensures { result ≡ is_partner saved size time }
 {
@@ -190,14 +186,19 @@ fn is_partner(saved: Saved, size: Size, time: u64) -> bool
 }
 
 // Without a partner 10, so that one place of the code reads singly.
-fn tried_with(partner: Saved, size: Size, counts: Counts, format: Format, time: u64) -> Found
+fn tried_with(
+    partner: Saved,
+    size: Size,
+    counts: Counts,
+    format: Format,
+    time: u64,
+) -> Result<Spot, Refusal>
     ensures { result ≡ tried_with partner size counts format time }
 {
-    if is_partner(partner, size, time) {
-        let other = partner.counts;
-        return paired_with(other, size, counts, format);
+    if !is_partner(partner, size, time) {
+        return Err(Refusal::Zones);
     }
-    Found::Refused(Refusal::Zones)
+    paired_with(partner.counts, size, counts, format)
 }
 
 pub fn airborne_position(
@@ -207,29 +208,36 @@ pub fn airborne_position(
     counts: Counts,
     format: Format,
     time: u64,
-) -> Placed
+) -> Result<Position, Refusal>
     ensures { result ≡ airborne_position p partner size counts format time }
 {
     let found = tried_with(partner, size, counts, format, time);
     after_pair(found, p, size, counts, format, time)
 }
 
+#[tactic(auto, unfolding(crate::specs::Located::surface_position))]
 pub fn surface_position(
     p: Position,
     site: Site,
     counts: Counts,
     format: Format,
     time: u64,
-) -> Placed
+) -> Result<Position, Refusal>
     ensures { result ≡ surface_position p site counts format time }
 {
     if is_fresh(p, time) {
-        let spot = p.spot;
-        return read_near(spot, p, Size::Fine, counts, Turn::Surface, format, time);
+        return read_near(p.spot, p, Size::Fine, counts, Turn::Surface, format, time);
     }
     if site.known {
-        let spot = site.spot;
-        return read_near(spot, p, Size::Fine, counts, Turn::Surface, format, time);
+        return read_near(
+            site.spot,
+            p,
+            Size::Fine,
+            counts,
+            Turn::Surface,
+            format,
+            time,
+        );
     }
-    Placed::At(p)
+    Ok(p)
 }

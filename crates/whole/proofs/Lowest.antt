@@ -1,11 +1,11 @@
 -- The entries of the lowest places are those of the keys held, in order: the keys of both rise and are the same, so they are one list; and the place of each is the one that the view of its key is read from.
 -- Assumes nothing.
+use Rattle.std.specs.Prelude.{Some, None}
 use Prim.Native.Nat.{ℕ, zero, suc, ◌≤◌, ◌<◌}
 use native.Mathlib.Omega.{arith}
 use mathlib.Core.Bool.{Bool, true, false, cond}
 use mathlib.Core.List.{List, [], ◌∷◌, ◌++◌}
 use mathlib.Core.Logic.{◌⊎◌, inl, inr, ⊎_elim}
-use mathlib.Core.Option.{some, none}
 use mathlib.Core.Path.{◌≡◌, refl, sym, ap, ap₂, ◌∙◌}
 use lib.Dec.{eqb, ltb}
 use borrow.Author.Tests.{lt-ltb, eqb-true}
@@ -170,16 +170,16 @@ module _ (s : List ℕ) where
         let f : at ≡ place_of v = omega (arith, low, k, high, place_is w) in
         f
 
-    viewed : (v : ℕ) → Has v (lowest_of s) → view s (key_of v) ≡ some (track_at s (places_in s) v)
+    viewed : (v : ℕ) → Has v (lowest_of s) → view s (key_of v) ≡ Some (track_at s (places_in s) v)
     unfolding view_at
     viewed v m =
         let w = kept v m in
         let e = lowest_place v m in
         let l : place_of v < places_in s = omega (arith, place_is w, w.low) in
-        ap (λ (j : ℕ). track_in (cond (ltb j (places_in s)) (some (bytes.cell s j)) none)) e
-        ∙ ap (λ (b : Bool). track_in (cond b (some (bytes.cell s (place_of v))) none)) (lt-ltb (place_of v) (places_in s) l)
+        ap (λ (j : ℕ). track_in (cond (ltb j (places_in s)) (Some (bytes.cell s j)) None)) e
+        ∙ ap (λ (b : Bool). track_in (cond b (Some (bytes.cell s (place_of v))) None)) (lt-ltb (place_of v) (places_in s) l)
 
-    rows_from_lem : (all : Bool) (l : List ℕ) → ((v : ℕ) → Has v l → view s (key_of v) ≡ some (track_at s (places_in s) v))
+    rows_from_lem : (all : Bool) (l : List ℕ) → ((v : ℕ) → Has v l → view s (key_of v) ≡ Some (track_at s (places_in s) v))
         → rows_at all s (places_in s) l ≡ rows_of all s (keys_of l)
     unfolding rows_at rows_of
     rows_from_lem all [] f = refl

@@ -1,11 +1,11 @@
 -- What the contract promises in the rules' terms: whatever meets it says 1, 7, or the text of the listing, for which the buffer has room; the text is what the calls give one by one; its number of tracks is that of its lines.
 -- Assumes nothing.
+use Rattle.std.specs.Prelude.{Ok, Err, Option, Some, None}
 use Prim.Native.Nat.{ℕ, zero, suc, ◌*◌, ◌≤◌, ◌<◌}
 use native.Mathlib.Omega.{arith}
 use mathlib.Core.Bool.{Bool, true, false, cond, not}
 use mathlib.Core.List.{List, [], ◌∷◌, ◌++◌}
 use mathlib.Core.Logic.{◌↔◌}
-use mathlib.Core.Option.{Option, some, none}
 use mathlib.Core.Path.{◌≡◌, refl, sym, ap, ◌∙◌}
 use lib.Dec.{eqb, ltb}
 use lib.ListN.{length, length-append}
@@ -25,10 +25,9 @@ use Rattle.text.specs.Lines.{header_text, row_text, text_in}
 use Rattle.text.proofs.Fits.{header_most, row_most}
 use Rattle.entries.specs.Arrays.{filled}
 use Rattle.report.specs.Listing.{row_for, as_list, among, keys_held, keys_in, rows_of, rows_in, texts, header_for, listing, header_in}
-use Rattle.report.specs.Walked.{Walked}
+use Rattle.report.specs.Walked.{Walked, header_printed}
 use Rattle.report.proofs.Gathered.{keys_rise, keys_held_lem, held_keys}
 use Rattle.report.proofs.Walking.{walk_prints, walk_tracks}
-use Rattle.whole.specs.declared.Listed.TheVariants.{Bytes, Refused}
 use Rattle.whole.specs.Whole.{listing_bytes, room_for, order_after, left, listed}
 use Rattle.whole.specs.Said.{answer_said}
 use Rattle.whole.proofs.listing.Kinds as listing-kinds
@@ -41,7 +40,7 @@ listed_says : (all : Bool) (s : List ℕ) (bad : ℕ) (order out : List ℕ)
 unfolding listed
 listed_says all s bad order out = by_tests (room_for s (length order) (length out)) (whole_places (length s))
   where
-    by_tests : (a b : Bool) → answer_said (cond (not a) (left (Refused Length) order out) (cond (not b) (left (Refused Places) order out) (left (Bytes (length (listing all s bad))) (order_after s order) (filled (length out) (listing all s bad)))))
+    by_tests : (a b : Bool) → answer_said (cond (not a) (left (Err Length) order out) (cond (not b) (left (Err Places) order out) (left (Ok (length (listing all s bad))) (order_after s order) (filled (length out) (listing all s bad)))))
         ≡ cond (not a) (number 1) (cond (not b) (number 7) (gives (filled (length out) (listing all s bad))))
     by_tests true true = refl
     by_tests true false = refl
@@ -63,7 +62,7 @@ module _ (all : Bool) (s : List ℕ) (bad : ℕ) where
 
   -- the text is what the header, the walk of the keys and the line of each give one by one
   pub listing_one_by_one : whole_places (length s) ≡ true → {n : ℕ} {text : List ℕ} → Walked all s 0 n text
-      → listing all s bad ≡ text_in (header_in all s bad).line ++ text
+      → listing all s bad ≡ header_printed (header_in all s bad) ++ text
   listing_one_by_one whole w = sym (walk_prints all s whole bad w)
 
 -- ---- the room
@@ -74,8 +73,8 @@ texts_most [] = omega arith
 texts_most (r ∷ rows) = omega (arith, length-append (row_text r) (texts rows), row_most r, texts_most rows)
 
 one_most : (v : Option Row) → length (as_list v) ≤ 1
-one_most none = omega arith
-one_most (some r) = omega arith
+one_most None = omega arith
+one_most (Some r) = omega arith
 
 among_most : (key : ℕ) (keys : List ℕ) → length (among key keys) ≤ suc (length keys)
 unfolding among

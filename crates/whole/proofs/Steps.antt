@@ -1,5 +1,6 @@
 -- The steps of the loops, and what each function gives, over plain variables: a place more, an entry more, and the lengths.
 -- Assumes nothing.
+use Rattle.std.specs.Prelude.{Some, None}
 use Prim.Native.Nat.{ℕ, zero, suc, ◌+◌, ◌*◌, ◌/◌, ◌%◌, ◌<◌}
 use native.Mathlib.Omega.{arith}
 use native.Mathlib.Nat.{add-zero}
@@ -27,7 +28,6 @@ use Rattle.rules.specs.Form.{is_held}
 use Rattle.table_bytes.specs.Layout.{clock_of, key_at, body_at}
 use Rattle.table_bytes.proofs.Scanned.{held_as}
 use Rattle.table.specs.Bytes.{bytes}
-use Rattle.text.specs.declared.Figure.TheVariants.{Unknown, Known}
 use Rattle.text.specs.declared.Row.{Row}
 use Rattle.text.specs.Lines.{line_room, row_text}
 use Rattle.report.specs.Listing.{latitude_in, longitude_in, shown, row_from, row_of, row_for, as_list, texts}
@@ -162,7 +162,7 @@ latitude_kept : (x : Position) (time : ℕ) → latitude_in (record { known = x.
 unfolding latitude_in meant_position
 latitude_kept x time = by_test x.known refl
   where
-    by_test : (b : Bool) → x.known ≡ b → cond x.known (Known x.spot.latitude) Unknown ≡ latitude_in (cond b x no_position)
+    by_test : (b : Bool) → x.known ≡ b → cond x.known (Some x.spot.latitude) None ≡ latitude_in (cond b x no_position)
     by_test true e = refl
     by_test false e = rw e
 
@@ -170,7 +170,7 @@ longitude_kept : (x : Position) (time : ℕ) → longitude_in (record { known = 
 unfolding longitude_in meant_position
 longitude_kept x time = by_test x.known refl
   where
-    by_test : (b : Bool) → x.known ≡ b → cond x.known (Known (pos x.spot.longitude)) Unknown ≡ longitude_in (cond b x no_position)
+    by_test : (b : Bool) → x.known ≡ b → cond x.known (Some (pos x.spot.longitude)) None ≡ longitude_in (cond b x no_position)
     by_test true e = refl
     by_test false e = rw e
 

@@ -1,5 +1,6 @@
 -- What each way out of `listing` gives, and what the calls on the way to the text ask for: by the lengths, and by the entries of the lowest places.
 -- Assumes nothing.
+use Rattle.std.specs.Prelude.{Ok, Err}
 use Prim.Native.Nat.{ℕ, ◌+◌, ◌*◌, ◌≤◌}
 use native.Mathlib.Omega.{arith}
 use mathlib.Core.Bool.{Bool, true, false, not, ◌&&◌}
@@ -16,7 +17,6 @@ use Rattle.text.specs.declared.Row.{Row}
 use Rattle.text.specs.Lines.{line_room, header_text}
 use Rattle.entries.specs.Arrays.{filled}
 use Rattle.report.specs.Listing.{texts, header_for, listing}
-use Rattle.whole.specs.declared.Listed.TheVariants.{Bytes, Refused}
 use Rattle.whole.specs.Whole.{room_for, lowest_of, order_after, left, listed}
 use Rattle.whole.specs.Code.{rows_at, listing_of, Inside, Put, Added}
 use Rattle.whole.proofs.Buffer.{put_filled}
@@ -49,12 +49,12 @@ module _ (s order out : List ℕ) {r : Bool} (r-is : r ≡ room_for s (length or
     out_room = eqb-true _ _ (and_right (eqb (length order) (places_in s)) (eqb (length out) (line_room * (places_in s + 1))) rooms)
 
   module _ (all : Bool) (bad : ℕ) where
-    pub no_room : not r ≡ true → left (Refused Length) order out ≡ listed all s bad order out
+    pub no_room : not r ≡ true → left (Err Length) order out ≡ listed all s bad order out
     unfolding listed
     no_room h = rw (← r-is, not-true r h)
 
     module _ (h : not r ≡ false) {w : Bool} (w-is : w ≡ whole_places (length s)) where
-      pub no_table : not w ≡ true → left (Refused Places) order out ≡ listed all s bad order out
+      pub no_table : not w ≡ true → left (Err Places) order out ≡ listed all s bad order out
       unfolding listed
       no_table y = rw (← r-is, not-false r h, ← w-is, not-true w y)
 
@@ -69,13 +69,13 @@ module _ (s order out : List ℕ) {r : Bool} (r-is : r ≡ room_for s (length or
             (ap₂ (λ (m : ℕ) (l : List ℕ). rows_at all s m l) n-is (front_lowest s order k-is o_is) ∙ rows_are s small all)
 
         pub told : not w ≡ false → {at : ℕ} {x : List ℕ} → length x ≡ length out → Put (listing_of bad (clock_of s) (rows_at all s n (take k o))) at x
-            → left (Bytes at) o x ≡ listed all s bad order out
+            → left (Ok at) o x ≡ listed all s bad order out
         unfolding listed
         told y {at} {x} long p =
             let q : Put (listing all s bad) at x = rw text_is at p in
             let f : x ≡ filled (length out) (listing all s bad) = put_filled q ∙ ap (λ (m : ℕ). filled m (listing all s bad)) long in
-            let e : left (Bytes at) o x ≡ left (Bytes (length (listing all s bad))) (order_after s order) (filled (length out) (listing all s bad)) =
-            ap (λ (m : ℕ). left (Bytes m) o x) q.ends ∙ ap₂ (λ (u v : List ℕ). left (Bytes (length (listing all s bad))) u v) o_is f in
+            let e : left (Ok at) o x ≡ left (Ok (length (listing all s bad))) (order_after s order) (filled (length out) (listing all s bad)) =
+            ap (λ (m : ℕ). left (Ok m) o x) q.ends ∙ ap₂ (λ (u v : List ℕ). left (Ok (length (listing all s bad))) u v) o_is f in
             e ∙ rw (← r-is, not-false r h, ← w-is, not-false w y)
 
 -- the entries that the lines are written from

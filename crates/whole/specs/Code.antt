@@ -1,6 +1,5 @@
 -- What private functions promise to each other: the row of an entry, from its place, and text that grows in a buffer of zeros. No public contract cites this file.
-use Rattle.std.specs.Prelude.{ℕ, ◌-◌, ◌%◌, ◌^◌, ◌≤◌, ◌<◌, ◌≡◌, Bool, List, [], ◌∷◌, ◌++◌, length, get_or, replicate}
-use Rattle.std.proofs.Math.Option.{Option, some}
+use Rattle.std.specs.Prelude.{ℕ, ◌-◌, ◌%◌, ◌^◌, ◌≤◌, ◌<◌, ◌≡◌, Bool, List, [], ◌∷◌, ◌++◌, length, get_or, replicate, Option, Some}
 use Rattle.order.specs.Sorted.{key_of}
 use Rattle.place.specs.Place.{track_of}
 use Rattle.track.specs.declared.Track.{Track}
@@ -19,7 +18,7 @@ track_at s n e = track_of (body_at s n (place_of e))
 
 -- its row, if it is shown
 abbrev pub row_at : Bool → List ℕ → ℕ → ℕ → Option Row
-row_at all s n e = row_for all (key_of e) (some (track_at s n e))
+row_at all s n e = row_for all (key_of e) (Some (track_at s n e))
 
 unfoldable pub rows_at : Bool → List ℕ → ℕ → List ℕ → List Row
 rows_at all s n [] = []

@@ -1,5 +1,5 @@
 -- RULES 12.8 and 20.7: the whole listing of a table in one buffer, with zeros behind the text; and the array in which the keys were sorted.
-use Rattle.std.specs.Prelude.{ℕ, zero, suc, ◌+◌, ◌*◌, Bool, cond, not, ◌&&◌, List, [], ◌∷◌, ◌++◌, eqb, length}
+use Rattle.std.specs.Prelude.{ℕ, zero, suc, ◌+◌, ◌*◌, Bool, cond, not, ◌&&◌, List, [], ◌∷◌, ◌++◌, eqb, length, Result, Ok, Err}
 use Rattle.refusals.specs.declared.Refusal.TheVariants.{Length, Places}
 use Rattle.order.specs.Sorted.{entry_of, rising, firsts, over}
 use Rattle.memory.specs.Offsets.{whole_places, places_in}
@@ -9,8 +9,7 @@ use Rattle.table.specs.Bytes.{bytes}
 use Rattle.text.specs.Lines.{line_room}
 use Rattle.entries.specs.Arrays.{filled}
 use Rattle.report.specs.Listing.{listing}
-use Rattle.whole.specs.declared.Listed.{Listed}
-use Rattle.whole.specs.declared.Listed.TheVariants.{Bytes, Refused}
+use Rattle.refusals.specs.declared.Refusal.{Refusal}
 
 -- ---- the lengths
 
@@ -44,16 +43,16 @@ order_after s order = over (lowest_of s) (over (sorted_of s) order)
 
 -- what it answers, and the two arrays as it leaves them
 pub record Left : Type 0 where
-  pub answer : Listed
+  pub answer : Result ℕ Refusal
   pub order : List ℕ
   pub out : List ℕ
 
-abbrev pub left : Listed → List ℕ → List ℕ → Left
+abbrev pub left : Result ℕ Refusal → List ℕ → List ℕ → Left
 left answer order out = record { answer = answer; order = order; out = out }
 
 -- 1, 7, or the length of the text, which is in the buffer, with zeros behind it
 unfoldable pub listed : Bool → List ℕ → ℕ → List ℕ → List ℕ → Left
 listed all s bad order out =
-    cond (not (room_for s (length order) (length out))) (left (Refused Length) order out)
-    (cond (not (whole_places (length s))) (left (Refused Places) order out)
-    (left (Bytes (length (listing all s bad))) (order_after s order) (filled (length out) (listing all s bad))))
+    cond (not (room_for s (length order) (length out))) (left (Err Length) order out)
+    (cond (not (whole_places (length s))) (left (Err Places) order out)
+    (left (Ok (length (listing all s bad))) (order_after s order) (filled (length out) (listing all s bad))))

@@ -10,13 +10,6 @@ ghost use Rattle.whole.specs.Whole.{room_for, left, listed};
 
 use refusals::Refusal;
 
-#[derive(Clone, Copy)]
-pub enum Listed {
-    // how many the text has
-    Bytes(usize),
-    Refused(Refusal),
-}
-
 // How many places bytes of this length have room for, whether they are a table or not.
 fn places_of(l: usize) -> usize
     ensures { result ≡ (l - head_size) / place_size }
@@ -36,17 +29,23 @@ pub fn has_room(table: &[u8], order: usize, out: usize) -> bool
 }
 
 // The listing, of the table as it stands and a number of bad blocks, with zeros behind it: of all tracks, or of those with a position. Or 1, then 7.
-pub fn listing(table: &[u8], bad: u64, all: bool, order: &mut [u64], out: &mut [u8]) -> Listed
+pub fn listing(
+    table: &[u8],
+    bad: u64,
+    all: bool,
+    order: &mut [u64],
+    out: &mut [u8],
+) -> Result<usize, Refusal>
     ensures { left result order.new out.new ≡ listed all table.now bad order.old out.old }
 {
     if !has_room(table, order.len(), out.len()) {
-        return Listed::Refused(Refusal::Length);
+        return Err(Refusal::Length);
     }
     if !table_bytes::whole_places(table.len()) {
-        return Listed::Refused(Refusal::Places);
+        return Err(Refusal::Places);
     }
     let n = table_bytes::places_in(table);
     let k = sorted::in_order(table, n, order);
     table_bytes::clear(out);
-    Listed::Bytes(lines::put_listing(table, n, order, k, bad, all, out))
+    Ok(lines::put_listing(table, n, order, k, bad, all, out))
 }

@@ -1,12 +1,12 @@
 -- `agree::shows` meets its contract: the line of the row there, compared.
-use mathlib.Core.Path.{◌∙◌}
+use mathlib.Core.Path.{◌≡◌, ap, ◌∙◌}
+use Rattle.text.specs.declared.Line.{Line}
+use Rattle.text.specs.Lines.{text_in}
+use Rattle.text.proofs.Fits.{line_text_lem}
+use Rattle.form.specs.Form.{same}
 use Rattle.agree.specs.Near.{shows}
-use Rattle.agree.proofs.Shown.{line_holds, line_same}
 use Rattle.agree.proofs.shows.Goals as goal
 
-pub slice_bounds-same-end : goal.slice_bounds-same-end
-slice_bounds-same-end c = line_holds _ c.row_line-l.ensures
-
 pub returns : goal.returns
-unfolding shows
-returns c = c.same.ensures ∙ line_same _ c.row_line-l.ensures _
+unfolding shows same
+returns c = c.eq.ensures ∙ ap (same c.args.line.now) (c.as_bytes.ensures ∙ ap text_in c.row_line.ensures ∙ line_text_lem _)

@@ -1,5 +1,6 @@
 -- `arbiter::addercoil_check` meets its contract: an array of a wrong length, yes, the line at fault, or the refusal.
-use mathlib.Core.Path.{refl}
+use Rattle.std.specs.Prelude.{Ok}
+use mathlib.Core.Path.{refl, ap, ◌∙◌}
 use Rattle.entries.proofs.Ways.{into_wrong, into_right, into_refused}
 use Rattle.arbiter.specs.Checks.{check_said}
 use Rattle.arbiter.proofs.addercoil_check.Goals as goal
@@ -7,13 +8,13 @@ use Rattle.arbiter.proofs.addercoil_check.Goals as goal
 pub returns-then-out-ne1 : goal.returns-then-out-ne1
 returns-then-out-ne1 c = into_wrong 1 _ _ c.if-out-ne1.true
 
-pub returns-in-Yes : goal.returns-in-Yes
-returns-in-Yes c =
-    into_right check_said _ c.in-Yes.is 1 c.if-out-ne1.false c.check-answer.ensures c.give.ensures
+pub returns-in-Ok-None : goal.returns-in-Ok-None
+returns-in-Ok-None c =
+    into_right check_said _ (c.in-Ok-None.is ∙ ap Ok c.in-Ok-None.field-0-is) 1 c.if-out-ne1.false c.check.ensures c.give.ensures
 
-pub returns-in-Fault : goal.returns-in-Fault
-returns-in-Fault c =
-    into_right check_said _ c.in-Fault.is 1 c.if-out-ne1.false c.check-answer.ensures c.give-in-Fault.ensures
+pub returns-in-Ok-Some : goal.returns-in-Ok-Some
+returns-in-Ok-Some c =
+    into_right check_said _ (c.in-Ok-Some.is ∙ ap Ok c.in-Ok-Some.field-0-is) 1 c.if-out-ne1.false c.check.ensures c.give-in-Ok-Some.ensures
 
-pub returns-in-Refused : goal.returns-in-Refused
-returns-in-Refused c = into_refused check_said _ c.in-Refused.is 1 c.if-out-ne1.false c.check-answer.ensures refl c.number.ensures
+pub returns-in-Err : goal.returns-in-Err
+returns-in-Err c = into_refused check_said _ c.in-Err.is 1 c.if-out-ne1.false c.check.ensures refl c.number.ensures

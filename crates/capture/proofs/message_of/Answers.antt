@@ -4,22 +4,14 @@ use native.Mathlib.Omega.{arith}
 use Rattle.capture.proofs.Records.{inside, message_at, message_ended}
 use Rattle.capture.proofs.message_of.Goals as goal
 
-pub overflow_add-end : goal.overflow_add-end
-overflow_add-end c =
-    let a = c.args in
-    omega (arith, inside a.b.now a.i _ _ (sym c.in-At.is ∙ c.record_of-r.ensures))
+pub overflow_add-result : goal.overflow_add-result
+overflow_add-result c = omega (arith, inside c.args.b.now c.args.i _ _ (sym c.in-Some.is ∙ c.record_of.ensures))
 
 pub slice_bounds-result-end : goal.slice_bounds-result-end
-slice_bounds-result-end c =
-    let a = c.args in
-    omega (arith, inside a.b.now a.i _ _ (sym c.in-At.is ∙ c.record_of-r.ensures))
+slice_bounds-result-end c = omega (arith, inside c.args.b.now c.args.i _ _ (sym c.in-Some.is ∙ c.record_of.ensures))
 
-pub returns-in-At : goal.returns-in-At
-returns-in-At c =
-    let a = c.args in
-    message_at a.b.now a.i _ _ (sym c.in-At.is ∙ c.record_of-r.ensures)
+pub returns-in-Some : goal.returns-in-Some
+returns-in-Some c = message_at c.args.b.now c.args.i _ _ (sym c.in-Some.is ∙ c.record_of.ensures)
 
-pub returns-in-Ended : goal.returns-in-Ended
-returns-in-Ended c =
-    let a = c.args in
-    message_ended a.b.now a.i (sym c.in-Ended.is ∙ c.record_of-r.ensures)
+pub returns-in-None : goal.returns-in-None
+returns-in-None c = message_ended c.args.b.now c.args.i (sym c.in-None.is ∙ c.record_of.ensures)

@@ -1,20 +1,18 @@
 -- `compare::against` meets its contract: the header's line, and then the rows.
 use mathlib.Core.Path.{ap}
 use mathlib.Core.Bool.{not}
-use Rattle.agree.proofs.Shown.{line_holds}
-use Rattle.compare.proofs.Ways.{header_is, header_differs, header_same, within}
+use Rattle.compare.proofs.Ways.{header_given, header_differs, header_same, within}
 use Rattle.compare.proofs.against.Goals as goal
+
+pub returns-in_err-ours : goal.returns-in_err-ours
+returns-in_err-ours c = header_given _ _ c.requires c.header_of.ensures c.in_err-ours.was
 
 pub slice_bounds-same-end : goal.slice_bounds-same-end
 slice_bounds-same-end c = within _ c.line_end-end.ensures.next_line
 
-pub slice_bounds-same-end-2 : goal.slice_bounds-same-end-2
-slice_bounds-same-end-2 c =
-    line_holds _ (header_is _ _ c.requires c.header_of-ours.ensures)
-
 pub returns-then-not-same : goal.returns-then-not-same
 returns-then-not-same c =
-    header_differs c.args.table.now c.args.bad c.requires c.header_of-ours.ensures c.args.theirs.now c.line_end-end.ensures.next_line c.same.ensures (ap not c.if-not-same.true)
+    header_differs c.args.table.now c.args.bad c.requires c.header_of.ensures c.in_ok-ours.was c.args.theirs.now c.line_end-end.ensures.next_line c.as_bytes.ensures c.same.ensures (ap not c.if-not-same.true)
 
 pub rows_compared-requires : goal.rows_compared-requires
 rows_compared-requires c =
@@ -22,4 +20,4 @@ rows_compared-requires c =
 
 pub returns : goal.returns
 returns c =
-    header_same c.args.table.now c.args.bad c.requires c.header_of-ours.ensures c.args.theirs.now c.line_end-end.ensures.next_line c.same.ensures (ap not c.if-not-same.false) c.rows_compared.ensures
+    header_same c.args.table.now c.args.bad c.requires c.header_of.ensures c.in_ok-ours.was c.args.theirs.now c.line_end-end.ensures.next_line c.as_bytes.ensures c.same.ensures (ap not c.if-not-same.false) c.rows_compared.ensures

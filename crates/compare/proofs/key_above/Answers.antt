@@ -1,16 +1,17 @@
 -- `compare::key_above` meets its contract: by the answer.
+use Rattle.std.specs.Prelude.{Ok}
 use mathlib.Core.Path.{sym, ap, ◌∙◌}
 use Rattle.report.specs.Code.{key_or_limit}
 use Rattle.compare.proofs.key_above.Goals as goal
 
-pub returns-in-Key : goal.returns-in-Key
+pub returns-in-Ok-Some : goal.returns-in-Ok-Some
 unfolding key_or_limit
-returns-in-Key c = ap key_or_limit (sym c.in-Key.is ∙ c.next-next.ensures)
+returns-in-Ok-Some c = ap key_or_limit (sym (c.in-Ok-Some.is ∙ ap Ok c.in-Ok-Some.field-0-is) ∙ c.next.ensures)
 
-pub returns-in-End : goal.returns-in-End
+pub returns-in-Ok-None : goal.returns-in-Ok-None
 unfolding key_or_limit
-returns-in-End c = ap key_or_limit (sym c.in-End.is ∙ c.next-next.ensures)
+returns-in-Ok-None c = ap key_or_limit (sym (c.in-Ok-None.is ∙ ap Ok c.in-Ok-None.field-0-is) ∙ c.next.ensures)
 
-pub returns-in-Refused : goal.returns-in-Refused
+pub returns-in-Err : goal.returns-in-Err
 unfolding key_or_limit
-returns-in-Refused c = ap key_or_limit (sym c.in-Refused.is ∙ c.next-next.ensures)
+returns-in-Err c = ap key_or_limit (sym c.in-Err.is ∙ c.next.ensures)

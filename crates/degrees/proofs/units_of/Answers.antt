@@ -1,19 +1,17 @@
 -- `degrees::units_of` meets its contract: equal patterns are equal doubles, and the figure of the guess is the only one that the double can be.
-use Rattle.std.proofs.Common.{◌≡◌, T, sym, ap, ◌∙◌, subst, to_z-of_z, w32, SFits}
+use Rattle.std.proofs.Common.{◌≡◌, Bool, true, not, T, sym, ap, ◌∙◌, subst, to_z-of_z, w32, SFits}
 use lib.Signed.{nat_abs-le}
-use lib.Ieee.{Float, binary64, to_bits, fits}
-use lib.Ieee.Compare.{differs_from_itself}
+use lib.Ieee.{Float, binary64, to_bits, fits, is_nan}
 use Rattle.degrees.specs.Value.{Exactly, degrees_of}
 use Rattle.degrees.proofs.Exact.{exactly, degrees_fits}
 use Rattle.degrees.proofs.Alone.{only, same_bits}
-use Rattle.degrees.proofs.Sides.{no_nan, valued}
+use Rattle.degrees.proofs.Sides.{valued}
 use Rattle.degrees.proofs.units_of.Goals as goal
 
-pub returns-then-x : goal.returns-then-x
-returns-then-x c n h v = subst (λ (y : Float). Exactly y n) (differs_from_itself c.args.x (subst T (sym c.if-x.true) tt)) v
-
-pub float_to_bits-given : goal.float_to_bits-given
-float_to_bits-given c = no_nan c.args.x c.if-x.false
+pub returns-then-is_nan : goal.returns-then-is_nan
+returns-then-is_nan c n h v =
+    let e : is_nan c.args.x ≡ true = sym c.is_nan.ensures.value ∙ c.if-is_nan.true in
+    subst (λ (b : Bool). T (not b)) e (valued c.args.x n v)
 
 pub float_to_bits-due : goal.float_to_bits-due
 float_to_bits-due c =

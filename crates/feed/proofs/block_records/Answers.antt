@@ -3,8 +3,8 @@ use mathlib.Core.Path.{sym, ◌∙◌}
 use Rattle.feed.proofs.Records.{records_good, records_bad}
 use Rattle.feed.proofs.block_records.Goals as goal
 
-pub returns-in-Good : goal.returns-in-Good
-returns-in-Good c = records_good _ _ (sym c.block_of-b.ensures ∙ c.in-Good.is)
+pub returns-in-Ok : goal.returns-in-Ok
+returns-in-Ok c = records_good _ _ (sym c.block_of.ensures ∙ c.in-Ok.is)
 
-pub returns-in-Refused : goal.returns-in-Refused
-returns-in-Refused c = records_bad _ _ (sym c.block_of-b.ensures ∙ c.in-Refused.is)
+pub returns-in-Err : goal.returns-in-Err
+returns-in-Err c = records_bad _ _ (sym c.block_of.ensures ∙ c.in-Err.is)

@@ -8,4 +8,4 @@ returns-in_default c = feed_size _ _ _ (sym c.clock_of.ensures ∙ c.in_default.
 
 pub returns : goal.returns
 returns c =
-    feed_on _ _ (whole _ _ (sym c.clock_of.ensures ∙ c.in-At.is)) c.take_blocks.ensures.0 c.take_blocks.ensures.1
+    feed_on _ _ (whole _ _ (sym c.clock_of.ensures ∙ c.in-Ok.is)) c.take_blocks.ensures.0 c.take_blocks.ensures.1

@@ -8,4 +8,4 @@ returns-in_default c = feed_block_size _ _ _ _ (sym c.clock_of.ensures ∙ c.in_
 
 pub returns : goal.returns
 returns c =
-    feed_block_on _ _ _ (whole _ _ (sym c.clock_of.ensures ∙ c.in-At.is)) c.take_block.ensures.0 c.count.ensures c.take_block.ensures.1
+    feed_block_on _ _ _ (whole _ _ (sym c.clock_of.ensures ∙ c.in-Ok.is)) c.take_block.ensures.0 c.count.ensures c.take_block.ensures.1

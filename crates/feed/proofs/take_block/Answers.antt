@@ -8,4 +8,4 @@ returns-in_default c = block_skipped _ _ _ (sym c.block_of.ensures ∙ c.in_defa
 
 pub returns : goal.returns
 returns c =
-    block_taken _ _ _ (sym c.block_of.ensures ∙ c.in-Good.is) c.take_records.ensures
+    block_taken _ _ _ (sym c.block_of.ensures ∙ c.in-Ok.is) c.take_records.ensures

@@ -8,19 +8,19 @@ use Rattle.feed.proofs.take_record.Goals as goal
 pub overflow_add-end : goal.overflow_add-end
 overflow_add-end c =
     let a = c.args in
-    omega (arith, inside a.block.now a.i _ _ (sym c.in-At.is ∙ c.record_of-r.ensures))
+    omega (arith, inside a.block.now a.i _ _ (sym c.in-Some.is ∙ c.record_of.ensures))
 
 pub slice_bounds-hear-end : goal.slice_bounds-hear-end
 slice_bounds-hear-end c =
     let a = c.args in
-    omega (arith, inside a.block.now a.i _ _ (sym c.in-At.is ∙ c.record_of-r.ensures))
+    omega (arith, inside a.block.now a.i _ _ (sym c.in-Some.is ∙ c.record_of.ensures))
 
-pub returns-in-At : goal.returns-in-At
-returns-in-At c =
+pub returns-in-Some : goal.returns-in-Some
+returns-in-Some c =
     let a = c.args in
-    record_taken a.table.now a.block.now a.i _ _ (sym c.in-At.is ∙ c.record_of-r.ensures) c.hear.ensures
+    record_taken a.table.now a.block.now a.i _ _ (sym c.in-Some.is ∙ c.record_of.ensures) c.hear.ensures
 
-pub returns-in-Ended : goal.returns-in-Ended
-returns-in-Ended c =
+pub returns-in-None : goal.returns-in-None
+returns-in-None c =
     let a = c.args in
-    none_taken a.table.now a.block.now a.i (sym c.in-Ended.is ∙ c.record_of-r.ensures)
+    none_taken a.table.now a.block.now a.i (sym c.in-None.is ∙ c.record_of.ensures)

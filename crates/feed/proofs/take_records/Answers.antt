@@ -7,15 +7,15 @@ use borrow.Author.Rules.{rules}
 use Rattle.feed.proofs.take_records.Goals as goal
 
 pub loop-i-init : goal.loop-i-init
-loop-i-init c = (search rules, refl, refl)
+loop-i-init c = (refl, refl)
 
 pub loop-i-preserved : goal.loop-i-preserved
 loop-i-preserved c =
     let a = c.args in
-    (search rules, search rules, records_on a.table.now a.block.now _ c.loop-i.invariant.2 c.take_record.ensures)
+    (search rules, records_on a.table.now a.block.now _ c.loop-i.invariant.1 c.take_record.ensures)
 
 pub returns : goal.returns
 returns c =
     let a = c.args in
     let e : c.loop-i.i ≡ a.n = omega arith in
-    c.loop-i.invariant.2 ∙ ap (records_into a.table.now a.block.now) e
+    c.loop-i.invariant.1 ∙ ap (records_into a.table.now a.block.now) e

@@ -13,7 +13,7 @@ returns-then-e-s c =
     let p = next_line _ _ (line_there _ _ c.piece_end-e.result e c.if-e-s.true (e.stop c.if-e-s.true)) in
     record { value = p.0; next_line = p.1 }
 
-pub returns : goal.returns
-returns c =
+pub returns-else-e-s : goal.returns-else-e-s
+returns-else-e-s c =
     let p = next_line _ _ (line_none _ _ c.piece_end-e.result c.piece_end-e.ensures c.if-e-s.false) in
     record { value = p.0; next_line = p.1 }

@@ -1,7 +1,6 @@
 -- `merge::merge` meets its contract: a buffer of a wrong length, texts that cannot be one, or both as one.
 use mathlib.Core.Path.{sym, ◌∙◌}
 use native.Mathlib.Omega.{arith}
-use Rattle.agree.proofs.Shown.{line_holds}
 use Rattle.merge.proofs.Ways.{wrong_length, no_one, heads_apart, keys_apart, sums_fit, header_room, line_length, both_one}
 use Rattle.merge.proofs.merge.Goals as goal
 
@@ -30,9 +29,6 @@ pub overflow_add-x-2 : goal.overflow_add-x-2
 overflow_add-x-2 c =
     omega (arith, sums_fit c.head_of-x.ensures c.head_of-y.ensures (sym c.are_one.ensures ∙ c.if-not-are_one.false))
 
-pub slice_bounds-fill_bytes-end : goal.slice_bounds-fill_bytes-end
-slice_bounds-fill_bytes-end c = line_holds _ c.header_line-line.ensures
-
 pub put_lines-requires : goal.put_lines-requires
 put_lines-requires c =
     let p = c.head_of-x.ensures in
@@ -46,4 +42,4 @@ returns c =
     let q = c.head_of-y.ensures in
     let e = sym c.are_one.ensures ∙ c.if-not-are_one.false in
     let k = sym c.rise.ensures ∙ c.if-not-rise.false in
-    both_one p q c.args.out.now (omega (arith, c.if-out-a-2.false, c.if-out-a.false)) e k c.header_line-line.ensures c.fill_bytes.ensures c.put_lines.ensures
+    both_one p q c.args.out.now (omega (arith, c.if-out-a-2.false, c.if-out-a.false)) e k c.header_line-line.ensures c.as_bytes.ensures c.fill_bytes.ensures c.put_lines.ensures

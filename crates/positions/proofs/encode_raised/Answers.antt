@@ -16,11 +16,8 @@ both y x = record { latitude = record { 0 = y }; longitude = record { 0 = x } }
 pub zone_count_at-requires : goal.zone_count_at-requires
 zone_count_at-requires c =
     let a = c.args in (
-      c.code_table-table.ensures,
-      (
-        rw (c.all_round-z.ensures.0, c.latitude_zones.ensures.0) (zoned a.turn a.format),
-        polar_fine a.size c.all_round-z.result c.latitude_whole-y.result (4 * c.quarter_of-q.result) c.factor_of-k.result c.quarter_of-q.ensures.0 c.factor_of-k.ensures.0 c.latitude_whole-y.ensures.1.0,
-      ),
+      rw (c.all_round-z.ensures.0, c.latitude_zones.ensures.0) (zoned a.turn a.format),
+      polar_fine a.size c.all_round-z.result c.latitude_whole-y.result (4 * c.quarter_of-q.result) c.factor_of-k.result c.quarter_of-q.ensures.0 c.factor_of-k.ensures.0 c.latitude_whole-y.ensures.1.0,
     )
 
 pub returns : goal.returns

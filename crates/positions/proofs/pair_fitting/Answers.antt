@@ -14,13 +14,13 @@ pub zone_count_at-nl-requires : goal.zone_count_at-nl-requires
 zone_count_at-nl-requires c =
     let a = c.args in
     let e = even_north a.even a.odd c.pair_latitude-r.result c.pair_latitude-s.result c.pair_latitude-r.ensures c.pair_latitude-s.ensures c.if-r-s.false in
-    (c.code_table-table.ensures, (inl refl, record { south = c.pair_latitude-r.ensures.south; north = e }))
+    (inl refl, record { south = c.pair_latitude-r.ensures.south; north = e })
 
 pub zone_count_at-requires : goal.zone_count_at-requires
 zone_count_at-requires c =
     let a = c.args in
     let e = odd_north a.even a.odd c.pair_latitude-r.result c.pair_latitude-s.result c.pair_latitude-r.ensures c.pair_latitude-s.ensures c.if-r-s.false in
-    (c.code_table-table.ensures, (inr (inl refl), record { south = c.pair_latitude-s.ensures.south; north = e }))
+    (inr (inl refl), record { south = c.pair_latitude-s.ensures.south; north = e })
 
 pub returns-then-nl-zone_count_at : goal.returns-then-nl-zone_count_at
 returns-then-nl-zone_count_at c =

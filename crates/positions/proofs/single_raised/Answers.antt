@@ -28,7 +28,7 @@ zone_count_at-requires c =
     near_is 131072 z z c.near_latitude_zone-zone.result.0 a.counts.latitude.0 (sub_ℕ a.up 4294967296) (lit< tt) c.near_latitude_zone-zone.ensures.0 in
     let south = near_south z y (spot (sub_ℕ a.up 4294967296) a.longitude) a.counts a.turn a.format found c.if-y-m.false in
     let north = near_north z y (spot (sub_ℕ a.up 4294967296) a.longitude) a.counts a.turn a.format found c.if-y-m.false in
-    (c.code_table-table.ensures, (rw (c.all_round-z.ensures.0, c.latitude_zones.ensures.0) (zoned a.turn a.format), record { south = south; north = north }))
+    (rw (c.all_round-z.ensures.0, c.latitude_zones.ensures.0) (zoned a.turn a.format), record { south = south; north = north })
 
 pub returns : goal.returns
 returns c =

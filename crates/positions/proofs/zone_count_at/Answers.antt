@@ -10,28 +10,25 @@ use Rattle.positions.proofs.Shift.{abs_is}
 use Rattle.positions.proofs.zone_count_at.Goals as goal
 
 pub overflow_cast-z : goal.overflow_cast-z
-overflow_cast-z c = omega (arith, zoned_most c.args.n c.requires.1.0)
+overflow_cast-z c = omega (arith, zoned_most c.args.n c.requires.0)
 
 pub overflow_cast-up : goal.overflow_cast-up
-overflow_cast-up c = omega (arith, zoned_most c.args.n c.requires.1.0)
+overflow_cast-up c = omega (arith, zoned_most c.args.n c.requires.0)
 
 pub overflow_mul-z : goal.overflow_mul-z
-overflow_mul-z c = omega (arith, zoned_most c.args.n c.requires.1.0)
+overflow_mul-z c = omega (arith, zoned_most c.args.n c.requires.0)
 
 pub overflow_mul-k : goal.overflow_mul-k
 overflow_mul-k c =
-    rw c.apart-a.ensures (omega (arith, units_fit c.args.n c.units_in.result c.units_in.ensures c.args.up c.requires.1.1))
-
-pub overflow_cast-k : goal.overflow_cast-k
-overflow_cast-k c =
-    rw c.apart-a.ensures (omega (arith, units_fit c.args.n c.units_in.result c.units_in.ensures c.args.up c.requires.1.1))
+    rw c.abs_diff-a.ensures (omega (arith, units_fit c.args.n c.units_in.result c.units_in.ensures c.args.up c.requires.1))
 
 pub returns : goal.returns
 returns c =
     let a = c.args in
     let M : ℕ = a.n * 131072 in (
       c.zone_count.ensures.0
-          ∙ ap (λ (x : ℕ). first 59 edges (x * c.units_in.result) 1) (c.apart-a.ensures ∙ sym (abs_is a.up M))
+          ∙ ap (λ (x : ℕ). first 59 edges x 1) c.from.ensures
+          ∙ ap (λ (x : ℕ). first 59 edges (x * c.units_in.result) 1) (c.abs_diff-a.ensures ∙ sym (abs_is a.up M))
           ∙ sym (zone_count_is M c.units_in.result (some_units a.n c.units_in.result c.units_in.ensures) (all_units a.n c.units_in.result c.units_in.ensures) (sub_ℕ a.up M)),
       c.zone_count.ensures.1,
     )

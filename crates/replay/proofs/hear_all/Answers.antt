@@ -1,23 +1,14 @@
--- `replay::hear_all` meets its contract: before each turn the first i records have been heard.
-use Prim.Native.Nat.{◌-◌, ◌/◌}
-use mathlib.Core.Path.{◌≡◌, refl, ap, ◌∙◌}
-use native.Mathlib.Omega.{arith}
-use lib.ListN.{length}
-use Rattle.replay.specs.Replay.{unheard, own_at}
+-- `replay::hear_all` meets its contract: each turn hears the record that comes off the front of what is left.
+use mathlib.Core.Path.{◌∙◌}
+use Rattle.std.proofs.lemmas.List.{length_push}
+use Rattle.replay.specs.Replay.{unheard}
 use Rattle.replay.proofs.Ways.{records_on}
-use borrow.Author.Rules.{rules}
 use Rattle.replay.proofs.hear_all.Goals as goal
 
-pub loop-i-init : goal.loop-i-init
-loop-i-init c = (search rules, refl)
-
-pub loop-i-preserved : goal.loop-i-preserved
-loop-i-preserved c =
+pub loop-record-preserved : goal.loop-record-preserved
+loop-record-preserved c =
     let a = c.args in
-    (search rules, records_on a.site a.key unheard a.log.now c.loop-i.i c.loop-i.invariant.1 c.hear_record-own.ensures)
-
-pub returns : goal.returns
-returns c =
-    let a = c.args in
-    let e : c.loop-i.i ≡ length a.log.now / 22 = omega arith in
-    c.loop-i.invariant.1 ∙ ap (own_at a.site a.key unheard a.log.now) e
+    let i = c.loop-record.invariant in
+    let s = c.in-Some.ensures.steps in
+    let r = records_on a.site a.key unheard a.log.now _ _ _ _ (length_push c.loop-record.yielded c.in-Some.record) i.1 s.1.0 (s.1.1 ∙ i.0) i.2 i.3 c.hear_record-own.ensures in
+    (s.0 ∙ i.0, r.0, r.1, r.2)

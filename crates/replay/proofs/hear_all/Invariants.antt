@@ -1,12 +1,12 @@
--- `replay::hear_all` meets its contract: before each turn the first i records have been heard.
-use Prim.Native.Nat.{◌-◌, ◌≤◌}
-use mathlib.Core.Path.{◌≡◌}
+-- `replay::hear_all` meets its contract: before each turn the records that came have been heard, and the rest of the log is left.
+use Rattle.std.proofs.Common.{◌≡◌, ◌*◌, ◌≤◌, length}
+use Rattle.std.specs.Prelude.{drop}
 use Rattle.replay.specs.Replay.{unheard, own_at}
-use Rattle.replay.specs.Code.{kept}
 use Rattle.replay.proofs.hear_all.Given as goal
 
-abbrev pub invariant-loop-i : goal.invariant-loop-i
-invariant-loop-i l = (l.i ≤ l.n) × (kept l.own ≡ own_at l.site l.key unheard l.log l.i)
-
-abbrev pub decreases-loop-i : goal.decreases-loop-i
-decreases-loop-i l = l.n - l.i
+abbrev pub invariant-loop-record : goal.invariant-loop-record
+invariant-loop-record l =
+    (l.record-iterator.size ≡ 22)
+    × (l.record-iterator.rest.now ≡ drop (22 * length l.yielded) l.log)
+    × (22 * length l.yielded ≤ length l.log)
+    × (l.own ≡ own_at l.site l.key unheard l.log (length l.yielded))

@@ -1,12 +1,9 @@
 -- `report::count` meets its contract: the places that the loop has passed and that have a row are counted.
-use Prim.Native.Nat.{◌-◌, ◌≤◌}
+use Prim.Native.Nat.{◌≤◌}
 use mathlib.Core.Path.{◌≡◌}
 use Rattle.report.specs.Code.{has_row}
 use Rattle.report.proofs.Counted.{one, sum}
 use Rattle.report.proofs.count.Given as goal
 
 abbrev pub invariant-loop-i : goal.invariant-loop-i
-invariant-loop-i l = (l.i ≤ l.n) × (l.rows ≤ l.i) × (l.rows ≡ sum (λ j. one (has_row l.all l.clock l.table l.n j)) l.i)
-
-abbrev pub decreases-loop-i : goal.decreases-loop-i
-decreases-loop-i l = l.n - l.i
+invariant-loop-i l = (l.rows ≤ l.i) × (l.rows ≡ sum (λ j. one (has_row l.all l.clock l.table l.n j)) l.i)

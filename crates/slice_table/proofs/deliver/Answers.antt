@@ -16,17 +16,16 @@ use Rattle.slice_table.proofs.deliver.Goals as goal
 chosen_in : (ps : List Place) {i : ℕ} {f : Found} {s t : Sought} → i ≡ chosen f (length ps) → f ≡ scanned ps s (length ps) → s ≡ t → i ≡ chosen (scanned ps t (length ps)) (length ps)
 chosen_in ps e f g = e ∙ ap (λ (x : Found). chosen x (length ps)) (f ∙ ap (λ (x : Sought). scanned ps x (length ps)) g)
 
-pub returns-then-is_refused : goal.returns-then-is_refused
-returns-then-is_refused c = delivered_refused c.args.places.now c.args.due (sym c.is_refused.ensures ∙ c.if-is_refused.true)
+pub returns-then-is_err : goal.returns-then-is_err
+returns-then-is_err c = delivered_refused c.args.places.now c.args.due (sym c.is_err.ensures.value ∙ c.if-is_err.true)
 
 pub returns-then-i-places : goal.returns-then-i-places
 returns-then-i-places c =
-    rw (c.received_in.ensures, c.place_in.ensures)
-    (delivered_at c.args.places.now c.args.due (sym c.is_refused.ensures ∙ c.if-is_refused.false) c.choose-i.result
+    delivered_at c.args.places.now c.args.due (sym c.is_err.ensures.value ∙ c.if-is_err.false) c.choose-i.result
     (chosen_in c.args.places.now c.choose-i.ensures c.scan.ensures c.sought_by.ensures) c.if-i-places.true c.next_of-next.result
-    (c.next_of-next.ensures ∙ ap (next_of c.args.due) (get_or_default c.args.places.now c.choose-i.result _ no_place c.if-i-places.true)))
+    (c.next_of-next.ensures ∙ ap (next_of c.args.due) (get_or_default c.args.places.now c.choose-i.result _ no_place c.if-i-places.true))
 
 pub returns : goal.returns
 returns c =
-    delivered_none c.args.places.now c.args.due (sym c.is_refused.ensures ∙ c.if-is_refused.false) c.choose-i.result
+    delivered_none c.args.places.now c.args.due (sym c.is_err.ensures.value ∙ c.if-is_err.false) c.choose-i.result
     (chosen_in c.args.places.now c.choose-i.ensures c.scan.ensures c.sought_by.ensures) c.if-i-places.false c.turned_away.result c.turned_away.ensures

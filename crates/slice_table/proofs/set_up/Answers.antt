@@ -6,10 +6,10 @@ use Rattle.slice_table.specs.Tracks.{after}
 use Rattle.slice_table.proofs.Ways.{set_on, set_off}
 use Rattle.slice_table.proofs.set_up.Goals as goal
 
-pub returns-then-is_done : goal.returns-then-is_done
-returns-then-is_done c =
+pub returns-then-is_ok : goal.returns-then-is_ok
+returns-then-is_ok c =
     ap (λ (ps : List Place). after c.start-s.result.answer c.start-s.result.head ps) c.clear.ensures
-    ∙ set_on c.args.places.now c.args.head c.args.site c.start-s.ensures (sym c.is_done.ensures ∙ c.if-is_done.true)
+    ∙ set_on c.args.places.now c.args.head c.args.site c.start-s.ensures (sym c.is_ok.ensures.value ∙ c.if-is_ok.true)
 
-pub returns : goal.returns
-returns c = set_off c.args.places.now c.args.head c.args.site c.start-s.ensures (sym c.is_done.ensures ∙ c.if-is_done.false)
+pub returns-else-is_ok : goal.returns-else-is_ok
+returns-else-is_ok c = set_off c.args.places.now c.args.head c.args.site c.start-s.ensures (sym c.is_ok.ensures.value ∙ c.if-is_ok.false)

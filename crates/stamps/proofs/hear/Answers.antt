@@ -2,8 +2,8 @@
 use Rattle.stamps.proofs.Ways.{heard_on, not_heard}
 use Rattle.stamps.proofs.hear.Goals as goal
 
-pub returns-in-At : goal.returns-in-At
-returns-in-At c = heard_on _ _ _ _ c.time_of-time.ensures c.in-At.is c.last_is.ensures c.hear.ensures c.note.ensures
+pub returns-in-Ok : goal.returns-in-Ok
+returns-in-Ok c = heard_on _ _ _ _ c.time_of.ensures c.in-Ok.is c.last_is.ensures c.hear.ensures c.note.ensures
 
-pub returns-in-Refused : goal.returns-in-Refused
-returns-in-Refused c = not_heard _ _ _ _ c.time_of-time.ensures c.in-Refused.is c.note-in-Refused.ensures
+pub returns-in-Err : goal.returns-in-Err
+returns-in-Err c = not_heard _ _ _ _ c.time_of.ensures c.in-Err.is c.note-in-Err.ensures

@@ -1,7 +1,8 @@
 -- `table::hear` meets its contract: its ways out are those of a received message, with the answer cut to done or a number.
+use Rattle.std.specs.Prelude.{Ok, Err}
 use mathlib.Core.Bool.{not}
 use mathlib.Core.Path.{◌≡◌, refl, sym, ap, ◌∙◌}
-use Rattle.messages.specs.declared.Accepted.TheVariants as accept
+use Rattle.std.proofs.lemmas.Result.{err_from_is_err_and}
 use Rattle.messages.specs.Accepted.{accepted, opened_as}
 use Rattle.messages.proofs.Acceptance.{accepted_opened}
 use Rattle.memory.proofs.Counts.{whole_head}
@@ -29,18 +30,20 @@ move_clock-requires c = whole_head _ (whole _ c.whole_places.ensures (ap not c.i
 pub deliver-requires : goal.deliver-requires
 deliver-requires c = (
   rw (c.move_clock.ensures, moved_length) (whole _ c.whole_places.ensures (ap not c.if-not-whole_places.false)),
-  (c.args.message.now, sym c.accept-answer.ensures ∙ c.in-Frame.is),
+  (c.args.message.now, sym c.accept.ensures ∙ c.in_ok-f.was),
 )
 
-pub returns-in-Frame : goal.returns-in-Frame
-returns-in-Frame c =
+pub returns : goal.returns
+returns c =
     let m = c.args.message.now in
-    let e : accepted m ≡ accept.Frame _ = sym c.accept-answer.ensures ∙ c.in-Frame.is in
+    let e : accepted m ≡ Ok _ = sym c.accept.ensures ∙ c.in_ok-f.was in
     c.deliver.ensures
     ∙ ap heard (receive_on _ m _ c.if-message-ne14.false c.whole_places.ensures (ap not c.if-not-whole_places.false) c.clock_of.ensures c.if-time-clock_of.false c.move_clock.ensures (sym (accepted_opened m ∙ ap opened_as e)) refl)
 
-pub returns-in-Refused : goal.returns-in-Refused
-returns-in-Refused c =
+pub returns-in_err-f : goal.returns-in_err-f
+returns-in_err-f c =
     let m = c.args.message.now in
-    let e : accepted m ≡ accept.Refused _ = sym c.accept-answer.ensures ∙ c.in-Refused.is in
-    ap heard (receive_on _ m _ c.if-message-ne14.false c.whole_places.ensures (ap not c.if-not-whole_places.false) c.clock_of.ensures c.if-time-clock_of.false c.move_clock.ensures (sym (accepted_opened m ∙ ap opened_as e)) (deliver_refused _ _ _ refl))
+    let e : accepted m ≡ Err _ = sym c.accept.ensures ∙ c.in_err-f.was in
+    let p = err_from_is_err_and c.from_residual.result c.from_residual.ensures.1 in
+    rw (p.1, p.2)
+    (ap heard (receive_on _ m _ c.if-message-ne14.false c.whole_places.ensures (ap not c.if-not-whole_places.false) c.clock_of.ensures c.if-time-clock_of.false c.move_clock.ensures (sym (accepted_opened m ∙ ap opened_as e)) (deliver_refused _ _ _ refl)))

@@ -6,7 +6,7 @@ use Rattle.table.proofs.Answers.{look_size, look_found, look_none}
 use Rattle.table.proofs.look_up.Goals as goal
 
 pub returns-then-not-whole_places : goal.returns-then-not-whole_places
-returns-then-not-whole_places c = look_size _ c.whole_places.ensures _ (ap not c.if-not-whole_places.true) c.new_track.ensures
+returns-then-not-whole_places c = look_size _ c.whole_places.ensures _ (ap not c.if-not-whole_places.true)
 
 pub places_in-n-requires : goal.places_in-n-requires
 places_in-n-requires c = whole _ c.whole_places.ensures (ap not c.if-not-whole_places.false)
@@ -14,5 +14,5 @@ places_in-n-requires c = whole _ c.whole_places.ensures (ap not c.if-not-whole_p
 pub returns-then-i-n : goal.returns-then-i-n
 returns-then-i-n c = look_found _ c.whole_places.ensures _ (ap not c.if-not-whole_places.false) c.places_in-n.ensures.0 c.clock_of.ensures c.find_key-i.ensures c.if-i-n.true c.body.ensures.0 c.load.ensures
 
-pub returns : goal.returns
-returns c = look_none _ c.whole_places.ensures _ (ap not c.if-not-whole_places.false) c.places_in-n.ensures.0 c.clock_of.ensures c.find_key-i.ensures c.if-i-n.false c.new_track-2.ensures
+pub returns-else-i-n : goal.returns-else-i-n
+returns-else-i-n c = look_none _ c.whole_places.ensures _ (ap not c.if-not-whole_places.false) c.places_in-n.ensures.0 c.clock_of.ensures c.find_key-i.ensures c.if-i-n.false

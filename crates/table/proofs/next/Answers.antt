@@ -12,4 +12,4 @@ pub places_in-n-requires : goal.places_in-n-requires
 places_in-n-requires c = whole _ c.whole_places.ensures (ap not c.if-not-whole_places.false)
 
 pub returns : goal.returns
-returns c = next_on _ c.whole_places.ensures _ (ap not c.if-not-whole_places.false) c.places_in-n.ensures.0 c.clock_of.ensures c.smallest_above.ensures c.key_or_end.ensures
+returns c = next_on _ c.whole_places.ensures _ (ap not c.if-not-whole_places.false) c.places_in-n.ensures.0 c.clock_of-clock.ensures c.smallest_above.ensures c.key_or_end.ensures

@@ -1,9 +1,12 @@
 -- `table::receive` meets its contract: where the message was heard the answer is the decoder's, and a number is the same.
+use Rattle.std.proofs.lemmas.Result.{err_from_is_err_and}
 use Rattle.table.proofs.Hearing.{received_done, received_refused}
 use Rattle.table.proofs.receive.Goals as goal
 
-pub returns-in-Done : goal.returns-in-Done
-returns-in-Done c = received_done _ _ _ c.hear-answer.ensures c.in-Done.is c.decode.ensures
+pub returns : goal.returns
+returns c = received_done _ _ _ c.hear.ensures c.in_ok-hear.was c.decode.ensures
 
-pub returns-in-Refused : goal.returns-in-Refused
-returns-in-Refused c = received_refused _ _ _ _ c.hear-answer.ensures c.in-Refused.is
+pub returns-in_err-hear : goal.returns-in_err-hear
+returns-in_err-hear c =
+    let p = err_from_is_err_and c.from_residual.result c.from_residual.ensures.1 in
+    rw (p.1, p.2) (received_refused _ _ _ _ c.hear.ensures c.in_err-hear.was)

@@ -6,4 +6,4 @@ use Rattle.text.proofs.header_line.Goals as goal
 pub returns : goal.returns
 returns c =
     let a = c.args in
-    line_made (omega (arith, header_most a.clock a.tracks a.bad)) c.put_header-n.ensures
+    line_made (omega (arith, header_most a.clock a.tracks a.bad)) c.fill_header-len.ensures

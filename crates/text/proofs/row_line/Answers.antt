@@ -4,4 +4,4 @@ use Rattle.text.proofs.Fits.{row_most, line_made}
 use Rattle.text.proofs.row_line.Goals as goal
 
 pub returns : goal.returns
-returns c = line_made (omega (arith, row_most c.args.row)) c.put_row-n.ensures
+returns c = line_made (omega (arith, row_most c.args.row)) c.fill_row-len.ensures

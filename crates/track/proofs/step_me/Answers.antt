@@ -76,40 +76,20 @@ surface_track-requires c = omega (arith, ap (λ (b : Surface). b.f) c.surface_of
 pub returns-in-Identification : goal.returns-in-Identification
 returns-in-Identification c =
     let a = c.args in
-    c.group_track.ensures ∙ ap (λ (x : Groups). group_track a.t x a.time) c.with_identification.ensures ∙ arm a.t a.site a.time (a.number % 2 ^ 56) a.coarse c.way_of-layout.ensures c.in-Identification.is refl
+    c.group_track.ensures ∙ ap (λ (x : Groups). group_track a.t x a.time) c.with_identification.ensures ∙ arm a.t a.site a.time (a.number % 2 ^ 56) a.coarse c.way_of.ensures c.in-Identification.is refl
 
 pub returns-in-Surface : goal.returns-in-Surface
 returns-in-Surface c =
     let a = c.args in
     let n : ℕ = a.number % 2 ^ 56 in
-    c.surface_track.ensures ∙ ap (λ (b : Surface). surface_track a.t b n a.site a.time) c.surface_of.ensures ∙ arm a.t a.site a.time n a.coarse c.way_of-layout.ensures c.in-Surface.is refl
+    c.surface_track.ensures ∙ ap (λ (b : Surface). surface_track a.t b n a.site a.time) c.surface_of.ensures ∙ arm a.t a.site a.time n a.coarse c.way_of.ensures c.in-Surface.is refl
 
 pub returns-in-Airborne : goal.returns-in-Airborne
 returns-in-Airborne c =
     let a = c.args in
-    c.air_step.ensures ∙ air-arm a.t a.site a.time (a.number % 2 ^ 56) a.coarse c.way_of-layout.ensures c.in-Airborne.is
-
-pub returns-in-Ground : goal.returns-in-Ground
-returns-in-Ground c =
-    let a = c.args in
-    c.group_track-in-Ground.ensures ∙ ap (λ (x : Groups). group_track a.t x a.time) c.with_velocity.ensures ∙ arm a.t a.site a.time (a.number % 2 ^ 56) a.coarse c.way_of-layout.ensures c.in-Ground.is refl
-
-pub returns-in-Air : goal.returns-in-Air
-returns-in-Air c =
-    let a = c.args in
-    c.group_track-in-Air.ensures ∙ ap (λ (x : Groups). group_track a.t x a.time) c.with_velocity-in-Air.ensures ∙ arm a.t a.site a.time (a.number % 2 ^ 56) a.coarse c.way_of-layout.ensures c.in-Air.is refl
+    c.air_step.ensures ∙ air-arm a.t a.site a.time (a.number % 2 ^ 56) a.coarse c.way_of.ensures c.in-Airborne.is
 
 pub returns-in-Status : goal.returns-in-Status
 returns-in-Status c =
     let a = c.args in
-    c.group_track-in-Status.ensures ∙ ap (λ (x : Groups). group_track a.t x a.time) c.with_status.ensures ∙ arm a.t a.site a.time (a.number % 2 ^ 56) a.coarse c.way_of-layout.ensures c.in-Status.is refl
-
-pub returns-in-Coarse : goal.returns-in-Coarse
-returns-in-Coarse c =
-    let a = c.args in
-    no_arm a.t a.site a.time (a.number % 2 ^ 56) a.coarse c.way_of-layout.ensures c.in-Coarse.is
-
-pub returns-in-NotTaken : goal.returns-in-NotTaken
-returns-in-NotTaken c =
-    let a = c.args in
-    arm a.t a.site a.time (a.number % 2 ^ 56) a.coarse c.way_of-layout.ensures c.in-NotTaken.is refl
+    c.group_track-in-Status.ensures ∙ ap (λ (x : Groups). group_track a.t x a.time) c.with_status.ensures ∙ arm a.t a.site a.time (a.number % 2 ^ 56) a.coarse c.way_of.ensures c.in-Status.is refl

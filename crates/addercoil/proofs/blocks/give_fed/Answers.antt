@@ -4,8 +4,8 @@ use Rattle.addercoil.specs.Blocks.{fed_said}
 use Rattle.entries.proofs.Ways.{given_as, given_number}
 use Rattle.addercoil.proofs.blocks.give_fed.Goals as goal
 
-pub returns-in-Bad : goal.returns-in-Bad
-returns-in-Bad c = given_as fed_said _ c.in-Bad.is c.give.ensures
+pub returns-in-Ok : goal.returns-in-Ok
+returns-in-Ok c = given_as fed_said _ c.in-Ok.is c.give.ensures
 
-pub returns-in-Refused : goal.returns-in-Refused
-returns-in-Refused c = given_number fed_said _ c.in-Refused.is refl c.number.ensures
+pub returns-in-Err : goal.returns-in-Err
+returns-in-Err c = given_number fed_said _ c.in-Err.is refl c.number.ensures

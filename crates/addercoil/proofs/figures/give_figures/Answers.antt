@@ -2,8 +2,8 @@
 use Rattle.addercoil.proofs.Figured.{figures_given, figures_refused}
 use Rattle.addercoil.proofs.figures.give_figures.Goals as goal
 
-pub returns-in-Degrees : goal.returns-in-Degrees
-returns-in-Degrees c = figures_given _ c.in-Degrees.d c.in-Degrees.is c.requires
+pub returns-in-Ok : goal.returns-in-Ok
+returns-in-Ok c = figures_given _ c.in-Ok.d c.in-Ok.is c.requires
 
-pub returns-in-Refused : goal.returns-in-Refused
-returns-in-Refused c = figures_refused _ c.in-Refused.is c.number.ensures
+pub returns-in-Err : goal.returns-in-Err
+returns-in-Err c = figures_refused _ c.in-Err.is c.number.ensures

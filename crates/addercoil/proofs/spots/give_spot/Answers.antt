@@ -4,8 +4,8 @@ use Rattle.addercoil.specs.Spots.{spot_said}
 use Rattle.entries.proofs.Ways.{given_as, given_number}
 use Rattle.addercoil.proofs.spots.give_spot.Goals as goal
 
-pub returns-in-At : goal.returns-in-At
-returns-in-At c = given_as spot_said _ c.in-At.is c.give_at.ensures
+pub returns-in-Ok : goal.returns-in-Ok
+returns-in-Ok c = given_as spot_said _ c.in-Ok.is c.give_at.ensures
 
-pub returns-in-Refused : goal.returns-in-Refused
-returns-in-Refused c = given_number spot_said _ c.in-Refused.is refl c.number.ensures
+pub returns-in-Err : goal.returns-in-Err
+returns-in-Err c = given_number spot_said _ c.in-Err.is refl c.number.ensures

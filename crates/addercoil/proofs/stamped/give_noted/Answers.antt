@@ -9,4 +9,4 @@ use Rattle.addercoil.proofs.stamped.give_noted.Goals as goal
 pub returns : goal.returns
 returns c =
     let a = c.args in
-    ap₂ sent c.heard_number.ensures (written a.state.now c.bit.result a.noted.state.last c.requires ∙ ap (λ (x : ℕ). x ∷ a.noted.state.last ∷ []) c.bit.ensures)
+    ap₂ sent c.done_number.ensures (written a.state.now c.bit.result a.noted.state.last c.requires ∙ ap (λ (x : ℕ). x ∷ a.noted.state.last ∷ []) c.bit.ensures)

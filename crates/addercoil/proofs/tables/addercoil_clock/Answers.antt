@@ -7,8 +7,8 @@ use Rattle.addercoil.proofs.tables.addercoil_clock.Goals as goal
 pub returns-then-out-ne1 : goal.returns-then-out-ne1
 returns-then-out-ne1 c = into_wrong 1 _ _ c.if-out-ne1.true
 
-pub returns-in-At : goal.returns-in-At
-returns-in-At c = into_right clock_said _ c.in-At.is 1 c.if-out-ne1.false c.clock_of-clock.ensures c.give.ensures
+pub returns-in-Ok : goal.returns-in-Ok
+returns-in-Ok c = into_right clock_said _ c.in-Ok.is 1 c.if-out-ne1.false c.clock_of.ensures c.give.ensures
 
-pub returns-in-Refused : goal.returns-in-Refused
-returns-in-Refused c = into_refused clock_said _ c.in-Refused.is 1 c.if-out-ne1.false c.clock_of-clock.ensures refl c.number.ensures
+pub returns-in-Err : goal.returns-in-Err
+returns-in-Err c = into_refused clock_said _ c.in-Err.is 1 c.if-out-ne1.false c.clock_of.ensures refl c.number.ensures

@@ -1,9 +1,10 @@
 -- `addercoil::tables::addercoil_set_up_at` meets its contract: the number of what the table answers, and the table that it leaves.
 use mir.Facts.{to_z-of_z}
-use Rattle.addercoil.specs.Tables.{set_up_number, set_up_sent}
+use Rattle.addercoil.specs.Done.{done_number}
+use Rattle.addercoil.specs.Tables.{set_up_sent}
 use Rattle.addercoil.proofs.Ways.{left_as}
 use Rattle.addercoil.proofs.tables.addercoil_set_up_at.Goals as goal
 
 pub returns : goal.returns
 unfolding set_up_sent
-returns c = left_as set_up_number c.set_up_number.ensures (rw (to_z-of_z c.ranges.latitude) at c.set_up_at.ensures)
+returns c = left_as done_number c.done_number.ensures (rw (to_z-of_z c.ranges.latitude) at c.set_up_at.ensures)

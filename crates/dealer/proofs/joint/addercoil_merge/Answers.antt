@@ -6,10 +6,10 @@ use Rattle.dealer.proofs.joint.addercoil_merge.Goals as goal
 pub returns-then-written-ne1 : goal.returns-then-written-ne1
 returns-then-written-ne1 c = not_one _ _ _ _ c.if-written-ne1.true
 
-pub returns-in-Bytes : goal.returns-in-Bytes
-returns-in-Bytes c =
-    text_joint _ _ _ _ c.if-written-ne1.false c.merge-merged.ensures c.in-Bytes.is refl
+pub returns-in-Ok : goal.returns-in-Ok
+returns-in-Ok c =
+    text_joint _ _ _ _ c.if-written-ne1.false c.merge-merged.ensures c.in-Ok.is refl
 
-pub returns-in-Refused : goal.returns-in-Refused
-returns-in-Refused c =
-    number_joint _ _ _ _ c.if-written-ne1.false c.merge-merged.ensures c.in-Refused.is c.number.ensures
+pub returns-in-Err : goal.returns-in-Err
+returns-in-Err c =
+    number_joint _ _ _ _ c.if-written-ne1.false c.merge-merged.ensures c.in-Err.is c.number.ensures

@@ -8,4 +8,4 @@ pub returns-then-out-ne-TRACK : goal.returns-then-out-ne-TRACK
 returns-then-out-ne-TRACK c = into_wrong 72 _ _ c.if-out-ne-TRACK.true
 
 pub returns : goal.returns
-returns c = into_right (looked_said _) _ refl 72 c.if-out-ne-TRACK.false c.look_up-looked.ensures c.give_held.ensures
+returns c = into_right (looked_said _) _ refl 72 c.if-out-ne-TRACK.false c.look_up.ensures c.give_held.ensures

@@ -1,25 +1,40 @@
--- `form::words::word_fits` meets its contract: by the letter.
-use mathlib.Core.Path.{◌∙◌}
-use Rattle.form.proofs.Fitting.{sort_kind, sort_coarse, sort_address, sort_figure, sort_clock, sort_tracks, sort_bad}
+-- `form::words::word_fits` meets its contract: by the sort.
+use mathlib.Core.Path.{◌≡◌, sym, ap, ◌∙◌}
+use mathlib.Core.Bool.{Bool}
+use mathlib.Core.List.{List}
+use Prim.Native.Nat.{ℕ}
+use Rattle.form.specs.Form.{fits}
+use Rattle.form.specs.Code.{sort_of}
+use Rattle.form.specs.declared.words.Sort as code
 use Rattle.form.proofs.words.word_fits.Goals as goal
 
-pub returns-then-sort-eq75 : goal.returns-then-sort-eq75
-returns-then-sort-eq75 c = c.is_kind.ensures ∙ sort_kind c.args.sort c.args.w.now c.if-sort-eq75.true
+by_sort : (w : List ℕ) {sort : code.Sort} (k : code.Sort) {r : Bool} → sort ≡ k → r ≡ fits (sort_of k) w → r ≡ fits (sort_of sort) w
+by_sort w k e p = p ∙ sym (ap (λ (x : code.Sort). fits (sort_of x) w) e)
 
-pub returns-then-sort-eq67 : goal.returns-then-sort-eq67
-returns-then-sort-eq67 c = c.is_coarse.ensures ∙ sort_coarse c.args.sort c.args.w.now c.if-sort-eq75.false c.if-sort-eq67.true
+pub returns-in-Kind : goal.returns-in-Kind
+unfolding fits
+returns-in-Kind c = by_sort _ _ c.in-Kind.is c.is_kind.ensures
 
-pub returns-then-sort-eq65 : goal.returns-then-sort-eq65
-returns-then-sort-eq65 c = c.is_address.ensures ∙ sort_address c.args.sort c.args.w.now c.if-sort-eq75.false c.if-sort-eq67.false c.if-sort-eq65.true
+pub returns-in-Coarse : goal.returns-in-Coarse
+unfolding fits
+returns-in-Coarse c = by_sort _ _ c.in-Coarse.is c.is_coarse.ensures
 
-pub returns-then-sort-eq70 : goal.returns-then-sort-eq70
-returns-then-sort-eq70 c = c.is_figure.ensures ∙ sort_figure c.args.sort c.args.w.now c.if-sort-eq75.false c.if-sort-eq67.false c.if-sort-eq65.false c.if-sort-eq70.true
+pub returns-in-Address : goal.returns-in-Address
+unfolding fits
+returns-in-Address c = by_sort _ _ c.in-Address.is c.is_address.ensures
 
-pub returns-then-sort-eq99 : goal.returns-then-sort-eq99
-returns-then-sort-eq99 c = c.same.ensures ∙ sort_clock c.args.sort c.args.w.now c.if-sort-eq75.false c.if-sort-eq67.false c.if-sort-eq65.false c.if-sort-eq70.false c.if-sort-eq99.true
+pub returns-in-Figure : goal.returns-in-Figure
+unfolding fits
+returns-in-Figure c = by_sort _ _ c.in-Figure.is c.is_figure.ensures
 
-pub returns-then-sort-eq116 : goal.returns-then-sort-eq116
-returns-then-sort-eq116 c = c.same-then-sort-eq116.ensures ∙ sort_tracks c.args.sort c.args.w.now c.if-sort-eq75.false c.if-sort-eq67.false c.if-sort-eq65.false c.if-sort-eq70.false c.if-sort-eq99.false c.if-sort-eq116.true
+pub returns-in-Clock : goal.returns-in-Clock
+unfolding fits
+returns-in-Clock c = by_sort _ _ c.in-Clock.is c.same.ensures
 
-pub returns : goal.returns
-returns c = c.same-2.ensures ∙ sort_bad c.args.sort c.args.w.now c.if-sort-eq75.false c.if-sort-eq67.false c.if-sort-eq65.false c.if-sort-eq70.false c.if-sort-eq99.false c.if-sort-eq116.false
+pub returns-in-Tracks : goal.returns-in-Tracks
+unfolding fits
+returns-in-Tracks c = by_sort _ _ c.in-Tracks.is c.same-in-Tracks.ensures
+
+pub returns-in-BadBlocks : goal.returns-in-BadBlocks
+unfolding fits
+returns-in-BadBlocks c = by_sort _ _ c.in-BadBlocks.is c.same-in-BadBlocks.ensures

@@ -14,4 +14,4 @@ returns-then-not-sender_fits c =
 
 pub returns : goal.returns
 returns c =
-    coarse_key _ _ _ c.byte_at-letter.ensures c.address_of-address.ensures c.if-letter-ne67.false (sym c.sender_fits.ensures ∙ c.if-not-sender_fits.false) _ _ (c.above.ensures ∙ ap (λ (x : ℕ). x - 48) c.byte_at.ensures) c.station_of.ensures _ c.key_for-2.ensures
+    coarse_key _ _ _ c.byte_at-letter.ensures c.address_of-address.ensures c.if-letter-ne67.false (sym c.sender_fits.ensures ∙ c.if-not-sender_fits.false) _ _ (c.saturating_sub.ensures ∙ ap (λ (x : ℕ). x - 48) c.byte_at.ensures) c.station_of.ensures _ c.key_for-2.ensures

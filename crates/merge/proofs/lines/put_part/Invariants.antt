@@ -1,5 +1,5 @@
 -- `merge::lines::put_part` meets its contract: so many bytes as the loop has passed are copied.
-use Prim.Native.Nat.{◌+◌, ◌-◌, ◌≤◌}
+use Prim.Native.Nat.{◌+◌, ◌-◌}
 use mathlib.Core.Path.{◌≡◌}
 use lib.ListN.{length}
 use Rattle.text.specs.Code.{Wrote}
@@ -8,7 +8,4 @@ use Rattle.merge.proofs.lines.put_part.Given as goal
 
 abbrev pub invariant-loop-i : goal.invariant-loop-i
 invariant-loop-i l =
-    (l.from ≤ l.i) × (l.i ≤ l.to) × (l.k ≡ l.at + (l.i - l.from)) × (length l.out ≡ length l.initial.out) × Wrote l.initial.out l.at (part l.from l.i l.s) l.k l.out
-
-abbrev pub decreases-loop-i : goal.decreases-loop-i
-decreases-loop-i l = l.to - l.i
+    (l.k ≡ l.at + (l.i - l.from)) × (length l.out ≡ length l.initial.out) × Wrote l.initial.out l.at (part l.from l.i l.s) l.k l.out

@@ -10,11 +10,11 @@ loop-i-init c = (omega arith, sym c.requires.1, omega arith, refl, refl)
 
 pub overflow_sub-below : goal.overflow_sub-below
 overflow_sub-below c =
-    width_below c.args.widths.now 0 c.loop-i.i c.loop-i.below c.wide-width.result 0 c.loop-i.out c.loop-i-test.true c.wide-width.ensures c.loop-i.invariant.1
+    width_below c.args.widths.now 0 c.loop-i.i c.loop-i.below c.from-width.result 0 c.loop-i.out c.loop-i-test.true c.from-width.ensures c.loop-i.invariant.1
 
 pub field_at-requires : goal.field_at-requires
 field_at-requires c =
-    let w = width_below c.args.widths.now 0 c.loop-i.i c.loop-i.below c.wide-width.result 0 c.loop-i.out c.loop-i-test.true c.wide-width.ensures c.loop-i.invariant.1 in
+    let w = width_below c.args.widths.now 0 c.loop-i.i c.loop-i.below c.from-width.result 0 c.loop-i.out c.loop-i-test.true c.from-width.ensures c.loop-i.invariant.1 in
     (omega (arith, c.loop-i.invariant.2), omega (arith, c.loop-i.invariant.2))
 
 pub bounds-out-i : goal.bounds-out-i
@@ -28,10 +28,10 @@ loop-i-preserved c =
     let a = c.args in
     let h = c.loop-i-test.true in (
       omega (arith, h),
-      below_next a.widths.now a.me c.loop-i.i c.loop-i.below c.wide-width.result c.field_at.result c.loop-i.out h c.wide-width.ensures c.loop-i.invariant.1,
+      below_next a.widths.now a.me c.loop-i.i c.loop-i.below c.from-width.result c.field_at.result c.loop-i.out h c.from-width.ensures c.loop-i.invariant.1,
       omega (arith, c.loop-i.invariant.2),
       simp length-set c.loop-i.invariant.3,
-      cut_next a.widths.now a.me c.loop-i.i c.loop-i.below c.wide-width.result c.field_at.result c.loop-i.out h c.wide-width.ensures c.loop-i.invariant.1
+      cut_next a.widths.now a.me c.loop-i.i c.loop-i.below c.from-width.result c.field_at.result c.loop-i.out h c.from-width.ensures c.loop-i.invariant.1
           (omega (arith, c.requires.0, h)) c.field_at.ensures c.loop-i.invariant.4,
     )
 

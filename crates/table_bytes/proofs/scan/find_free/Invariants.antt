@@ -1,5 +1,4 @@
 -- `table_bytes::scan::find_free` meets its contract: each place that was skipped or that the loop has passed is held.
-use Prim.Native.Nat.{◌-◌, ◌≤◌}
 use mathlib.Core.Bool.{not}
 use mathlib.Core.Path.{◌≡◌}
 use Rattle.table_bytes.specs.Layout.{place_at, is_held}
@@ -7,7 +6,4 @@ use Rattle.table_bytes.specs.Scan.{lowest}
 use Rattle.table_bytes.proofs.scan.find_free.Given as goal
 
 abbrev pub invariant-loop-i : goal.invariant-loop-i
-invariant-loop-i l = (l.i ≤ l.n) × (lowest (λ j. not (is_held l.clock (place_at l.s l.n j))) l.i ≡ l.i)
-
-abbrev pub decreases-loop-i : goal.decreases-loop-i
-decreases-loop-i l = l.n - l.i
+invariant-loop-i l = lowest (λ j. not (is_held l.clock (place_at l.s l.n j))) l.i ≡ l.i

@@ -1,7 +1,7 @@
 -- `table_bytes::scan::skip_held` meets its contract: each place that the loop has passed is held, and it ends at its own two tests.
 use Prim.Native.Nat.{◌-◌}
 use native.Mathlib.Omega.{arith}
-use mathlib.Core.Bool.{Bool, true, false, not, ◌&&◌}
+use mathlib.Core.Bool.{Bool, false, not, ◌&&◌}
 use mathlib.Core.Path.{◌≡◌, sym, ap₂, ◌∙◌, ap}
 use Rattle.table_bytes.specs.Layout.{place_at}
 use Rattle.table_bytes.proofs.Scanned.{held_more}

@@ -13,7 +13,8 @@ returns c =
     let a = c.args in
     let pressure = c.altitude_of-pressure.ensures in
     let height = c.altitude_of-height.ensures in
-    keeps a.t _ _ _ _ _ _ _ _ _
+    rw (c.from.ensures, c.from-2.ensures, c.from-3.ensures, c.from-4.ensures, c.from-5.ensures, c.from-6.ensures, c.from-7.ensures, c.from-8.ensures)
+    (keeps a.t _ _ _ _ _ _ _ _ _
     c.bit.ensures
     c.bit-2.ensures
     (c.twos_of.ensures ∙ ap twos (to_z-of_z {w = w32} {z = a.t.position.spot.latitude} (record { sfits = omega (arith, c.struct_told-1.given) })))
@@ -22,4 +23,4 @@ returns c =
     (c.altitude_reading-altitude.ensures ∙ ap altitude_reading pressure)
     (c.step_reading-step.ensures ∙ ap step_reading pressure)
     (c.altitude_reading-gnss.ensures ∙ ap altitude_reading height)
-    (c.step_reading-gnss_step.ensures ∙ ap step_reading height)
+    (c.step_reading-gnss_step.ensures ∙ ap step_reading height))

@@ -1,6 +1,0 @@
--- `layouts::bodies::type_by` meets its contract: its test is that of the definition.
-use borrow.Author.Rules.{rules}
-use Rattle.layouts.proofs.bodies.type_by.Goals as goal
-
-pub returns : goal.returns
-returns c = rw c.if-coarse.false
