@@ -5,7 +5,7 @@ use std::io::{self, Read};
 
 fn answer(out: &impl Print, s: &[u8]) -> io::Result<()> {
     let remainder = parity_words::remainder_of(s);
-    let seal = parity_words::seal_of(s);
+    let seal = parity_words::seal_by(remainder);
     println!(out; "{remainder:06x} {seal:06x}")
 }
 

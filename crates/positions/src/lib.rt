@@ -453,7 +453,21 @@ fn near_longitude_zone(longitude: u32, n: u64, count: LongitudeCount) -> Zone
     ensures { (result.0 ≡ modulo (near_zone 131072 n (pos longitude) count.0) n) × (result.0 < n) }
 {
     let x = (longitude as u64) * (n * SIZE) + n * FINE - (count.0 as u64) * TURN;
-    Zone((nearest(x, FINE) % n) as u32)
+    Zone(folded(nearest(x, FINE), n) as u32)
+}
+
+// a modulo n, of less than 3 n. A division of numbers so small would be a call of one more function on processors that cannot divide.
+fn folded(a: u64, n: u64) -> u64
+    requires { (n ≤ 240) × (a < 3 * n) }
+    ensures { result ≡ a % n }
+{
+    if a < n {
+        a
+    } else if a < 2 * n {
+        a - n
+    } else {
+        a - 2 * n
+    }
 }
 
 // The spot with a latitude of z zones, one turn up, and the longitude of n zones nearest to a reference.

@@ -36,22 +36,36 @@ use Rattle.readings.specs.declared.amounts.Rate.TheVariants.{FeetPerMinute}
 use Rattle.readings.specs.declared.amounts.Difference.TheVariants.{Feet}
 use Rattle.readings.proofs.altitude.altitude_of.Kinds as altitude-of-kinds
 use Rattle.readings.proofs.altitude.altitude_of.Reads as altitude-of
+use Rattle.readings.proofs.altitude.altitude_at.Kinds as altitude-at-kinds
+use Rattle.readings.proofs.altitude.altitude_at.Reads as altitude-at
 use Rattle.readings.proofs.amounts.speed_of.Kinds as speed-of-kinds
 use Rattle.readings.proofs.amounts.speed_of.Reads as speed-of
+use Rattle.readings.proofs.amounts.speed_at.Kinds as speed-at-kinds
+use Rattle.readings.proofs.amounts.speed_at.Reads as speed-at
 use Rattle.readings.proofs.amounts.rate_of.Kinds as rate-of-kinds
 use Rattle.readings.proofs.amounts.rate_of.Reads as rate-of
+use Rattle.readings.proofs.amounts.rate_at.Kinds as rate-at-kinds
+use Rattle.readings.proofs.amounts.rate_at.Reads as rate-at
 use Rattle.readings.proofs.amounts.difference_of.Kinds as difference-of-kinds
 use Rattle.readings.proofs.amounts.difference_of.Reads as difference-of
+use Rattle.readings.proofs.amounts.difference_at.Kinds as difference-at-kinds
+use Rattle.readings.proofs.amounts.difference_at.Reads as difference-at
 use Rattle.readings.proofs.coarse.coarse_speed_of.Kinds as coarse-speed-of-kinds
 use Rattle.readings.proofs.coarse.coarse_speed_of.Reads as coarse-speed-of
+use Rattle.readings.proofs.coarse.coarse_speed_at.Kinds as coarse-speed-at-kinds
+use Rattle.readings.proofs.coarse.coarse_speed_at.Reads as coarse-speed-at
 use Rattle.readings.proofs.headings.angle_of.Kinds as angle-of-kinds
 use Rattle.readings.proofs.headings.angle_of.Reads as angle-of
 use Rattle.readings.proofs.headings.heading_of.Kinds as heading-of-kinds
 use Rattle.readings.proofs.headings.heading_of.Reads as heading-of
 use Rattle.readings.proofs.headings.surface_heading_of.Kinds as surface-heading-of-kinds
 use Rattle.readings.proofs.headings.surface_heading_of.Reads as surface-heading-of
+use Rattle.readings.proofs.headings.turn_of.Kinds as turn-of-kinds
+use Rattle.readings.proofs.headings.turn_of.Reads as turn-of
 use Rattle.readings.proofs.movement.movement_of.Kinds as movement-of-kinds
 use Rattle.readings.proofs.movement.movement_of.Reads as movement-of
+use Rattle.readings.proofs.movement.movement_at.Kinds as movement-at-kinds
+use Rattle.readings.proofs.movement.movement_at.Reads as movement-at
 use Rattle.readings.proofs.bodies.readings_in.Kinds as readings-in-kinds
 use Rattle.readings.proofs.bodies.readings_in.Reads as readings-in
 use Rattle.readings.proofs.bodies.readings_of.Kinds as readings-of-kinds
@@ -261,6 +275,43 @@ pub coarse_speed_of_promised : (κs : Lfts 0) (args : Dens κs coarse-speed-of-k
     (left : AtExit (ended_of 0 coarse-speed-of-kinds.ps coarse-speed-of-kinds.r) κs) → coarse-speed-of.Post κs args x left
     → coarse_speed_said x ≡ cond (wider 6 args.0) (number 8) (gives (coarse_speed_means args.0))
 coarse_speed_of_promised κs args x left p = ap coarse_speed_said p ∙ coarse_speed_says args.0
+
+-- of the functions that read a code of its bits, which those of a body call
+
+pub altitude_at_promised : (κs : Lfts 0) (args : Dens κs altitude-at-kinds.ps) (x : (res_t altitude-at-kinds.r κs).Denot)
+    (left : AtExit (ended_of 0 altitude-at-kinds.ps altitude-at-kinds.r) κs) → altitude-at.Post κs args x left
+    → altitude_said (Ok x) ≡ gives (altitude_means args.0)
+altitude_at_promised κs args x left p = ap (λ s. altitude_said (Ok s)) p ∙ altitude_at_says args.0
+
+pub speed_at_promised : (κs : Lfts 0) (args : Dens κs speed-at-kinds.ps) (x : (res_t speed-at-kinds.r κs).Denot)
+    (left : AtExit (ended_of 0 speed-at-kinds.ps speed-at-kinds.r) κs) → speed-at.Post κs args x left
+    → speed_said (Ok x) ≡ gives (speed_means args.0 args.1.0 args.1.1.0)
+speed_at_promised κs args x left p = ap (λ s. speed_said (Ok s)) p ∙ speed_at_says args.0 args.1.0 args.1.1.0
+
+pub rate_at_promised : (κs : Lfts 0) (args : Dens κs rate-at-kinds.ps) (x : (res_t rate-at-kinds.r κs).Denot)
+    (left : AtExit (ended_of 0 rate-at-kinds.ps rate-at-kinds.r) κs) → rate-at.Post κs args x left
+    → rate_said (Ok x) ≡ gives (rate_means args.0 args.1.0)
+rate_at_promised κs args x left p = ap (λ s. rate_said (Ok s)) p ∙ rate_at_says args.0 args.1.0
+
+pub difference_at_promised : (κs : Lfts 0) (args : Dens κs difference-at-kinds.ps) (x : (res_t difference-at-kinds.r κs).Denot)
+    (left : AtExit (ended_of 0 difference-at-kinds.ps difference-at-kinds.r) κs) → difference-at.Post κs args x left
+    → difference_said (Ok x) ≡ gives (difference_means args.0 args.1.0)
+difference_at_promised κs args x left p = ap (λ s. difference_said (Ok s)) p ∙ difference_at_says args.0 args.1.0
+
+pub turn_of_promised : (κs : Lfts 0) (args : Dens κs turn-of-kinds.ps) (x : (res_t turn-of-kinds.r κs).Denot)
+    (left : AtExit (ended_of 0 turn-of-kinds.ps turn-of-kinds.r) κs) → turn-of.Post κs args x left
+    → heading_said (Ok x) ≡ gives (heading_means args.0 args.1.0)
+turn_of_promised κs args x left p = ap (λ s. heading_said (Ok s)) p
+
+pub movement_at_promised : (κs : Lfts 0) (args : Dens κs movement-at-kinds.ps) (x : (res_t movement-at-kinds.r κs).Denot)
+    (left : AtExit (ended_of 0 movement-at-kinds.ps movement-at-kinds.r) κs) → movement-at.Post κs args x left
+    → movement_said (Ok x) ≡ gives (movement_means args.0)
+movement_at_promised κs args x left p = ap (λ s. movement_said (Ok s)) p ∙ movement_at_says args.0
+
+pub coarse_speed_at_promised : (κs : Lfts 0) (args : Dens κs coarse-speed-at-kinds.ps) (x : (res_t coarse-speed-at-kinds.r κs).Denot)
+    (left : AtExit (ended_of 0 coarse-speed-at-kinds.ps coarse-speed-at-kinds.r) κs) → coarse-speed-at.Post κs args x left
+    → coarse_speed_said (Ok x) ≡ gives (coarse_speed_means args.0)
+coarse_speed_at_promised κs args x left p = ap (λ s. coarse_speed_said (Ok s)) p ∙ coarse_speed_at_says args.0
 
 pub readings_of_promised : (κs : Lfts 0) (args : Dens κs readings-of-kinds.ps) (x : (res_t readings-of-kinds.r κs).Denot)
     (left : AtExit (ended_of 0 readings-of-kinds.ps readings-of-kinds.r) κs) → readings-of.Post κs args x left

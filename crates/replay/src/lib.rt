@@ -67,44 +67,43 @@ fn tell(own: Own, key: u32, f: Frame, site: Site) -> Own
     }
 }
 
-// A track that is too old by then has gone.
-fn later(held: Option<Track>, time: u64) -> Option<Track>
-    ensures { result ≡ later_at time held }
+// A track that is too old by then goes.
+fn age(held: &mut Option<Track>, time: u64)
+    ensures { held.new ≡ later_at time held.old }
 {
-    match held {
-        Some(t) if track::is_in_date(time, t.heard) => held,
-        _ => None,
+    if let Some(t) = held {
+        if !track::is_in_date(time, t.heard) {
+            *held = None;
+        }
     }
 }
 
-// A message that comes at a time. The clock takes it, whatever the message is, and an old track goes.
-fn hear(own: Own, key: u32, message: &[u8], time: u64, site: Site) -> Own
+// A message that comes at a time. The clock takes it, whatever the message is, and an old track goes. Most records are strangers', so that nothing is copied for one.
+fn hear(own: &mut Own, key: u32, message: &[u8], time: u64, site: Site)
     requires { length message.now ≡ 14 }
-    ensures { result ≡ own_after site own (heard_in key message.now time) }
+    ensures { own.new ≡ own_after site own.old (heard_in key message.now time) }
 {
     if time < own.clock {
-        return own;
+        return;
     }
-    let aged = Own {
-        clock: time,
-        track: later(own.track, time),
-    };
+    own.clock = time;
+    age(&mut own.track, time);
     if !may_be_own(message, key) {
-        return aged;
+        return;
     }
     match messages::accept(message) {
-        Ok(f) => tell(aged, key, f, site),
-        Err(_) => aged,
+        Ok(f) => *own = tell(*own, key, f, site),
+        Err(_) => {}
     }
 }
 
 // A record of the log: 8 bytes of time, then the message.
-fn hear_record(own: Own, key: u32, bytes: &[u8], site: Site) -> Own
+fn hear_record(own: &mut Own, key: u32, bytes: &[u8], site: Site)
     requires { length bytes.now ≡ 22 }
-    ensures { result ≡ own_after site own (heard_at key bytes.now) }
+    ensures { own.new ≡ own_after site own.old (heard_at key bytes.now) }
 {
     let time = fields::number_of(&bytes[0..8]);
-    hear(own, key, &bytes[8..22], time, site)
+    hear(own, key, &bytes[8..22], time, site);
 }
 
 // All records of a log, in order, from clock 0 with nobody held.
@@ -116,7 +115,7 @@ fn hear_all(log: &[u8], key: u32, site: Site) -> Own
         track: None,
     };
     for record in log.chunks_exact(22) {
-        own = hear_record(own, key, record, site);
+        hear_record(&mut own, key, record, site);
     }
     own
 }

@@ -10,5 +10,5 @@ loop-record-preserved c =
     let a = c.args in
     let i = c.loop-record.invariant in
     let s = c.in-Some.ensures.steps in
-    let r = records_on a.site a.key unheard a.log.now _ _ _ _ (length_push c.loop-record.yielded c.in-Some.record) i.1 s.1.0 (s.1.1 ∙ i.0) i.2 i.3 c.hear_record-own.ensures in
+    let r = records_on a.site a.key unheard a.log.now _ _ _ _ (length_push c.loop-record.yielded c.in-Some.record) i.1 s.1.0 (s.1.1 ∙ i.0) i.2 i.3 c.hear_record.ensures in
     (s.0 ∙ i.0, r.0, r.1, r.2)

@@ -8,4 +8,4 @@ pub returns : goal.returns
 returns c =
     let a = c.args in
     let h : Bytes a.bytes.now = λ i. omega (arith, c.type_inv.bytes i) in
-    record_heard a.site a.key a.own a.bytes.now c.requires h c.number_of-time.ensures c.hear.ensures
+    record_heard a.site a.key a.own.now a.bytes.now c.requires h c.number_of-time.ensures c.hear.ensures
