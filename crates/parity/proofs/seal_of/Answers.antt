@@ -8,7 +8,7 @@ use Rattle.parity.proofs.Seal.{seal_none, seal_next}
 use Rattle.parity.proofs.seal_of.Goals as goal
 
 pub loop-byte-init : goal.loop-byte-init
-loop-byte-init c = sym seal_none
+loop-byte-init c = omega (arith, seal_none)
 
 pub loop-byte-preserved : goal.loop-byte-preserved
 loop-byte-preserved c =
